@@ -415,10 +415,10 @@ class Disks(AnswerCase):
         """There is nothing to reclaim. A lost page of extent 0 is a doubt that can't be accepted."""
         self.given(one_shard())
         for words, status, lines in (("", 0, ""), (" 0:3", 1, "doubt superblock-lost 3\n"),
-                                     (" --accept=tail-lost 0:3", 1, "doubt superblock-lost 3\n"),
+                                     (" --last=1 0:3", 1, "doubt superblock-lost 3\n"),
                                      (" 1:0", 1, "doubt tail-lost 1 0 0\n"), (" 1:1 1:2", 1, "doubt tail-lost 1 1 2\n"),
-                                     (" 1:1 --accept tail", 1, "doubt tail-lost 1 1 1\n"),
-                                     (" 1:1 --accept tail-lost", 0, "accepted tail-lost 1 1 1\n")):
+                                     (" 1:1 --last 2", 1, "doubt last 1 2\ndoubt tail-lost 1 1 1\n"),
+                                     (" 1:1 --last 1", 0, "accepted tail-lost 1 1 1\n")):
             self.listed("reclaimable", status, lines, words)
 
     def test_zeros(self):
@@ -473,14 +473,14 @@ HELP = {
                      "[EXTENT:PAGE]...", "\n  no such shard ", "\n  payload lost: NUMBER ", "a newer entry may be lost",
                      "Exit status",
                      "\n  shardscrub shard --id 00000000000000000000000000000001 examples/one-shard.img > restored"],
-    "summary --help": ["Usage: shardscrub summary", "--workers <COUNT>", "[EXTENT:PAGE]...", "\n  verdict WORD ",
+    "summary --help": ["Usage: shardscrub summary", "--workers <COUNT>", "--last <G>", "[EXTENT:PAGE]...", "\n  verdict WORD ",
                        "\n  candidates candidate_bytes chunks_to_move\n", "Exit status",
                        "\n  shardscrub summary examples/one-shard.img", "\n  verdict sound\n"],
     "superblocks --help": ["Usage: shardscrub superblocks", "--map <FILE>", "record PAGE KIND GENERATION STATE", "stray PAGE",
                            "Exit status", "\n  record 0 SSB1 1 counts\n"],
-    "reclaimable --help": ["Usage: shardscrub reclaimable", "--accept <KIND>",
-                           "superblock-damaged, superblock-stray, tail or tail-lost, or one line",
-                           "\n  doubt spare EXTENT OFFSET LENGTH UUID OWNER BYTES\n", "doubt tail EXTENT OFFSET BYTES",
+    "reclaimable --help": ["Usage: shardscrub reclaimable", "--accept <LINE>", "--last <G>", "\n  doubt last COUNTS G ",
+                           "\n  doubt spare EXTENT OFFSET LENGTH UUID OWNER BYTES\n", "\n  doubt remains EXTENT OFFSET COUNT\n",
+                           "doubt tail EXTENT OFFSET BYTES",
                            "move EXTENT OFFSET LENGTH UUID OWNER BYTES", "\n  room EXTENT OFFSET BYTES ",
                            "\n  last-room EXTENT OFFSET BYTES ", "Exit status"],
     "sizes --help": ["Usage: shardscrub sizes", "--map <FILE>", "OFFSET KIND GENERATION PAGE PAGES EXTENTS", "lost FROM TO",
@@ -502,7 +502,7 @@ class Arguments(AnswerCase):
                       f"items {SMALL} --extent x disk.img", f"items {SMALL} --extent 4294967296 disk.img", f"scan {SMALL} --workers 65 disk.img",
                       f"index {SMALL}", f"locators {SMALL}", f"shard {SMALL} disk.img", f"shard --page 64 --id {ID} disk.img",
                       f"locators {SMALL} --extent 1 disk.img", f"superblocks {SMALL} --workers 1 disk.img",
-                      f"reclaimable {SMALL} --accept tie disk.img", "sizes --page 64 disk.img", "sizes disk.img 1:0"):
+                      f"reclaimable {SMALL} --accept tail disk.img", "sizes --page 64 disk.img", "sizes disk.img 1:0"):
             self.said(words)
 
     def test_a_refusal_says_what_is_wrong(self):
@@ -513,7 +513,7 @@ class Arguments(AnswerCase):
                             (f"scan {SMALL} --workers 65 x", "65 is not in 0..=64"), (f"items {SMALL} --extent 1 --workers 2 x", "--workers"),
                             (f"scan {SMALL}", "<IMAGE>"), (f"locators {SMALL} --extent 1 x", "--extent"),
                             (f"locators {SMALL} --workers 65 x", "65 is not in 0..=64"), (f"locators {SMALL}", "<IMAGE>"),
-                            (f"reclaimable {SMALL} --accept tail --accept tie x", "invalid value 'tie' for '--accept <KIND>'"),
+                            (f"reclaimable {SMALL} --accept tail --accept tie x", "invalid value 'tail' for '--accept <LINE>'"),
                             (f"manifest {SMALL} --reset x disk.img", "invalid value 'x' for '--reset <EXTENT>'"),
                             (f"manifest {SMALL} --reset 1 --reset 4294967296 disk.img", "4294967296 is not in 0..=4294967295"),
                             (f"locators {SMALL} --reset 1 disk.img", "--reset"), ("sizes --map disk.map", "<IMAGE>"),
@@ -529,19 +529,6 @@ class Arguments(AnswerCase):
             self.said(words, "together or not at all")
         for words in ("index disk.img", "manifest disk.img", "reclaimable disk.img"):
             self.said(words, "--pages <COUNT>")
-
-    def test_texts_of_accept(self):
-        """A kind, or a line, whose first word is a kind or `spare`."""
-        self.given(one_shard())
-        words = ["reclaimable", *SMALL.split(), "disk.img", "--accept"]
-        for text in ("", "tie", "tails 1 0 1", " tail", "Tail", "run-lost", "doubt tail 1 0 1", "spare\t1"):
-            self.check([*words, text], 2, "", f"error: invalid value '{text}' for '--accept <KIND>'\n  [possible values: superblock-damaged, "
-                       "superblock-stray, tail, tail-lost]\n\nFor more information, try '--help'.\n")
-        for text in ("tail-lost", "tail ", "superblock-stray 3", "spare 2 0 3", "tail 2 0 1092 x"):
-            self.check([*words, text], 0)
-        self.check(f"reclaimable {SMALL} --accept tail --accept spare --accept tie x", 2, "",
-                   "error: invalid value 'spare' for '--accept <KIND>': a spare is accepted by its line alone\n\n"
-                   "For more information, try '--help'.\n")
 
     def test_the_help(self):
         """It goes to the error stream, with status 0."""

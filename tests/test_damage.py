@@ -5,7 +5,9 @@ Each of the two disks has two superblocks. The older one would give up an extent
 superblocks have the same write pointers, nothing is past them, and each record fits on a page. On the other disk each
 superblock has something past its pointers, and a record takes several pages. Each bit of each superblock is flipped in turn;
 then each page of extent 0 is unreadable in turn. `reclaimable` may name only candidates of the undamaged disk, and has to
-answer as lib/reference.py does: with nothing accepted, and on the disk with tails also with `--accept tail`.
+answer as lib/reference.py does: with nothing accepted, and on the disk with tails also with `--last 2`, the generation that the
+newer superblock has. If that one doesn't count any more, nothing is named then. On the disk with tails the same is tried with the
+tails accepted by their lines.
 
 Each of the others has two superblocks, too. The one that counts would give up an extent with the only chunk of a shard. The newest
 superblock, which names that chunk, is written over the other one, which is shorter, as long or longer, and only some of its sectors
@@ -17,7 +19,7 @@ import tempfile
 from lib.cases import Case, add_tests
 from lib.disks import Disk, geometry, record, run, shard, uuid
 from lib.program import program
-from lib.reference import Image, reclaimable, records_of, scrub, superblocks
+from lib.reference import Image, choose, reclaimable, records_of, scrub, superblocks
 
 EXTENTS = 5
 # The bytes per page and pages per extent of each disk. The older superblock is on page 0, the newer one in the middle.
@@ -76,8 +78,9 @@ def answer(image, command, *own):
     return done.returncode, done.stdout.decode(), done.stderr.decode()
 
 
-def reclaimable_answer(image, accepted=()):
-    return answer(image, "reclaimable", "--workers", "0", *(word for kind in accepted for word in ("--accept", kind)))
+def reclaimable_answer(image, accepted=(), last=None):
+    words = [word for line in accepted for word in ("--accept", line)] + ["--last", str(last)] * (last is not None)
+    return answer(image, "reclaimable", "--workers", "0", *words)
 
 
 def named(text):
@@ -85,8 +88,8 @@ def named(text):
     return {int(line.split()[1]) for line in text.splitlines() if line.startswith("reclaim ")}
 
 
-def right(image, accepted=()):
-    text, clear = reclaimable(image, accepted)
+def right(image, accepted=(), last=None):
+    text, clear = reclaimable(image, accepted, last)
     return 0 if clear else 1, text, ""
 
 
@@ -95,26 +98,35 @@ def candidates(image):
 
 
 class Damage(Case):
-    def check(self, image, accepted):
+    def check(self, image, accepted=(), last=None):
         let_go = candidates(image)
         middle = image.size // 2
         alone = changed(image, image.raw[:middle] + bytes(middle) + image.raw[image.size:])
         self.true("the newer superblock gives up an extent, and the older one alone another",
                   let_go and candidates(alone) - let_go, (let_go, candidates(alone)))
-        self.same("the whole disk", reclaimable_answer(image, accepted), right(image, accepted))
+        self.same("the whole disk", reclaimable_answer(image, accepted, last), right(image, accepted, last))
         for what, disk in harmed(image):
-            found = reclaimable_answer(disk, accepted)
+            found = reclaimable_answer(disk, accepted, last)
             is_safe = found is not None and named(found[1]) <= let_go
-            self.true(what, is_safe and found == right(disk, accepted), found)
+            if last is not None and choose(disk)["generation"] != last:
+                is_safe = is_safe and found[0] == 1 and not named(found[1])
+            self.true(what, is_safe and found == right(disk, accepted, last), found)
 
     def test_a_disk_without_tails(self):
-        self.check(made(False), [])
+        self.check(made(False))
 
     def test_a_disk_with_tails(self):
-        self.check(made(True), [])
+        self.check(made(True))
 
     def test_a_disk_with_tails_that_are_accepted(self):
-        self.check(made(True), ["tail"])
+        image = made(True)
+        self.check(image, [line.removeprefix("doubt ") for line in reclaimable(image)[0].splitlines() if line.startswith("doubt tail ")])
+
+    def test_a_disk_and_the_last_generation(self):
+        self.check(made(False), last=2)
+
+    def test_a_disk_with_tails_and_the_last_generation(self):
+        self.check(made(True), last=2)
 
 
 # The bytes per page and pages per extent of the disks that are torn.
@@ -195,17 +207,19 @@ class Torn(Case):
             let_go = candidates(one.with_sectors(one.record, len(one.record), [0]))
             self.true(f"{what}: each gives up another extent", let_go and 1 in candidates(one.image) - let_go)
             for how, disk in one.torn():
-                found = [answer(disk, "superblocks"), reclaimable_answer(disk)]
+                found = [answer(disk, "superblocks"), reclaimable_answer(disk), reclaimable_answer(disk, last=3)]
                 self.check_torn(f"{what}, {how}", one.image, disk, let_go, found)
 
     def check_torn(self, what, before, disk, let_go, found):
         """Each byte that was changed to one other than zero is on a damaged or stray page, and nothing is listed, unless the newest
-        superblock is whole."""
+        superblock is whole. With its generation for --last nothing is listed, whatever is left of it."""
         is_whole = is_newest_whole(disk)
         left = {place // disk.page for place in range(disk.size) if disk.raw[place] not in (0, before.raw[place])}
         if None in found:
             return self.true(what, False, found)
-        lines, doubts = (text.splitlines() for _, text, _ in found)
+        lines, doubts, by_last = (text.splitlines() for _, text, _ in found)
+        if not is_whole:
+            self.true(f"{what}: another one is the last", "doubt last 2 3" in by_last and found[2][0] == 1 and not named(found[2][1]), found)
         if is_whole:
             self.true(f"{what}: what the newest superblock gives up", named(found[1][1]) <= let_go, found)
         elif left:
@@ -216,6 +230,7 @@ class Torn(Case):
         text, clean = superblocks(disk)
         self.same(f"{what}: superblocks", found[0], (0 if clean else 1, text, ""))
         self.same(f"{what}: reclaimable", found[1], right(disk))
+        self.same(f"{what}: reclaimable --last 3", found[2], right(disk, last=3))
 
     def test_the_newest_superblock_in_whole_pages(self):
         """Zeros up to the end of the last page of both records leave nothing behind it. A record alone leaves the rest of a longer

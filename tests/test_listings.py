@@ -342,7 +342,7 @@ class Listings(RoomCase):
             finish(disk, [64, 275, pointer], runs)
             lines = f"{tail}reclaim 1 64\nroom 2 275 237\n{line}last-room 1 64 448\n"
             disk = (disk, f"3:{bad}") if bad is not None else disk
-            self.listed(disk, ["reclaimable", "--accept", "tail", "--accept", "tail-lost"], 0, lines)
+            self.listed(disk, ["reclaimable", "--last", "1"], 0, lines)
 
     def test_each_owner_of_a_run_to_keep_has_a_line(self):
         """Extent 2 has a chunk that nothing names, and after it a run that the superblock names twice."""
@@ -363,10 +363,10 @@ def unreadable_tail():
     return worked.one_shard("1:0", "1:1", "1:3")
 
 
-DAMAGED, STRAY = "superblock-damaged", "superblock-stray"
+DAMAGED, STRAY = "superblock-damaged 2", "superblock-stray 3"
 MOVED = f"reclaim 1 41\nmove 1 41 3 {U1} shard {S1} 41\n"
 
-# A disk, the accepted kinds and lines of doubts, and the lines.
+# A disk, the accepted doubts, and the lines.
 RECLAIMABLE = [
     (lambda: worked.second_of_two(1, 2), [], MOVED + f"move 1 41 3 {U1} shard {S2} 41\nlast-room 1 82 174\n"),
     (lambda: worked.second_of_two(1), [], MOVED + "room 2 155 101\nlast-room 1 82 174\n"),
@@ -383,10 +383,10 @@ RECLAIMABLE = [
     (lambda: worked.one_shard("2:1"), [], "doubt run-lost 0 unreadable\n"),
     # Bytes past a pointer have to be accepted.
     (worked.past_the_pointer, [], "doubt tail 1 0 38\n"),
-    (worked.past_the_pointer, ["tail-lost"], "doubt tail 1 0 38\n"),
-    (worked.past_the_pointer, ["tail"], "accepted tail 1 0 38\n"),
+    (worked.past_the_pointer, ["tail-lost 1 0 38"], "doubt tail 1 0 38\n"),
+    (worked.past_the_pointer, ["tail 1 0 38"], "accepted tail 1 0 38\n"),
     (unreadable_tail, [], "doubt tail-lost 1 0 1\ndoubt tail-lost 1 3 3\n"),
-    (unreadable_tail, ["tail"], "doubt tail-lost 1 0 1\ndoubt tail-lost 1 3 3\n"),
+    (unreadable_tail, ["tail 1 0 1"], "doubt tail-lost 1 0 1\ndoubt tail-lost 1 3 3\n"),
     (unreadable_tail, ["tail-lost 1 3 3"], "doubt tail-lost 1 0 1\naccepted tail-lost 1 3 3\n"),
-    (unreadable_tail, ["tail-lost"], "accepted tail-lost 1 0 1\naccepted tail-lost 1 3 3\n"),
+    (unreadable_tail, ["tail-lost 1 0 1", "tail-lost 1 3 3"], "accepted tail-lost 1 0 1\naccepted tail-lost 1 3 3\n"),
 ]

@@ -9,6 +9,7 @@ Single calls are those of the crate scrub_refused_memory, if `rt` has built its 
 takes an allocator, or can answer out of memory, has to be a call there, or to be made by one of the command lines.
 """
 import os
+import shlex
 import unittest
 
 from lib import growths
@@ -17,12 +18,13 @@ from lib.cases import Case, RoomCase, add_tests
 from lib.disks import Disk, locator, run, shard, uuid
 from lib.program import TOP
 from lib.reference import answered
+from lib.worked import behind_a_damaged_frame
 
 SMALL = "--page 64 --pages 4 --extents 3 examples/one-shard.img"
 SEVERAL = "--page 64 --pages 16 --extents 5 examples/several-findings.img 3:1"
 RECLAIMED = "--page 64 --pages 8 --extents 5 examples/reclaimed-before.img"
 RESCUED = "--page 512 --pages 4 --extents 4 --map examples/rescued.map examples/rescued.img"
-# Disks that the tests make: see `retiring` and `large`.
+# Disks that the tests make: see `retiring`, `large` and `behind_a_damaged_frame`.
 ROOM = "ROOM/"
 RETIRING = f"--page 64 --pages 4 --extents 4 {ROOM}retiring.img"
 LARGE = f"--page 65536 --pages 32 --extents 2 {ROOM}large.img"
@@ -42,13 +44,18 @@ COMMAND_LINES = {
     "superblocks": f"superblocks {SEVERAL}",
     "superblocks of the second kind": f"superblocks {RETIRING}",
     "reclaimable": f"reclaimable {SEVERAL}",
-    "reclaimable with tails accepted": f"reclaimable --workers 2 --accept tail {RECLAIMED}",
+    "reclaimable with the last generation": f"reclaimable --workers 2 --last 1 {RECLAIMED}",
+    "reclaimable with another generation": f"reclaimable --workers 0 --last 2 {RECLAIMED}",
+    "reclaimable with a tail accepted": f"reclaimable --workers 2 --accept 'tail 1 208 45' {RECLAIMED}",
+    "reclaimable with remains": f"reclaimable --workers 0 --page 64 --pages 8 --extents 4 {ROOM}behind.img",
+    "refused line": f"reclaimable --accept 'tie 1' {RECLAIMED}",
     "manifest": f"manifest {SEVERAL}",
     "manifest with a map": f"manifest --workers 0 {RESCUED}",
     "manifest with resets": f"manifest --workers 2 --reset 1 {RETIRING}",
     "summary": f"summary {SEVERAL}",
     "summary with a map": f"summary --workers 0 {RESCUED}",
     "summary with 2 workers": f"summary --workers 2 {RETIRING}",
+    "summary with the last generation": f"summary --workers 0 --last 1 {RECLAIMED}",
     "sizes": "sizes examples/several-findings.img",
     "sizes with a map": "sizes --map examples/rescued.map examples/rescued.img",
     "scan with a map": f"scan {RESCUED}",
@@ -74,7 +81,7 @@ COMMAND_LINES = {
 WITHOUT_REFERENCE = {"", "scan --help", "scan --workers 65"}
 # Those in which a worker that scans, or a reader of the image, takes memory on a thread of its own.
 WITH_THREADS = ["scan", "index with 2 workers", "locators", "locators with 2 workers", "reclaimable",
-                "reclaimable with tails accepted", "manifest", "manifest with resets", "summary", "summary with 2 workers",
+                "reclaimable with the last generation", "manifest", "manifest with resets", "summary", "summary with 2 workers",
                 "items by several readers", "shard", "lost payload"]
 OUT_OF_MEMORY = (4, b"", b"shardscrub: out of memory\n")
 
@@ -101,7 +108,7 @@ def large():
 
 def right(words):
     """The right answer of a run in the repository's folder."""
-    return answered([str(TOP / word) if word.startswith("examples/") else word for word in words.split()])
+    return answered([str(TOP / word) if word.startswith("examples/") else word for word in shlex.split(words)])
 
 
 class LibraryCase(RoomCase):
@@ -119,6 +126,7 @@ class Runs(LibraryCase):
         super().setUpClass()
         (cls.room / "retiring.img").write_bytes(retiring().bytes)
         (cls.room / "large.img").write_bytes(large().bytes)
+        (cls.room / "behind.img").write_bytes(behind_a_damaged_frame().bytes)
 
     def refusing(self, words, refused, **which):
         return refusing(self.program, words.replace(ROOM, f"{self.room}/"), self.library, refused, **which)

@@ -25,7 +25,7 @@ from lib.picture import OUTPUTS, items_of
 from lib.pictured import (LOOKED_AT, Pictured, disk_of, example_reports, fitting_locators, lines_to_accept, looked_at, made_up_report,
                           most_rows, written)
 from lib.program import program
-from lib.reference import ACCEPTABLE, Image
+from lib.reference import Image, choose
 from lib.summaries import examples, made_up, summary_of
 from lib.wrong_pages import OF_SPARES_AND_ROOMS, WRONG_CONTRADICTIONS, WRONG_PAGES, WRONG_SUMMARIES
 
@@ -36,7 +36,8 @@ MADE_UP = 60
 MOST_DRAW, MOST_OPENING = 250, 5000
 # The disks that are opened with outputs that don't fit.
 MISFITTED = ("in-order", "flipped-bit", "tail", "no-superblock", "hidden", "spare-at-risk", "spare-accepted", "spare-is-safe",
-             "spare-and-tail", "full", "room-behind-zeros", "tail-accepted-in-part", "tails-accepted")
+             "spare-and-tail", "full", "room-behind-zeros", "tail-accepted-in-part", "tails-accepted", "remains", "remains-accepted",
+             "not-the-last")
 
 
 def first_report():
@@ -110,8 +111,8 @@ class Disks(PageCase):
         sizes = [str(word) for name, key in (("--page", "page"), ("--pages", "pages"), ("--extents", "extents"))
                  for word in (name, disk.report["geometry"][key])]
         for command, right in {"scan": written(disk.report), **disk.outputs}.items():
-            accepted = [word for text in disk.accepted * (command == "reclaimable") for word in ("--accept", text)]
-            done = subprocess.run([program(), command, *sizes, *accepted, image, *(f"{e}:{g}" for e, g in disk.unreadable)],
+            own = disk.options() if command == "reclaimable" else []
+            done = subprocess.run([program(), command, *sizes, *own, image, *(f"{e}:{g}" for e, g in disk.unreadable)],
                                   capture_output=True, encoding="utf-8", stdin=subprocess.DEVNULL)
             self.check(f"{what}: {command} prints what the page is opened with", done.stdout == right, done.stderr)
 
@@ -154,10 +155,10 @@ class Reports(PageCase):
                 made = kind(random.Random(turn))
                 unreadable = made.make()
                 image = Image(bytes(made.raw), made.p, made.n, made.e, unreadable)
-                # No doubt is accepted, each second one by its line, each by its line, or some kinds.
+                # No doubt is accepted, each second one by its line, each by its line, or some by --last, which may be wrong.
                 lines = lines_to_accept(image)
-                accepted = ((), lines[::2], lines, ACCEPTABLE[:turn % 5])[turn % 4]
-                disks[f"made-up disk {turn}{more}"] = Pictured(image, accepted)
+                last = None if turn % 4 < 3 else (choose(image)["generation"] or 0) + (turn % 8 == 7)
+                disks[f"made-up disk {turn}{more}"] = Pictured(image, ((), lines[::2], lines, ())[turn % 4], last)
         seen = Counter()
         for turn, (name, disk) in enumerate(disks.items()):
             outputs = disk.outputs if turn % 2 else list(self.choices(disk.outputs))[turn // 2 % 8]
@@ -174,7 +175,8 @@ class Reports(PageCase):
                 self.check_marks(name, disk.report)
                 self.check_without_superblock(name, disk.report)
                 self.check_links(name)
-        for words in ("reclaim", "move", "room", "last-room", "doubt spare", "accepted spare", "doubt tail", "accepted tail"):
+        for words in ("reclaim", "move", "room", "last-room", "doubt spare", "accepted spare", "doubt remains", "doubt last", "doubt tail",
+                      "accepted tail"):
             self.check(f"made-up disks: some have '{words}'", seen[words] > 0)
 
 
@@ -365,7 +367,8 @@ def summary_row(name, summary):
 
 def contradicted(summary):
     """Summaries whose verdict is better or worse than their numbers, or doesn't agree with their status: what is wrong, and the row."""
-    for verdict in {"sound", "doubt", "wrong"} - {summary["verdict"]}:
+    # With --last a disk may be in doubt whatever its numbers are.
+    for verdict in {"sound", "doubt", "wrong"} - {summary["verdict"], *["doubt"] * (summary["verdict"] == "sound")}:
         yield f"the verdict is {verdict}", summary_row("x", summary | {"verdict": verdict})
     yield "another status", re.sub('"status":([01])', lambda found: f'"status":{1 - int(found[1])}', summary_row("x", summary))
     if summary["verdict"] != "wrong":
@@ -385,6 +388,8 @@ class Summaries(PageCase):
         """Opens rows of summary, one of scan, and one of each without an answer."""
         summaries = {line.split("\t")[0]: summary_of(line) for line in [*examples(), *islice(made_up(self.room), 8)]}
         summaries = {name: summary for name, summary in summaries.items() if summary is not None}
+        sound = next(summary for summary in summaries.values() if summary["verdict"] == "sound")
+        summaries["another superblock than the last one"] = sound | {"verdict": "doubt"}
         rows = {name: summary_row(name, summary) for name, summary in summaries.items()}
         rows["no answer"] = written({"disk": "no answer", "status": 3, "text": "shardscrub: image too long"})
         report = first_report()
@@ -479,7 +484,7 @@ def changed(line):
     kept = 2 if words[0] in ("run", "shard") else 1
     for index in range(kept, len(words)):
         word = words[index]
-        if (words[0], index) in (("move", 5), ("move", 6), ("spare", 5)):
+        if (words[0], index) in (("move", 5), ("move", 6), ("spare", 5)) or words[:2] == ["doubt", "last"] and index == 3:
             continue
         if word.isdigit():
             other = str(int(word) + 1)

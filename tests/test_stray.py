@@ -2,56 +2,17 @@
 from docs/REPORT.md.
 """
 from lib.cases import RoomCase, add_tests
-from lib.disks import Disk, frame, geometry, locator, run, shard, uuid
+from lib.disks import Disk, frame, geometry, locator, run, uuid
+from lib.worked import shorter_over_longer, torn_newest, whole_newest
 from test_system import answer
 
-PAGE, PAGES, EXTENTS = 1024, 2, 4
-WORDS = geometry(PAGE, PAGES, EXTENTS)
+WORDS = geometry(1024, 2, 4)
 
 
 def asked(*words):
     """The status and the output of a run."""
     status, printed, _ = answer(*words, text=True)
     return status, printed
-
-
-def worked():
-    """The disk of the worked rows, without the superblock on page 0, and the locators of its runs, newest first. The newest names a
-    chunk in extent 3. Each superblock has the pointers of this disk."""
-    disk = Disk(PAGES, EXTENTS, PAGE)
-    disk.chunk(1, 0, uuid(0x11), b"abc")
-    new = disk.chunk(3, 0, uuid(0x44), b"new")
-    entries = [(1, [new]), (2, [locator(1, 0, uuid(0x11), b"abc")]), *((number, []) for number in range(3, 9))]
-    runs = []
-    for number, (identifier, locators) in enumerate(entries):
-        runs.append(disk.chunk(2, disk.pointers[1], uuid(0xA0 + number), run((shard(identifier), locators))))
-    disk.superblock(1, 7, *runs[1:])
-    return disk, runs
-
-
-def torn():
-    """Of generation 8, of 550 bytes, the second sector arrived over generation 6, of 490 bytes."""
-    disk, runs = worked()
-    disk.superblock(0, 8, *runs)
-    second = bytes(disk.bytes[512:550])
-    disk.bytes[0:PAGE] = bytes(PAGE)
-    disk.superblock(0, 6, *runs[1:])
-    disk.put(0, 512, second)
-    return disk
-
-
-def whole():
-    disk, runs = worked()
-    disk.superblock(0, 8, *runs)
-    return disk
-
-
-def shorter():
-    """Generation 6 lists no run, and the rest of generation 5 is behind it."""
-    disk, runs = worked()
-    disk.superblock(0, 5, *runs[1:])
-    disk.superblock(0, 6)
-    return disk
 
 
 class Worked(RoomCase):
@@ -66,21 +27,14 @@ class Worked(RoomCase):
         self.same("reclaimable", asked("reclaimable", *WORDS, image), (int("doubt" in listed), listed))
 
     def test_torn(self):
-        self.check_disk(torn(), "record 0 SSB1 6 older\nstray 0\nrecord 1 SSB1 7 counts\n", "doubt", "doubt superblock-stray 0\n")
+        self.check_disk(torn_newest(), "record 0 SSB1 6 older\nstray 0\nrecord 1 SSB1 7 counts\n", "doubt", "doubt superblock-stray 0\n")
 
     def test_whole(self):
-        self.check_disk(whole(), "record 0 SSB1 8 counts\nrecord 1 SSB1 7 older\n", "sound", "")
+        self.check_disk(whole_newest(), "record 0 SSB1 8 counts\nrecord 1 SSB1 7 older\n", "sound", "")
 
     def test_shorter(self):
-        self.check_disk(shorter(), "record 0 SSB1 6 older\nstray 0\nrecord 1 SSB1 7 counts\n", "doubt", "doubt superblock-stray 0\n")
-
-    def test_torn_and_accepted(self):
-        """Generation 7 doesn't name extent 3: what was accepted was the trace of the newest superblock."""
-        image = self.room / "torn"
-        image.write_bytes(torn().bytes)
-        for text in ("superblock-stray", "superblock-stray 0"):
-            self.same(text, asked("reclaimable", *WORDS, "--accept", text, image),
-                      (0, "accepted superblock-stray 0\nreclaim 3 41\nroom 1 41 2007\nroom 2 880 1168\nlast-room 3 41 2007\n"))
+        self.check_disk(shorter_over_longer(), "record 0 SSB1 6 older\nstray 0\nrecord 1 SSB1 7 counts\n", "doubt",
+                        "doubt superblock-stray 0\n")
 
 
 # Disks of 3 extents with pages of 64 bytes. A superblock without runs has 66 bytes, so it ends in the second byte of its second page; with

@@ -89,9 +89,10 @@ class DiskCase(RoomCase):
         image = Image(Path(path).read_bytes(), p, n, e, [])
         answers = scrub_all(image)
         report, index, lines, status = answers.report, answers.index, answers.locators, 0 if answers.clean else 1
-        right = listed(*reclaimable(image, ["tail"]))
+        last = report["super"]["generation"] or 0
+        right = listed(*reclaimable(image, last=last))
         for number in workers:
-            found = answer("reclaimable", "--accept", "tail", *geometry(p, n, e), "--workers", str(number), path)
+            found = answer("reclaimable", "--last", str(last), *geometry(p, n, e), "--workers", str(number), path)
             self.same(f"what may be reclaimed, with {number} workers", found, right)
         self.same("superblocks", answer("superblocks", *geometry(p, n, e), path), listed(*superblocks(image)))
         self.same("sizes", answer("sizes", path), sizes_of(path))
@@ -467,7 +468,8 @@ class Words(RoomCase):
             (["scan", *SMALL, "--workers", "65", ONE_SHARD], b"65"),
             (["superblocks", *SMALL, "--workers", "1", ONE_SHARD], b"--workers"),
             (["reclaimable", *SMALL, "--accept", "tie", ONE_SHARD], b"tie"),
-            (["scan", *SMALL, "--accept", "tail", ONE_SHARD], b"--accept"),
+            (["scan", *SMALL, "--accept", "tail 1 0 1", ONE_SHARD], b"--accept"),
+            (["scan", *SMALL, "--last", "1", ONE_SHARD], b"--last"),
             (["scan", *SMALL, *SHARD_1, ONE_SHARD], b"--id"),
             (["shard", *SMALL, ONE_SHARD], b"--id"),
             (["shard", ONE_SHARD], b"--id"),

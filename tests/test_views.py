@@ -148,9 +148,10 @@ class Rows(RowCase):
 
     def right_row(self, command, line):
         """The row as the program's own answer gives it."""
-        name, image, page, pages, extents, map_file, lost = line.split("\t")
+        name, image, page, pages, extents, map_file, lost, last, *_ = [*line.split("\t"), "-"]
         words = [*(geometry(page, pages, extents) if page != "-" else []), *(["--map", map_file] if map_file != "-" else []), image,
                  *lost.replace("-", "").split()]
+        words += ["--last", last] if last != "-" and command != "scan" else []
         done = subprocess.run([self.program, command, *words], cwd=TOP, capture_output=True, encoding="utf-8", stdin=subprocess.DEVNULL)
         row = {"disk": name, "status": done.returncode, "text": done.stderr.rstrip("\n")}
         if command == "reclaimable":
@@ -226,10 +227,22 @@ class Rows(RowCase):
                 self.same(f"{command} of {line}", (row["status"], "invalid value '-'" in row["text"]), (2, True))
 
     def test_lines_of_other_lengths(self):
-        for line in ("d\texamples/one-shard.img\t64\t4\t3\t-", "d\texamples/one-shard.img\t64\t4\t3\t-\t-\t-"):
+        for line in ("d\texamples/one-shard.img\t64\t4\t3\t-", "d\texamples/one-shard.img\t64\t4\t3\t-\t-\t-\t-"):
             for command in ("summary", "scan", "reclaimable"):
                 row = json.loads(self.row(command, line))
-                self.same(f"{command} of {line}", (row["status"], row["text"]), (2, "view/row: the line doesn't have seven fields"))
+                self.same(f"{command} of {line}", (row["status"], row["text"]), (2, "view/row: the line doesn't have seven or eight fields"))
+
+    def test_the_last_generation(self):
+        """An eighth field is given to summary and reclaimable, and not to scan."""
+        verdicts = {"-": "sound", "1": "sound", "2": "doubt"}
+        for last, verdict in verdicts.items():
+            line = f"d\texamples/one-shard.img\t64\t4\t3\t-\t-\t{last}"
+            for command in ("scan", "reclaimable"):
+                self.same(f"{command} of {line}", json.loads(self.row(command, line)), self.right_row(command, line))
+            row = json.loads(self.row("summary", line))
+            self.same(line, (row["status"], row["verdict"]), (int(verdict != "sound"), verdict))
+            lines = [["doubt", "last", "1", "2"]] if verdict == "doubt" else []
+            self.same(line, json.loads(self.row("reclaimable", line))["lines"], lines)
 
     def test_an_answer_that_is_cut_short(self):
         for command in self.BEGINNINGS:

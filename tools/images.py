@@ -6,6 +6,7 @@ from pathlib import Path
 
 sys.path.insert(0, str(Path(__file__).resolve().parent.parent / "tests"))
 from lib.disks import MAGIC, Disk, frame, locator, run, sealed_frame, shard, uuid
+from lib.worked import behind_a_damaged_frame
 from pages import TOP, run_tool
 
 FOLDER = TOP / "examples"
@@ -223,6 +224,10 @@ def copied():
     return disk
 
 
+def behind():
+    return behind_a_damaged_frame()
+
+
 def two_copies():
     """Shard 1's chunk, after the run, has rotted. Extents 1 and 2 have an old copy each, and garbage."""
     disk = Disk(8, 4)
@@ -318,7 +323,7 @@ def rescued_map():
 
 IMAGES = (one_chunk, one_shard, no_superblock, tie, collision, closed_collision, lost_run, retired_extent, twins,
           several_findings, later_run, flipped_bit, failing, rescued, formatted_twice, letters, reclaimed_before, rotted, copied,
-          two_copies, less, full, both, to_move, damaged_copy, completed)
+          behind, two_copies, less, full, both, to_move, damaged_copy, completed)
 MAPS = (failing_map, rescued_map)
 
 

@@ -58,11 +58,17 @@ OPTIONS = {
     "--reset": Option("EXTENT", "Extent to be taken as reset: 1 to one less than the number of extents. May be repeated", (
         "The manifest is then printed as it will be once this extent is reset: as if its write pointer were 0.",),
         "may be [repeated](#the-manifest)", True),
-    "--accept": Option("KIND", "Doubts to accept: `superblock-damaged`, `superblock-stray`, `tail` or `tail-lost`, or one line without the "
-        "word `doubt`. May be repeated", (
-        "A kind accepts all doubts of that kind, in this call.",
-        "A line is what follows `doubt` on a line of one of these kinds or of `spare`, to the byte; it accepts that line alone.",
+    "--accept": Option("LINE", "Line of a doubt to accept, without the word `doubt`. May be repeated", (
+        "*LINE* is what follows `doubt` on a line of the kind `superblock-damaged`, `superblock-stray`, `spare`, `remains`, `tail` or "
+        "`tail-lost`, to the byte.",
+        "It accepts that line alone, and has no effect if there is no such line.",
         "Other doubts can't be accepted."), "may be [repeated](#what-reclaimable-prints)", True),
+    "--last": Option("G", "Generation of the last superblock that was written, if nothing was written to the disk after it: 0 to "
+        "18446744073709551615", (
+        "*G* is what the node's log says, or the last of yours if you wrote superblocks since, and never what the disk says.",
+        "`reclaimable`: if the superblock that counts has generation *G*, each line of the kinds `superblock-damaged`, `superblock-stray`, "
+        "`tail` and `tail-lost` is accepted; else there is a line `doubt last`, which can't be accepted.",
+        "`summary`: if it hasn't, the verdict isn't `sound`."), "[what it says](#the-last-superblock)"),
     "--extent": Option("NUMBER", "Extent to list: 0 to one less than the number of extents"),
     "--pointer": Option("BYTES", "Write pointer of the extent: 0 to the bytes of an extent (default: all of them)"),
     "--map": Option("FILE", "Map of GNU ddrescue: pages that it doesn't list as rescued are unreadable", (
@@ -83,7 +89,7 @@ WORKERS = ("--workers",)
 WHOLE = "the {} is whole all the same"
 COMMANDS = {
     "summary": Command("Prints one word on whether the disk is all right, and names and numbers for monitoring",
-        "the verdict is `sound`", "else; " + WHOLE.format("text"), own=WORKERS),
+        "the verdict is `sound`", "else; " + WHOLE.format("text"), own=("--workers", "--last")),
     "scan": Command("Prints a report of the whole disk: what may be reclaimed, what is where, and what is wrong",
         "`clean` is true", "it is false", own=WORKERS),
     "shard": Command("Writes the bytes of one shard: the payloads of its chunks, one directly after another",
@@ -99,7 +105,7 @@ COMMANDS = {
         True, ("--workers", "--reset")),
     "reclaimable": Command("Lists the extents that may be reclaimed, and what has to be moved first, or why none may be",
         "no line begins with `doubt`; there may be nothing to reclaim, and the disk may have other faults",
-        "a line begins with `doubt`", True, ("--workers", "--accept")),
+        "a line begins with `doubt`", True, ("--workers", "--accept", "--last")),
     "superblocks": Command("Lists the superblock records of extent 0, and its pages that may have held one",
         "every line is a `record`, and one of them `counts`", "anything else, including no line at all"),
     "sizes": Command("Lists the superblock records of an image of unknown sizes, each with its own sizes",
@@ -205,8 +211,8 @@ def synopsis():
 
 
 def manual_options():
-    out = [".SH OPTIONS", "Numbers are decimal and below 2^32.", "Option values may start with +; the numbers of", ".IR EXTENT : PAGE",
-           "may not."]
+    out = [".SH OPTIONS", "Numbers are decimal and below 2^32, that of", ".B \\-\\-last", "below 2^64.",
+           "Option values may start with +; the numbers of", ".IR EXTENT : PAGE", "may not."]
     for name, option in OPTIONS.items():
         head = f'.BI {roff(name)} " {option.value}"' if option.value else ".IR EXTENT : PAGE" if ":" in name else f".I {name}"
         sentences = [f"{one}." for one in option.help.split(". ")] + [filled(one) for one in option.manual]

@@ -3,6 +3,7 @@
 The library refuses one allocation, by its number from 1 on, or that one and all later ones; or those of all threads except the
 first one, each after a tenth of a second. It counts the allocations of one size, and the threads that are started.
 """
+import shlex
 from typing import NamedTuple
 
 from lib import preloaded
@@ -95,5 +96,5 @@ def run(program, words, library, refused=0, counted=0, flags=(), processors=None
 def refusing(program, words, library, refused, all_later=False, all_others=False):
     """The status and both outputs of a run, and `met` of its counts; 0 if there are no counts."""
     flags = ["ALL_LATER"] * all_later + ["ALL_OTHERS"] * all_others
-    got, counts = run(program, words.split(), library, refused, flags=flags)
+    got, counts = run(program, shlex.split(words), library, refused, flags=flags)
     return got, counts.met if counts else 0

@@ -1,8 +1,8 @@
 """Compares a program with the reference on made-up disks, byte for byte: report, index, summary, named locators with spares,
 manifests with resets, superblocks, items, what may be reclaimed, sizes, bytes of shards, and the status and error stream of each;
-with the sizes and, where they may be left out, without them. Some disks have a map of GNU ddrescue, and some of these maps are
-refused. Some texts to accept, extents, pointers and identifiers are refused, too. What `shard` prints also has to agree with what
-the program prints by `manifest` and `scan`."""
+with the sizes and, where they may be left out, without them; with right and wrong generations for --last. Some disks have a map of
+GNU ddrescue, and some of these maps are refused. Some texts to accept, extents, pointers and identifiers are refused, too. What
+`shard` prints also has to agree with what the program prints by `manifest` and `scan`."""
 import json
 import os
 import random
@@ -26,20 +26,30 @@ NO_IDENTIFIERS = ("", "0", "0" * 31, "0" * 33, "g" + "0" * 31, " " + "0" * 31, "
 
 
 def texts_to_accept(c, doubts):
-    """Kinds and lines, some of which stand for no line, and a few that are refused."""
-    texts = [kind for kind in ACCEPTABLE if c.random() < .3]
+    """Lines, some of which stand for no line of the disk, and a few texts that are refused."""
+    texts = []
     for line in doubts:
-        if c.random() < (.03 if refusal(line) else .7):
+        if c.random() < (.01 if refusal(line) else .8):
             texts.append(line)
-        if c.random() < (.01 if refusal(line) else .15):
+        if c.random() < (.01 if refusal(line) else .1):
             other = line[:-1] + chr(ord(line[-1]) ^ 1)
             texts.append(c.choice([other, line + " ", line.replace(" ", "  ", 1), line[:-1], line + "0"]))
     if c.random() < .1:
-        texts.append(c.choice(["tail 1 0 1", "tail-lost 0 0 0", "spare 1 2 3", "spare ", "superblock-stray  ", "tail x"]))
+        texts.append(c.choice(["tail 1 0 1", "tail-lost 0 0 0", "spare 1 2 3", "remains 1 0 1", "spare ", "superblock-stray  ", "tail x"]))
     if c.random() < .03:
-        texts.append(c.choice(["spare", "tie", "tie 1", "run-lost", "no-superblock", "Tail", " tail", "superblock-lost 1", ""]))
+        texts.append(c.choice([*ACCEPTABLE, "tie", "tie 1", "run-lost", "last 1 2", "no-superblock", "Tail 1 0 1", " tail 1 0 1",
+                               "superblock-lost 1", ""]))
     c.shuffle(texts)
     return texts
+
+
+def generation_for_last(c, disk):
+    """A generation for --last: mostly the one that counts, else one near it or any other."""
+    counts = choose(disk.disk())["generation"]
+    others = [0, 1, 2 ** 64 - 1, c.randrange(2 ** 64)]
+    if counts is None or c.random() < .1:
+        return c.choice(others)
+    return counts if c.random() < .7 else c.choice([max(counts, 1) - 1, min(counts + 1, 2 ** 64 - 1)])
 
 
 def extents_to_reset(c, extents):
@@ -93,6 +103,10 @@ class MadeUp(NamedTuple):
         """The right status, output and error stream."""
         return answered([*own, *self.shared()])
 
+    def disk(self):
+        """The disk, without its map."""
+        return disk_of(read_arguments(["scan", *self.sizes, self.image, *self.pairs]))
+
     def named(self):
         """The identifiers of the known shards, rising."""
         lines = map(str.split, self.answer("locators")[1].decode().splitlines())
@@ -131,10 +145,12 @@ def calls(c, disk):
     accepting = disk._replace(map=[]) if disk.answer("scan")[0] == 2 else disk
     listed = accepting.answer("reclaimable")[1].decode().splitlines()
     doubts = [line.partition(" ")[2] for line in listed if line.startswith("doubt ")]
-    accepted, resets = texts_to_accept(c, doubts), extents_to_reset(c, disk.made.e)
+    accepted, resets = option("--accept", texts_to_accept(c, doubts)), extents_to_reset(c, disk.made.e)
+    last, other = (["--last", str(generation_for_last(c, disk))] for _ in range(2))
     yield from (Words(command, [], shared) for command in ("scan", "index", "summary", "locators", "superblocks"))
     yield from (Words("manifest", option("--reset", extents), shared) for extents in ([], *resets))
-    yield from (Words("reclaimable", option("--accept", texts), shared) for texts in ([], accepted))
+    yield from (Words("reclaimable", own, shared) for own in ([], accepted, last, other + accepted))
+    yield Words("summary", c.choice([last, other]), c.choice([shared, disk.without_sizes()]))
     yield Words("sizes", [], [*disk.map, disk.image])
     yield from (Words(command, [], disk.without_sizes()) for command in LOOKING)
     yield Words("items", extent_to_list(c, disk.made), shared)
@@ -204,7 +220,7 @@ def count(seen, report, disk, calls):
     of_shards = set()
     for call in calls:
         status, printed, error = call.right
-        with_option = "".join(sorted({f" {word}" for word in call.words if word in ("--accept", "--reset")}))
+        with_option = "".join(sorted({f" {word}" for word in call.words if word in ("--accept", "--last", "--reset")}))
         without = " without sizes" * (call.command != "sizes" and "--page" not in call.words)
         seen[f"{call.command}{with_option}{without}: status {status}"] += 1
         if call.of_shard:

@@ -5,7 +5,7 @@ import subprocess
 
 from lib import reference
 from lib.disks import geometry, record, run
-from lib.reference import ACCEPTABLE, Image, choose, frame_at, read_run, status_of, tile, write_locator
+from lib.reference import Image, choose, frame_at, read_run, refusal, status_of, tile, write_locator
 
 
 class Drive:
@@ -47,17 +47,18 @@ class Engine:
         self.program, self.calls, self.file, self.written = program, 0, None, b""
         self.name = os.path.join(room, "image") if room else None
 
-    def ask(self, drive, command, accepted=(), resets=()):
-        """The text that a command prints, and whether its status is 0."""
+    def ask(self, drive, command, accepted=(), resets=(), last=None):
+        """The text that a command prints, and whether its status is 0. `last` is a generation for --last."""
         self.calls += 1
         if self.program is None:
             image = drive.image()
             if command == "locators":
                 _, _, clean, lines = reference.scrub(image)
                 return lines, clean
-            options = {"reclaimable": [accepted], "manifest": [resets]}.get(command, [])
+            options = {"reclaimable": [accepted, last], "summary": [last], "manifest": [resets]}.get(command, [])
             return getattr(reference, command)(image, *options)
         words = [word for text in accepted for word in ("--accept", text)] + [word for e in resets for word in ("--reset", str(e))]
+        words += ["--last", str(last)] if last is not None else []
         done = self.run(drive, [command, *words])
         if done.returncode not in (0, 1) or done.stderr:
             raise RuntimeError(f"{done.args}: status {done.returncode}, {done.stderr.decode()}")
@@ -97,8 +98,14 @@ def doubts_in(text):
     return [line.partition(" ")[2] for line in text.splitlines() if line.startswith(("doubt ", "accepted "))]
 
 
+def open_doubts_in(text):
+    """Those that aren't accepted."""
+    return [line.partition(" ")[2] for line in text.splitlines() if line.startswith("doubt ")]
+
+
 def acceptable(doubts):
-    return [line for line in doubts if line.split()[0] in (*ACCEPTABLE, "spare")]
+    """The doubts whose lines can be accepted."""
+    return [line for line in doubts if refusal(line) is None]
 
 
 def lines_with(text, word):

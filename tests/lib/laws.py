@@ -1,11 +1,14 @@
-"""The laws of spares, copies, resets, manifests and shards, held on pairs of images."""
+"""The laws of acting, held on disks and on pairs of disks: those of spares, remains, --last, sound disks, copies, resets, manifests and
+shards."""
 import random
 
 from lib import reference
 from lib.disks import frame, sealed_frame
-from lib.drive import Broken, Drive, acceptable, all_accepted, chunks_of, doubts_in, lines_with, named_locators, require
+from lib.drive import (Broken, Drive, Full, acceptable, all_accepted, chunks_of, doubts_in, lines_with, named_locators, place_of,
+                       require)
 from lib.made_up import Made, Tended
-from lib.reference import choose, frame_at
+from lib.node import worked
+from lib.reference import BY_LAST, FORMS, HEAD, choose, frame_at, records_of
 
 
 def hold_spares(engine, drive, seen):
@@ -31,6 +34,122 @@ def hold_spares(engine, drive, seen):
         if places:
             seen["law of spares: a dangling locator with spares"] += 1
             require(any(place in live or place[0] not in listed for place in places), "law of spares:", owner, places, text)
+
+
+def frames_in(drive, extent, pointer):
+    """Each frame that begins at any byte of an extent and ends at or below the pointer: the byte, and its payload."""
+    image, text = drive.image(), drive.read(extent, 0, pointer)
+    starts = [p for p in range(pointer) if text[p:p + 2] in FORMS]
+    return [(p, found[3]) for p in starts if (found := frame_at(image, extent, pointer, p))]
+
+
+def hold_remains(engine, drive, seen):
+    """If no line begins with `doubt` or `accepted remains`, let a locator of a shard dangle, have a length over 0 and no spare. Each frame
+    with its payload in an extent that is listed begins inside a chunk, and not at its start."""
+    text, _ = engine.ask(drive, "reclaimable")
+    text, _ = engine.ask(drive, "reclaimable", [t for t in acceptable(doubts_in(text)) if not t.startswith("remains ")])
+    manifest = [line.split() for line in engine.ask(drive, "manifest")[0].splitlines()]
+    lost = {(int(words[3]), words[4]) for words in manifest if words[0] == "shard" and words[-1] == "none" and words[3] != "0"}
+    seen["law of remains: a doubt"] += any(line.startswith("doubt remains ") for line in text.splitlines())
+    if any(line.startswith(("doubt ", "accepted remains ")) for line in text.splitlines()) or not lost:
+        return
+    pointers = choose(drive.image())["pointers"]
+    for extent in [int(words[1]) for words in lines_with(text, "reclaim")]:
+        seen["law of remains: an extent is listed"] += 1
+        pointer = pointers[extent - 1]
+        for start, payload in frames_in(drive, extent, pointer):
+            if (len(payload), reference.sha(payload).hex()) in lost:
+                seen["law of remains: a copy inside a chunk"] += 1
+                around = [item for item in chunks_of(drive, extent, pointer) if item[0] < start < item[1]]
+                require(around, "law of remains:", extent, start, text)
+
+
+def with_a_copy_in_garbage(choice, drive):
+    """The disk after a shard's chunk has rotted, with a whole copy of it in the place of a part of a chunk that nothing names, which may be
+    damaged then. None if there are no such chunks."""
+    named = named_locators(drive)
+    live = {place_of(c) for _, c, status in named if status == "sound"}
+    whole = [c for owner, c, status in named if isinstance(owner, bytes) and status == "sound" and c["length"] > 0]
+    if not whole:
+        return None
+    c = choice.choice(whole)
+    chosen = choose(drive.image())
+    form, *_, stop = frame_at(drive.image(), c["extent"], chosen["pointers"][c["extent"] - 1], c["offset"])
+    copy = drive.read(c["extent"], c["offset"], stop - c["offset"])
+    garbage = [(e, a, b) for e in range(1, drive.extents) if e not in chosen["retired"] and e != c["extent"]
+               for a, b, _, _ in chunks_of(drive, e, chosen["pointers"][e - 1]) if (e, a) not in live and b - a >= len(copy)]
+    if not garbage:
+        return None
+    e, a, b = choice.choice(sorted(garbage))
+    after = drive.copy()
+    after.write(e, choice.randint(a, b - len(copy)), copy)
+    if choice.random() < .5:
+        after.raw[e * drive.size + choice.choice([a, b - 1])] ^= 1
+    after.raw[c["extent"] * drive.size + c["offset"] + HEAD + form.seal] ^= 1
+    return after
+
+
+def generations(choice, counts):
+    """Numbers for --last: the generation that counts, and two others."""
+    others = {0, 1, 2 ** 64 - 1, *([counts - 1, counts + 1] if counts is not None else [])} - {counts}
+    return [*([] if counts is None else [counts]), *choice.sample([g for g in sorted(others) if 0 <= g < 2 ** 64], 2)]
+
+
+def hold_last(engine, drive, choice, seen):
+    """If an extent is listed with `--last G`, the superblock that counts has generation G, and each doubt is accepted by its line or is
+    of one of four kinds."""
+    counts = choose(drive.image())["generation"]
+    for last in generations(choice, counts):
+        doubts = doubts_in(engine.ask(drive, "reclaimable", last=last)[0])
+        some = [line for line in acceptable(doubts) if choice.random() < .9]
+        text, clear = engine.ask(drive, "reclaimable", some, last=last)
+        is_listed, is_in_doubt = (any(line.startswith(word) for line in text.splitlines()) for word in ("reclaim ", "doubt "))
+        require(clear != is_in_doubt, "law of --last: status", text)
+        require(not is_listed or counts == last, "law of --last: listed by generation", counts, "for", last, text)
+        for words in lines_with(text, "accepted"):
+            line = " ".join(words[1:])
+            require(line in some or counts == last and words[1] in BY_LAST, "law of --last: accepted", line)
+        if counts == last:
+            same = engine.ask(drive, "reclaimable", some + [line for line in doubts if line.split()[0] in BY_LAST])
+            require((text, clear) == same, "law of --last: other than by lines", text, same[0])
+        seen["law of --last: listed"] += is_listed
+        seen["law of --last: another generation"] += counts != last
+
+
+def hold_verdicts(engine, drive, choice, seen):
+    """What the verdict `sound` says, without --last and with it."""
+    chosen, (text, is_sound) = choose(drive.image()), engine.ask(drive, "summary")
+    if is_sound:
+        records = records_of(drive.image())
+        held = {i for page, r in records.items() for i in range(page * drive.page, page * drive.page + r.length)}
+        require(all(i in held for i, byte in enumerate(drive.read(0, 0, drive.size)) if byte), "law of a sound disk: bytes of extent 0")
+        for command in ("locators", "manifest", "superblocks"):
+            require(engine.ask(drive, command)[1], "law of a sound disk: status of", command)
+        doubts = doubts_in(engine.ask(drive, "reclaimable")[0])
+        require(all(line.startswith("tail ") for line in doubts), "law of a sound disk: doubts", doubts)
+        seen["law of a sound disk"] += 1
+        seen["law of a sound disk: a tail"] += doubts != []
+    for last in generations(choice, chosen["generation"]):
+        other, is_good = engine.ask(drive, "summary", last=last)
+        require(is_good == (is_sound and last == chosen["generation"]), "verdict with --last", last, other)
+        require(other.splitlines()[1:] == text.splitlines()[1:], "summary with --last", last, text, other)
+        listing, clear = engine.ask(drive, "reclaimable", last=last)
+        require(not is_good or clear and "doubt " not in listing, "law of a sound disk: --last", last, listing)
+        seen["law of a sound disk: sound by --last"] += is_good
+
+
+def hold_laws_of_a_node(engine, seed, seen):
+    """Holds the laws of --last and of sound disks on a disk whose node just wrote its superblock, and on one with a byte after that."""
+    choice = random.Random(seed)
+    try:
+        drive, node = worked(choice)
+    except Full:
+        return
+    node.superblock()
+    if choice.random() < .5:
+        drive.write(choice.randrange(drive.extents), choice.randrange(drive.size), b"x")
+    hold_last(engine, drive, choice, seen)
+    hold_verdicts(engine, drive, choice, seen)
 
 
 def junk(choice, drive):
@@ -206,13 +325,18 @@ def hold_manifest(engine, drive, seen):
 
 def hold_laws(engine, drive, choice, seen):
     hold_spares(engine, drive, seen)
+    hold_remains(engine, drive, seen)
+    if other := with_a_copy_in_garbage(choice, drive):
+        hold_remains(engine, other, seen)
+    hold_last(engine, drive, choice, seen)
+    hold_verdicts(engine, drive, choice, seen)
     hold_manifest(engine, drive, seen)
     hold_copies(engine, drive, choice, seen)
     hold_resets(engine, drive, choice, seen)
 
 
 def hold_laws_on(engine, seed, seen):
-    """Holds the laws on a made-up disk."""
+    """Holds the laws on a made-up disk, and those of --last and of sound disks on a disk of a node."""
     choice = random.Random(seed)
     made = (Tended if choice.random() < .8 else Made)(choice)
     unreadable = made.make()
@@ -221,3 +345,4 @@ def hold_laws_on(engine, seed, seen):
         hold_laws(engine, drive, choice, seen)
     except Broken as why:
         raise Broken(f"made-up disk {seed}: {why}") from why
+    hold_laws_of_a_node(engine, seed, seen)

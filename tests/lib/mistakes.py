@@ -476,7 +476,7 @@ def older_image(walk, drive):
 
 
 def first_image(walk, drive):
-    return drive.copy(walk.first_raw)
+    return drive.copy(walk.first.raw)
 
 
 def other_sizes(walk, drive):
@@ -521,7 +521,7 @@ def erase(walk, value):
     return ()
 
 
-mistake("the extent is erased between box 3 and box 4", "before box 4", "7 7! none")(erase)
+mistake("the extent is erased between box 3 and box 4", "before box 4", "7 7! 8")(erase)
 mistake("the extent is erased between box 7 and box 8", "before box 8", "8")(erase)
 
 
@@ -541,12 +541,13 @@ mistake("box 8 writes into another extent, too", "after writing of box 8", "8 8!
 
 # Doubts
 
-mistake("a tail is accepted that the node wrote after its last superblock", "accepted", "none none!", drive="later")(
-    lambda walk, accepted: walk.doubts)
-mistake("a damaged superblock is accepted that was the newest, and its generation isn't compared", "accepted", "2 none none!",
-        drive="damaged", without=(1,), often=True)(lambda walk, accepted: walk.doubts)
-mistake("a damaged superblock is accepted that was the newest", "accepted", "1", drive="damaged", without=("nothing",))(
-    lambda walk, accepted: walk.doubts)
+mistake("the node wrote something after its last superblock, and the log isn't searched for it", "written after", "2 none none!",
+        drive="later")(lambda walk, value: False)
+mistake("the newest superblock is damaged, and G isn't taken from the log but from the disk", "last", "2 none none!", drive="damaged")(
+    lambda walk, last: choose(walk.drive.image())["generation"])
+mistake("the newest superblock is damaged", "never", "1", drive="damaged", without=("nothing",))(None)
+mistake("G is too small by 1", "last", "1")(lambda walk, last: last - 1 if last > 0 else None)
+mistake("G is too great", "last", "1")(lambda walk, last: last + walk.choice.choice([1, 9, 2 ** 32]))
 mistake("a spare is accepted, and its chunk isn't copied", "spare", "7 none", drive="spare", often=True)(
     lambda walk, way: "nothing")
 
@@ -570,8 +571,8 @@ def node_writes(rounds):
     return make
 
 
-for number, boxes, more in ((1, "2", "2 4 7 8"), (3, "4 5 7 none!", "4 7"), (4, "5 7 none!", "5 6 6! 7"), (5, "7 none!", "6 7"), (6, "7", "7"),
-                            (7, "8", "8 none!")):
+for number, boxes, more in (("1", "4 5 7 8 none none!", "4 8"), ("3", "4 5 7 8 none none!", "4 8"), ("4", "5 7 none none!", "5 6 6! 7"),
+                            ("5", "7 none none!", "6 7"), ("6", "7 none!", "7"), ("7", "8", "8"), ("8a", "8", "8 none!")):
     where = f"after box {number}"
     mistake(f"the node appends a chunk {where}", where, boxes)(node_writes(0))
     mistake(f"the node writes a run and a superblock {where}", where, more)(node_writes(1))

@@ -225,7 +225,8 @@ def with_broken_shard_in_tail(choice):
 
 DRIVES = {None: worn, "spare": lambda choice: worn(choice, 1), "later": with_later_run, "damaged": with_newest_damaged,
           "in tail": with_broken_shard_in_tail}
-UNEXPLAINED = {"later": ("tail",), "damaged": ("superblock-damaged", "superblock-stray")}
+# Those whose node wrote something after its last superblock, as its log says.
+WRITTEN_AFTER = {"later"}
 
 
 def copied(node):

@@ -175,6 +175,11 @@ def doubt_lines(report, outputs):
     return [["doubt", *map(str, words)] for words in found]
 
 
+def is_another_last(report, outputs):
+    """Whether reclaimable was given another generation by --last than the one that counts."""
+    return any(words[1] == "last" for words in doubt_lines(report, outputs))
+
+
 def open_doubts(report, outputs):
     return sum(words[0] == "doubt" for words in doubt_lines(report, outputs))
 
@@ -213,6 +218,10 @@ def doubt_in_words(report, words):
         place = 0, report["super"]["page"] * page
         texts = [f"Two or more superblocks have the greatest generation, {generation}.",
                  "Compare their bytes. The node has to write a newer one."]
+    elif kind == "last":
+        counts = f"Generation {rest[0]}" if has_superblock(report) else "No superblock"
+        place = 0, (report["super"]["page"] or 0) * page
+        texts = [f"{counts} counts, and --last gave generation {rest[1]}.", "A newer superblock is gone, or the node's log lacks a line."]
     elif kind == "superblock-lost":
         texts = [f"Page {number[0]} of extent 0 is unreadable and {may_have}. Read it again."]
     elif kind == "superblock-damaged":
@@ -229,6 +238,12 @@ def doubt_in_words(report, words):
         condition = f"its {counted(count, 'byte')} are copied before extent {extent} is reset, or nobody needs that chunk any more"
         texts = [f"A chunk of {owner} can't be read at its place, and its spare copies are only in candidates, the first in "
                  f"extent {extent} at {offset:,}.", "Let the node write an entry that names this copy."]
+    elif kind == "remains":
+        extent, offset, count = number
+        place, condition = (extent, offset), "these bytes were searched, or nobody needs those chunks any more"
+        asks = f"{counted(count, 'locator')} of broken shards {'asks' if count == 1 else 'ask'} for"
+        texts = [f"Extent {extent} has torn or noise items, the first at {offset:,}, in which a copy may begin of what {asks}.",
+                 "Let the node write newer entries of these shards."]
     elif kind == "tail":
         extent, offset, count = number
         place, condition = (extent, offset), wrote_nothing
@@ -240,7 +255,7 @@ def doubt_in_words(report, words):
         what = (f"page {first} is unreadable and has" if first == last else f"pages {first} to {last} are unreadable and have")
         texts = [f"Extent {extent}: {what} bytes past the write pointer. Read {'it' if first == last else 'them'} again."]
     if has_superblock(report):
-        it = "its line" if kind == "spare" else "it"
+        it = "its line" if kind in ("spare", "remains") else "it"
         begins = f"Accept {it} only if" if state == "doubt" else "It was accepted. That is right only if"
         texts.append(f"{begins} {condition}." if condition else "It can't be accepted.")
     return " ".join(texts), place if on_disk(report, place) else None
@@ -267,7 +282,7 @@ def verdict(report, outputs):
     if not report["clean"] or wrong_count(report, outputs):
         return "wrong"
     printed = outputs.get("superblocks")
-    if printed is None or any(extent["tail"] for extent in report["extents"]):
+    if printed is None or any(extent["tail"] for extent in report["extents"]) or is_another_last(report, outputs):
         return "doubt"
     words = [line.split() for line in lines_of(printed)]
     is_whole = all(one[0] == "record" for one in words) and [one[4] for one in words].count("counts") == 1
@@ -310,7 +325,7 @@ def live_doubt(report, outputs):
     chosen = report["super"]
     if not has_superblock(report):
         return ""
-    if damaged_pages(outputs) or chosen["bad"] or chosen["tie"]:
+    if damaged_pages(outputs) or chosen["bad"] or chosen["tie"] or is_another_last(report, outputs):
         return "if the superblock is the newest"
     if any(one["state"] != "read" for one in report["runs"]):
         return "by the index runs that were read"
@@ -423,6 +438,8 @@ def banner_parts(report, outputs):
         parts.append(f"{counted(len(unreadable), 'unreadable page')} in {extents_text(extents)}")
     if may_spares_go(report, outputs):
         parts.append("A candidate may have the last copy of a chunk of a broken shard")
+    if is_another_last(report, outputs):
+        parts.append("The superblock that counts isn't the last one by the node's log.")
     return parts
 
 

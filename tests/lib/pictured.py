@@ -9,28 +9,32 @@ from lib.disks import Disk, locator, run, sealed_frame, shard, uuid
 from lib.examples import scans_of
 from lib.picture import items_of, kind_of
 from lib.program import TOP, program
-from lib.reference import ACCEPTABLE, Image, reclaimable, scrub, superblocks
+from lib.reference import Image, reclaimable, refusal, scrub, superblocks
 from lib.summaries import geometry_of
 
 
 class Pictured:
     """A disk with its report and its outputs, from the slow reference."""
 
-    def __init__(self, image, accepted=()):
-        self.raw, self.unreadable, self.accepted = image.raw, sorted(image.unreadable), list(accepted)
+    def __init__(self, image, accepted=(), last=None):
+        self.raw, self.unreadable, self.accepted, self.last = image.raw, sorted(image.unreadable), list(accepted), last
         self.report, _, _, locators = scrub(image)
         self.outputs = {"superblocks": superblocks(image)[0], "locators": locators,
-                        "reclaimable": reclaimable(image, accepted)[0]}
+                        "reclaimable": reclaimable(image, accepted, last)[0]}
+
+    def options(self):
+        """The words of reclaimable for what is accepted."""
+        return [word for line in self.accepted for word in ("--accept", line)] + ["--last", str(self.last)] * (self.last is not None)
 
 
 def lines_to_accept(image):
     """The doubts of a disk that can be accepted, each by its line."""
-    words = [line.split()[1:] for line in reclaimable(image)[0].splitlines() if line.startswith("doubt ")]
-    return [" ".join(one) for one in words if one[0] in (*ACCEPTABLE, "spare")]
+    doubts = [line.removeprefix("doubt ") for line in reclaimable(image)[0].splitlines() if line.startswith("doubt ")]
+    return [doubt for doubt in doubts if refusal(doubt) is None]
 
 
-def of_disk(disk, unreadable=(), accepted=()):
-    return Pictured(Image(bytes(disk.bytes), disk.page, disk.pages, disk.extents, unreadable), accepted)
+def of_disk(disk, unreadable=(), accepted=(), last=None):
+    return Pictured(Image(bytes(disk.bytes), disk.page, disk.pages, disk.extents, unreadable), accepted, last)
 
 
 def shards_on(disk, extents, chunks=6):
@@ -164,6 +168,22 @@ def spare_is_safe():
     return rotted((2, 138), (3, 384))
 
 
+def with_remains():
+    """Two shards have lost a chunk, and two candidates have noise."""
+    disk = Disk(16, 8)
+    chunks = [disk.chunk(1, 0, uuid(0x11), b"what shard 1 asks for"), disk.chunk(1, 59, uuid(0x12), b"what shard 2 asks for")]
+    disk.spoil(1, 30)
+    disk.spoil(1, 90)
+    for extent, offset in ((2, 140), (4, 138)):
+        disk.chunk(extent, 0, uuid(0x50 + extent), bytes(100))
+        disk.put(extent, offset, b"noise")
+        disk.pointers[extent - 1] = 192
+    live = disk.chunk(5, 0, uuid(0x71), b"a live chunk")
+    entries = [(shard(1), chunks[:1]), (shard(2), [chunks[1], live])]
+    disk.superblock(0, 5, disk.chunk(3, 0, uuid(0xE0), run(*entries)))
+    return disk
+
+
 def full():
     """Each extent but the listed ones has damage or no bytes left, so there is no room but in the listed ones."""
     disk = Disk(8, 4)
@@ -216,7 +236,7 @@ def most_extents():
 
 SPARE_OF_ROTTED = f"spare 2 138 21 {'44444444-4444-4444-4444-444444444444'} shard {1:032x} 59"
 
-# The disks for pictures, by name: the function that makes each, its unreadable pages, and the doubts to accept.
+# The disks for pictures, by name: the function that makes each, its unreadable pages, the doubts to accept, and the generation for --last.
 LOOKED_AT = {
     "in-order": (in_order, []),
     "flipped-bit": (flipped_bit, []),
@@ -231,6 +251,10 @@ LOOKED_AT = {
     "spare-at-risk": (spare_at_risk, []),
     "spare-accepted": (spare_at_risk, [], [SPARE_OF_ROTTED]),
     "spare-is-safe": (spare_is_safe, []),
+    "remains": (with_remains, []),
+    "remains-accepted": (with_remains, [], ["remains 2 138 2", "remains 4 138 2"]),
+    "the-last": (several_tails, [], [], 3),
+    "not-the-last": (in_order, [], [], 42),
     "full": (full, []),
     "room-behind-zeros": (room_behind_zeros, []),
     "spare-and-tail": (spare_and_tail, [], ["tail 6 300 5"]),

@@ -9,8 +9,8 @@ import random
 from lib import reference
 from lib.disks import frame, sealed_frame
 from lib.drive import (Engine, Full, acceptable, all_accepted, bindings_of, doubts_in, held, is_held, lines_with, locator_of,
-                       named_locators, place_of, put_record, record_pages, require, run_of)
-from lib.node import DRIVES, UNEXPLAINED, Node, worn
+                       named_locators, open_doubts_in, place_of, put_record, record_pages, require, run_of)
+from lib.node import DRIVES, WRITTEN_AFTER, Node, worn
 from lib.reference import SEALED, choose, frame_at, write_locator
 
 
@@ -45,11 +45,12 @@ def with_spare_given_up(text, given_up):
 
 
 class Walk:
-    """One walk through the boxes. `slip` is where a mistake changes what is done."""
+    """One walk through the boxes. `slip` is where a mistake changes what is done. By the node's log `known` is the generation of the last
+    superblock, and `written_after` says whether something was written after it."""
 
-    def __init__(self, engine, drive, known, choice, mistake=None, without=(), unexplained=()):
+    def __init__(self, engine, drive, known, choice, mistake=None, without=(), written_after=False):
         self.engine, self.drive, self.known, self.choice = engine, drive, known, choice
-        self.mistake, self.unexplained = mistake, unexplained
+        self.mistake, self.written_after = mistake, written_after
         self.without = {*without, *(mistake.without if mistake else ())}
         self.slipped = mistake is not None and bool(mistake.without)
         self.node = None
@@ -65,8 +66,13 @@ class Walk:
                 return other
         return value
 
-    def ask(self, box, command, accepted=(), resets=()):
-        return self.engine.ask(self.slip(f"image of box {box}", self.drive), command, accepted, resets)
+    def image_of(self, box):
+        """The image on which a box is done: 1.img up to box 3, and also in box 7 if nothing was copied; else a new one."""
+        is_first = box <= 3 or box == 7 and not self.parts
+        return self.slip(f"image of box {box}", self.first if is_first else self.drive)
+
+    def ask(self, box, command, accepted=(), resets=(), last=None):
+        return self.engine.ask(self.image_of(box), command, accepted, resets, last)
 
     def check(self, box, condition, why, look=None):
         """Stops if the condition doesn't hold, unless the box or this look of it is left out."""
@@ -75,9 +81,7 @@ class Walk:
 
     def go(self):
         """Resets some extents. Returns whether there was anything to do."""
-        self.first_raw = bytes(self.drive.raw)
-        self.explained = [line for line in doubts_in(self.engine.ask(self.drive, "reclaimable")[0])
-                          if line.split()[0] not in self.unexplained]
+        self.first = self.drive.copy()
         self.running = Node(self.drive, self.choice)
         if choose(self.drive.image())["page"] is not None:
             self.running.resume()
@@ -91,7 +95,7 @@ class Walk:
         if not self.choose():
             return False
         self.slip("before box 4", ())
-        chosen = choose(self.drive.image())
+        chosen = choose(self.first.image())
         self.fields = self.first_fields = {key: chosen[key] for key in FIELDS}
         if self.parts:
             self.box_4()
@@ -114,19 +118,19 @@ class Walk:
         return found
 
     def box_1(self):
-        self.generation = self.superblocks(1, None)
-        self.check(1, self.generation >= self.known, f"generation {self.generation} counts, not {self.known}")
+        self.check(1, not self.slip("written after", self.written_after), "something was written after the last superblock")
+        self.generation = self.slip("last", self.known)
+        text, _ = self.ask(1, "reclaimable", last=self.generation)
+        self.check(1, not lines_with(text, "doubt last"), f"generation {self.generation} doesn't count")
+        self.superblocks(1, self.generation)
 
     def box_2(self):
-        text, _ = self.ask(2, "reclaimable")
-        self.doubts = doubts_in(text)
-        self.check(2, len(acceptable(self.doubts)) == len(self.doubts), "a doubt that can't be accepted")
-        accepted = self.slip("accepted", [d for d in self.doubts if d in self.explained])
-        self.check(2, set(accepted) >= set(self.doubts), "a doubt without an explanation")
-        self.listing, clear = self.ask(2, "reclaimable", accepted)
-        self.raw_of_2 = bytes(self.slip("image of box 2", self.drive).raw)
+        text, _ = self.ask(2, "reclaimable", last=self.generation)
+        self.doubts, left = doubts_in(text), open_doubts_in(text)
+        self.check(2, acceptable(left) == left, "a doubt that can't be accepted")
+        self.listing, clear = self.ask(2, "reclaimable", left, last=self.generation)
+        self.image_of_2 = self.image_of(2).copy()
         self.check(2, clear, "status 1")
-        self.accepted = accepted
         for words in [d.split() for d in self.doubts if d.startswith("spare ")]:
             self.settle_spare(words, self.choice.choice(["name", "copy", "give up"]))
 
@@ -140,17 +144,17 @@ class Walk:
         if way == "copy":
             self.owed.append(Part(place, int(count)))
         elif way == "give up":
-            entry = bindings_of(self.drive)[identifier][0]
-            payload = frame_at(self.drive.image(), *place[:1], self.drive.size, place[1])[3]
+            entry = bindings_of(self.first)[identifier][0]
+            payload = frame_at(self.first.image(), *place[:1], self.drive.size, place[1])[3]
             for k, c in enumerate(entry):
                 if c["length"] == len(payload) and c["digest"] == reference.sha(payload):
                     self.given_up.add((identifier, k))
 
     def name_spare(self, identifier, place, uuid, length):
         """Writes an entry in which the shard's dangling locators of this payload name the spare."""
-        chosen = choose(self.drive.image())
-        payload = frame_at(self.drive.image(), place[0], chosen["pointers"][place[0] - 1], place[1])[3]
-        named = [(owner, c, status) for owner, c, status in named_locators(self.drive) if owner == identifier]
+        chosen = choose(self.first.image())
+        payload = frame_at(self.first.image(), place[0], chosen["pointers"][place[0] - 1], place[1])[3]
+        named = [(owner, c, status) for owner, c, status in named_locators(self.first) if owner == identifier]
         entry = [{**c, "extent": place[0], "offset": place[1], "uuid": uuid}
                  if status not in ("sound", "hidden") and (c["length"], c["digest"]) == (length, reference.sha(payload)) else c
                  for _, c, status in named]
@@ -209,9 +213,9 @@ class Walk:
         self.parts = [Part(place, count) for place, count in places.items()]
         self.parts += [Part(part.place, part.count) for part in self.owed if part.place[0] in some]
         shards = sorted({bytes.fromhex(w[6]) for w in moves if w[5] == "shard"})
-        bindings = bindings_of(self.drive)
-        if not bindings.keys() >= set(shards):  # a node has deleted one since the listing
-            bindings = {**bindings_of(self.drive.copy(self.raw_of_2)), **bindings}
+        bindings = bindings_of(self.first)
+        if not bindings.keys() >= set(shards):  # box 2 was done on another image
+            bindings = {**bindings_of(self.image_of_2), **bindings}
         self.entries = [(i, bindings[i][0]) for i in shards]
         self.form = self.choice.choice([frame, sealed_frame])
         run_part = Part(None, len(self.form(bytes(16), run_of(self.entries))))
@@ -224,8 +228,9 @@ class Walk:
             part.target = (x, left[x][0])
             left[x][0] += part.count
         if self.parts or self.entries:
-            runs = len(choose(self.drive.image())["runs"]) + bool(self.entries)
-            size = len(self.drive.record(0, [0] * (self.drive.extents - 1), choose(self.drive.image())["retired"],
+            chosen = choose(self.first.image())
+            runs = len(chosen["runs"]) + bool(self.entries)
+            size = len(self.drive.record(0, [0] * (self.drive.extents - 1), chosen["retired"],
                                          [locator_of(0, 0, bytes(16), b"")] * runs))
             if runs > 32 or not record_pages(self.drive, size):
                 return False
@@ -296,23 +301,26 @@ class Walk:
         return with_spare_given_up(text, self.given_up) == with_spare_given_up(self.kept, self.given_up)
 
     def box_7(self):
-        self.raw_of_7 = bytes(self.drive.raw)
+        self.raw_of_7 = bytes((self.drive if self.parts else self.first).raw)
         self.superblocks(7, self.generation + bool(self.parts))
         text, _ = self.ask(7, "manifest", resets=self.slip("resets", self.chosen))
         self.check(7, self.is_kept(text), "the manifest differs", "manifest of box 7")
-        text, _ = self.ask(7, "reclaimable")
+        generation = self.generation + bool(self.parts)
+        text, _ = self.ask(7, "reclaimable", last=generation)
         doubts = doubts_in(text)
         for line in doubts:
             words = line.split()
             tail = words[0] == "tail" and int(words[1]) in self.ends and any(d.startswith(f"tail {words[1]} ") for d in self.doubts)
             self.check(7, line in self.doubts or tail or words[0] == "spare", f"a new doubt: {line}", "doubts of box 7")
-        text, clear = self.ask(7, "reclaimable", doubts)
+        text, clear = self.ask(7, "reclaimable", acceptable(open_doubts_in(text)), last=generation)
         self.check(7, clear, "status 1", "doubts of box 7")
         listed, moves = ({int(words[1]) for words in lines_with(text, word)} for word in ("reclaim", "move"))
         self.check(7, set(self.chosen) <= listed - moves, "an extent isn't listed without moves", "listing of box 7")
         self.doubts_7 = doubts
 
     def box_8(self):
+        self.superblocks(8, self.fields["generation"])
+        self.slip("after box 8a", ())
         pointers = [0 if e in self.slip("extents of box 8", self.chosen) else w for e, w in enumerate(self.fields["pointers"], 1)]
         self.slip("before box 8", ())
         generation = self.fields["generation"] + 1
@@ -323,13 +331,14 @@ class Walk:
         self.superblocks(8, generation)
         text, _ = self.ask(8, "manifest")
         self.check(8, self.is_kept(text), "the manifest differs", "manifest of box 8")
-        text, _ = self.ask(8, "reclaimable")
+        text, _ = self.ask(8, "reclaimable", last=generation)
         doubts = doubts_in(text)
         for line in doubts:
             words = line.split()
             tail = words[0] == "tail" and int(words[1]) in self.chosen
-            self.check(8, line in self.doubts_7 or tail or words[0] == "spare", f"a new doubt: {line}", "doubts of box 8")
-        text, clear = self.ask(8, "reclaimable", doubts)
+            remains = words[0] == "remains" and self.given_up
+            self.check(8, line in self.doubts_7 or tail or remains or words[0] == "spare", f"a new doubt: {line}", "doubts of box 8")
+        text, clear = self.ask(8, "reclaimable", acceptable(open_doubts_in(text)), last=generation)
         self.check(8, clear, "status 1", "doubts of box 8")
         listed = {int(words[1]) for words in lines_with(text, "reclaim")}
         self.check(8, not listed & set(self.chosen), "an extent is still listed", "listing of box 8")
@@ -394,6 +403,8 @@ def walk_honestly(engine, seed, seen):
         seen["walk: runs moved"] += sum(w[5] == "run" for e in walk.chosen for w in walk.listed[e])
         seen["walk: copies into last rooms"] += sum(part.target[0] in walk.last_rooms for part in walk.parts)
         seen["walk: spares given up"] += bool(walk.given_up)
+        seen["walk: remains given up"] += any(line.startswith("remains ") for line in walk.doubts)
+        seen["walk: tails that --last accepts"] += any(line.startswith("tail ") for line in walk.doubts)
         seen["walk: spares copied"] += sum(part.place in [p.place for p in walk.owed] for part in walk.parts)
         after = erased(drive, walk.chosen, choice)
         require(is_held(before, held(after), walk.given_up), f"disk {seed}: after the reset of {walk.chosen} something is lost")
@@ -455,7 +466,7 @@ def trial(engine, one, seed, without=()):
         return None
     (drive, known, before), choice = found, random.Random(f"{seed} {one.name}")
     drive = drive.copy()
-    walk = Walk(engine, drive, known, choice, one, without, UNEXPLAINED.get(one.drive, ()))
+    walk = Walk(engine, drive, known, choice, one, without, one.drive in WRITTEN_AFTER)
     stopped = None
     try:
         if not walk.go():

@@ -2,7 +2,7 @@
 
 A disk with unreadable pages is a tuple: the disk, and the words of these pages.
 """
-from lib.disks import Disk, be, locator, run, shard, uuid
+from lib.disks import Disk, be, frame, locator, run, shard, uuid
 
 ONES, TWOS, THREES, FOURS = map(uuid, (0x11, 0x22, 0x33, 0x44))
 # A UUID that ends in the magic of a frame.
@@ -133,3 +133,64 @@ def many_shards(is_halved=False):
             disk.chunk(number, 41, uuid(number), b"abc")
     disk.superblock(0, 1, disk.chunk(39, 0, uuid(0xF0), run(*entries)))
     return disk
+
+
+def two_generations():
+    """A disk with pages of 1,024 bytes, 2 to an extent, and its eight runs, newest first. The newest run names a chunk in extent 3, the
+    next one a chunk in extent 1. Generation 7, on page 1, lists all runs but the newest. Page 0 is for generations 6 and 8."""
+    disk = Disk(2, 4, 1024)
+    kept = disk.chunk(1, 0, ONES, b"abc")
+    new = disk.chunk(3, 0, FOURS, b"new")
+    entries = [(shard(1), [new]), (shard(2), [kept]), *((shard(number), []) for number in range(3, 9))]
+    runs = []
+    for number, entry in enumerate(entries):
+        runs.append(disk.chunk(2, disk.pointers[1], uuid(0xA0 + number), run(entry)))
+    disk.superblock(1, 7, *runs[1:])
+    return disk, runs
+
+
+def torn_newest():
+    """Of generation 8, of 550 bytes, the second sector arrived over generation 6, of 490 bytes."""
+    disk, runs = two_generations()
+    disk.superblock(0, 8, *runs)
+    second = bytes(disk.bytes[512:550])
+    disk.bytes[0:disk.page] = bytes(disk.page)
+    disk.superblock(0, 6, *runs[1:])
+    disk.put(0, 512, second)
+    return disk
+
+
+def whole_newest():
+    disk, runs = two_generations()
+    disk.superblock(0, 8, *runs)
+    return disk
+
+
+def shorter_over_longer():
+    """Generation 6 lists no run, and the rest of generation 5 is behind it."""
+    disk, runs = two_generations()
+    disk.superblock(0, 5, *runs[1:])
+    disk.superblock(0, 6)
+    return disk
+
+
+def byte_after_the_superblock():
+    """Generations 6 and 7 are whole, and a byte is past the pointer of extent 1."""
+    disk, runs = two_generations()
+    disk.superblock(0, 6, *runs[1:])
+    disk.put(1, 41, b"x")
+    return disk
+
+
+def behind_a_damaged_frame(is_second_lost=False):
+    """Extent 1 has a frame whose last bytes are others, and directly after it the last whole copy of the first shard's chunk, at which no
+    item begins. The chunk that the shard names, in extent 2, has rotted; maybe that of the second shard, too."""
+    disk = Disk(8, 4)
+    copy = frame(ONES, b"abc")
+    damaged = frame(THREES, bytes(20))[:-1] + b"x"
+    disk.put(1, 0, damaged + copy)
+    disk.chunk(2, 0, ONES, b"abX")
+    disk.chunk(2, 41, TWOS, b"dX" if is_second_lost else b"de")
+    entries = (shard(1), [abc(2, 0)]), (shard(2), [locator(2, 41, TWOS, b"de")])
+    named = disk.chunk(3, 0, uuid(0xAA), run(*entries))
+    return finish(disk, [len(damaged + copy), 81, disk.pointers[2]], [named])

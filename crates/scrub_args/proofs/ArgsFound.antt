@@ -1,8 +1,9 @@
 -- What the getters of `clap` read, by what it found; and what its errors come to.
-use Rattle.std.proofs.Common.{◌≡◌, ◌⊎◌, ◌∙◌, ◌<◌, ◌≤◌, ◌^◌, inl, inr, ℕ, List, [], Option, None, Some, Result, Ok, Err, sym, subst, refl, map, MatchOption, ap, false, true}
+use Rattle.std.proofs.Common.{◌≡◌, ◌⊎◌, ◌∙◌, ◌<◌, ◌≤◌, ◌^◌, inl, inr, ℕ, Bool, List, [], Option, None, Some, Result, Ok, Err, sym, subst, refl, map, MatchOption, ap, false, true}
 use Rattle.std.specs.Prelude.{unwrap_or, option_map, is_none, is_some, ◌&&◌, ◌||◌}
 use Rattle.std.proofs.lemmas.Bool.{false≢true}
 use Rattle.std.specs.Borrow.{Bor}
+use Rattle.std.specs.Str.{bytes_eq}
 use Rattle.std.specs.Str.Parse.{ParsesUnsigned, ExplainsUnsignedError, HasUnsignedDigitsIfOk}
 use Rattle.std.specs.Option.{UnwrapsOrElse}
 use Rattle.std.specs.declared.num.ParseIntError.{ParseIntError}
@@ -21,7 +22,7 @@ use Rattle.scrub_args.specs.declared.args.Wanted.TheVariants.{Report, Index, Loc
 use Rattle.scrub_args.specs.declared.args.ArgsFault.{ArgsFault}
 use Rattle.scrub_args.specs.declared.args.ArgsFault.TheVariants.{Refused, Help, OutOfMemory}
 use Rattle.scrub_args.specs.CommandLine.{shardscrub_app}
-use Rattle.scrub_args.specs.steps.Parsed.{ComesOf, HasImage, HasImageName, HasItems, HasManifest, HasNumber, HasScan, HasShard, IsWholeCommand, IsWholeParse}
+use Rattle.scrub_args.specs.steps.Parsed.{ComesOf, HasDated, HasImage, HasImageName, HasItems, HasManifest, HasNumber, HasScan, HasNeeds, HasShard, IsWholeCommand, IsWholeParse, MayHaveLongNumber, is_dated_command, is_disk_command}
 use Rattle.scrub_args.specs.Accepting.{first_unacceptable, refusal_of}
 use Rattle.scrub_args.specs.Args.{AreSizesGiven, AskForVersion, HasPartOfSizes, IsTextFault, IsNumberOf, IsPartFault, IsRefusal, IsRowsFault, IsArgsFault, IsWorkersOf, RefusesRows, accepted_of, command_of, part_text}
 use Rattle.scrub_args.specs.declared.args.GivenSizes.{GivenSizes}
@@ -181,8 +182,18 @@ module _ (command : Option (Text × List Row)) (name : Text) (found : List Row) 
   disk_of_whole Report is = subst (λ (n : Text). IsWholeCommand n found) is met_whole
   disk_of_whole Index is = subst (λ (n : Text). IsWholeCommand n found) is met_whole
   disk_of_whole Locators is = subst (λ (n : Text). IsWholeCommand n found) is met_whole
-  disk_of_whole Summary is = subst (λ (n : Text). IsWholeCommand n found) is met_whole
-  disk_of_whole (Reclaimable accepted) is = subst (λ (n : Text). IsWholeCommand n found) is met_whole
+  disk_of_whole (Summary last) is = let dated : HasDated found = subst (λ (n : Text). IsWholeCommand n found) is met_whole in dated.scan
+  disk_of_whole (Reclaimable accepted last) is = let dated : HasDated found = subst (λ (n : Text). IsWholeCommand n found) is met_whole in dated.scan
+
+  -- a command to which the generation of the last superblock can be given
+  pub last_of_whole : is_dated_command name ≡ true → MayHaveLongNumber found (codes "last")
+  last_of_whole dated = go (is_dated_command name) dated met_whole
+    where
+      go : (b : Bool) → b ≡ true →
+          HasNeeds b (is_disk_command name) (bytes_eq name (codes "manifest")) (bytes_eq name (codes "shard")) (bytes_eq name (codes "superblocks")) (bytes_eq name (codes "sizes")) (bytes_eq name (codes "items")) (bytes_eq name (codes "demo")) found
+          → MayHaveLongNumber found (codes "last")
+      go true e needs = needs.last
+      go false e needs = absurd (false≢true e)
 
   pub manifest_of_whole : name ≡ codes "manifest" → HasManifest found
   unfolding clap_on_literals

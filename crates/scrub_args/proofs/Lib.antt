@@ -4,6 +4,7 @@ pub mod Whole
 pub mod Examples
 pub mod Acceptable
 pub mod ArgsFound
+pub mod LongNumbers
 pub mod Numbers
 pub mod Pairs
 pub mod Orders

@@ -29,9 +29,9 @@ use Rattle.scrub_args.specs.declared.args.Wanted.TheVariants.{Report, Index, Loc
 use Rattle.scrub_args.specs.declared.args.Request.TheVariants.{Demo, Items, Disk, Manifest, Shard, Superblocks, Sizes}
 use Rattle.scrub_args.specs.CommandLine.{shardscrub_app}
 use Rattle.scrub_args.specs.Order.{AreExchanged, HasOptions}
-use Rattle.scrub_args.specs.Args.{AcceptsFound, AreImageArgs, AreItemsArgs, AreManifestArgs, AreScanArgs, AreShardArgs, AreSizesGiven, AreSizesArgs, IsAskedBy, IsNumberOf, IsWorkersOf, NameCommand, command_of}
+use Rattle.scrub_args.specs.Args.{AreImageArgs, AreItemsArgs, AreManifestArgs, AreScanArgs, AreShardArgs, AreSizesGiven, AreSizesArgs, IsAskedBy, IsLastOf, IsLongNumberOf, IsNumberOf, IsWantedWith, IsWorkersOf, NameCommand, command_of}
 use Rattle.scrub_args.proofs.Numbers.{many_same}
-use Rattle.scrub_args.proofs.Whole.{built_items, built_manifest, built_reclaimable, built_shard, built_sizes, built_superblocks, disk, looked}
+use Rattle.scrub_args.proofs.Whole.{built_items, built_manifest, built_reclaimable, built_shard, built_sizes, built_summary, built_superblocks, disk, looked}
 
 -- a pair that was found
 pair_names : {A B : Type 0} (a c : A) (b d : B) → ◌≡◌ {A = Option (A × B)} (Some (a, b)) (Some (c, d)) → a ≡ c
@@ -95,15 +95,22 @@ module _ (xs ys : List Row) (same : AreSame xs ys) where
     id = sym (first_same xs ys same (codes "id")) ∙ read.id;
   }
 
-  accepts_same : (wanted : Wanted) → AcceptsFound xs wanted → AcceptsFound ys wanted
-  accepts_same Report read = tt
-  accepts_same Index read = tt
-  accepts_same Locators read = tt
-  accepts_same Summary read = tt
-  accepts_same (Reclaimable accepted) read = record {
-    given = rw (all_same xs ys same (codes "accept")) at read.given;
-    acceptable = rw (all_same xs ys same (codes "accept")) at read.acceptable;
-  }
+  last_same : (last : Option ℕ) → IsLastOf xs last → IsLastOf ys last
+  last_same None none = sym (one_same xs ys same (codes "last")) ∙ none
+  last_same (Some n) read = (read.0, sym (one_same xs ys same (codes "last")) ∙ read.1, read.2)
+
+  wanted_same : (wanted : Wanted) → IsWantedWith xs wanted → IsWantedWith ys wanted
+  wanted_same Report read = tt
+  wanted_same Index read = tt
+  wanted_same Locators read = tt
+  wanted_same (Summary last) read = last_same last read
+  wanted_same (Reclaimable accepted last) read = (
+    record {
+      given = rw (all_same xs ys same (codes "accept")) at read.0.given;
+      acceptable = rw (all_same xs ys same (codes "accept")) at read.0.acceptable;
+    },
+    last_same last read.1,
+  )
 
   sizes_same : (args : SizesArgs) → AreSizesArgs xs args → AreSizesArgs ys args
   sizes_same args read = record {
@@ -137,7 +144,7 @@ module _ (xs ys : List Row) (same : AreSame xs ys) where
   )
   asked_same name (Disk wanted args) asked =
       let rows = pair_rows name (command_of wanted) xs asked.0 asked.1 in
-      (ys, renamed name (command_of wanted) asked.0 asked.1, accepts_same wanted (rw rows at asked.2), scan_same args (rw rows at asked.3))
+      (ys, renamed name (command_of wanted) asked.0 asked.1, wanted_same wanted (rw rows at asked.2), scan_same args (rw rows at asked.3))
   asked_same name (Superblocks args) asked = (
     ys,
     renamed name (codes "superblocks") asked.0 asked.1,
@@ -253,10 +260,13 @@ reclaimable_by_name = (
           (
             (refl, inr refl, refl, refl),
             (
-              (refl, inl refl, refl, refl),
+              (refl, inr refl, refl, refl),
               (
                 (refl, inl refl, refl, refl),
-                ((refl, inr refl, refl, refl), tt),
+                (
+                  (refl, inl refl, refl, refl),
+                  ((refl, inr refl, refl, refl), tt),
+                ),
               ),
             ),
           ),
@@ -295,6 +305,34 @@ sizes_by_name = ((refl, inr refl, refl, refl), ((refl, inl refl, refl, refl), ((
 shard_by_name : EachRule IsByName built_shard.rules
 unfolding clap_on_literals
 shard_by_name = (
+  (refl, inr refl, refl, refl),
+  (
+    (refl, inr refl, refl, refl),
+    (
+      (refl, inr refl, refl, refl),
+      (
+        (refl, inr refl, refl, refl),
+        (
+          (refl, inr refl, refl, refl),
+          (
+            (refl, inr refl, refl, refl),
+            (
+              (refl, inl refl, refl, refl),
+              (
+                (refl, inl refl, refl, refl),
+                ((refl, inr refl, refl, refl), tt),
+              ),
+            ),
+          ),
+        ),
+      ),
+    ),
+  ),
+)
+
+summary_by_name : EachRule IsByName built_summary.rules
+unfolding clap_on_literals
+summary_by_name = (
   (refl, inr refl, refl, refl),
   (
     (refl, inr refl, refl, refl),
@@ -388,7 +426,7 @@ enters_shard : Enters (codes "shard") built_shard
 unfolding clap_on_literals
 enters_shard = record { first = refl; clean = refl; faults = λ args. refl; rows = λ args. refl }
 
-enters_summary : Enters (codes "summary") (looked (codes "summary"))
+enters_summary : Enters (codes "summary") built_summary
 unfolding clap_on_literals
 enters_summary = record { first = refl; clean = refl; faults = λ args. refl; rows = λ args. refl }
 
@@ -463,7 +501,7 @@ order_is_free args others request x asked = go x.options
     go (inr (inr (inr (inr (inl shard))))) =
         exchanged (codes "shard") built_shard enters_shard (plain shard_by_name refl) args others x shard request asked
     go (inr (inr (inr (inr (inr (inl summary)))))) =
-        exchanged (codes "summary") (looked (codes "summary")) enters_summary (plain (looked_by_name (codes "summary")) refl) args others x summary request asked
+        exchanged (codes "summary") built_summary enters_summary (plain summary_by_name refl) args others x summary request asked
     go (inr (inr (inr (inr (inr (inr (inl reclaimable))))))) =
         exchanged (codes "reclaimable") built_reclaimable enters_reclaimable (plain reclaimable_by_name refl) args others x reclaimable request asked
     go (inr (inr (inr (inr (inr (inr (inr (inl superblocks)))))))) =

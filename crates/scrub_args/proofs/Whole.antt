@@ -14,8 +14,9 @@ use Rattle.clap_walk.specs.Rows.{EachRow, IsSound}
 use Rattle.clap_walk.specs.Rules.{AreUsual}
 use Rattle.clap_walk.proofs.Walks.{IsNoHelp, parts, walk_stops}
 use Rattle.clap_walk.proofs.Given.{IsNumberRule, IsTextRule, are_given, has_number, has_text, may_have_number, rows_sound}
-use Rattle.scrub_args.specs.CommandLine.{demo_shape, free_shape, image_shape, items_shape, manifest_shape, reclaimable_shape, shard_shape, shardscrub_app, sizes_shape, superblocks_shape, workers_rule}
-use Rattle.scrub_args.specs.steps.Parsed.{HasImage, HasImageName, HasItems, HasManifest, HasScan, HasShard, IsWholeParse}
+use Rattle.scrub_args.specs.CommandLine.{demo_shape, free_shape, image_shape, items_shape, manifest_shape, reclaimable_shape, shard_shape, shardscrub_app, sizes_shape, summary_shape, superblocks_shape, workers_rule}
+use Rattle.scrub_args.specs.steps.Parsed.{HasDated, HasImage, HasImageName, HasItems, HasManifest, HasScan, HasShard, IsWholeParse}
+use Rattle.scrub_args.proofs.LongNumbers.{may_have_long}
 use Rattle.scrub_args.proofs.Numbers.{has_numbers}
 
 -- the commands as `clap` builds them
@@ -33,6 +34,9 @@ built_manifest = leaf manifest_shape
 
 abbrev pub built_shard : Shape
 built_shard = leaf shard_shape
+
+abbrev pub built_summary : Shape
+built_summary = leaf summary_shape
 
 abbrev pub built_reclaimable : Shape
 built_reclaimable = leaf reclaimable_shape
@@ -170,6 +174,37 @@ shard_usual = (
   (refl, (refl, (refl, (refl, (refl, (refl, (refl, (refl, (refl, tt))))))))),
 )
 
+summary_usual : AreUsual built_summary.rules
+unfolding clap_on_literals
+summary_usual = (
+  (
+    (refl, inr (inl refl, refl, refl)),
+    (
+      (refl, inr (inl refl, refl, refl)),
+      (
+        (refl, inr (inl refl, refl, refl)),
+        (
+          (refl, inr (inl refl, refl, refl)),
+          (
+            (refl, inr (inl refl, refl, refl)),
+            (
+              (refl, inr (inl refl, refl, refl)),
+              (
+                (refl, inr (inl refl, refl, refl)),
+                (
+                  (refl, inr (inr refl, refl, refl)),
+                  ((refl, inl refl), tt),
+                ),
+              ),
+            ),
+          ),
+        ),
+      ),
+    ),
+  ),
+  (refl, (refl, (refl, (refl, (refl, (refl, (refl, (refl, (refl, tt))))))))),
+)
+
 reclaimable_usual : AreUsual built_reclaimable.rules
 unfolding clap_on_literals
 reclaimable_usual = (
@@ -188,8 +223,11 @@ reclaimable_usual = (
               (
                 (refl, inr (inl refl, refl, refl)),
                 (
-                  (refl, inr (inr refl, refl, refl)),
-                  ((refl, inl refl), tt),
+                  (refl, inr (inl refl, refl, refl)),
+                  (
+                    (refl, inr (inr refl, refl, refl)),
+                    ((refl, inl refl), tt),
+                  ),
                 ),
               ),
             ),
@@ -198,7 +236,7 @@ reclaimable_usual = (
       ),
     ),
   ),
-  (refl, (refl, (refl, (refl, (refl, (refl, (refl, (refl, (refl, tt))))))))),
+  (refl, (refl, (refl, (refl, (refl, (refl, (refl, (refl, (refl, (refl, tt)))))))))),
 )
 
 superblocks_usual : AreUsual built_superblocks.rules
@@ -342,8 +380,25 @@ manifest_whole args clean =
       resets = has_numbers c rows known.0 (codes "reset") _ refl refl refl;
     }
 
+summary_whole : (args : List Text) → level_fault built_summary [] nothing_held args false [] ≡ [] →
+    HasDated (rows_at built_summary args).1
+unfolding clap_on_literals
+summary_whole args clean =
+    let c = built_summary.rules in
+    let rows = (rows_at built_summary args).1 in
+    let known = rows_sound built_summary summary_usual args clean in
+    let given = are_given rows (codes "image" ∷ []) known.1 in
+    let rules : AreImageRules c = image_rules (_, refl, refl, refl) (_, refl, refl, refl) (_, refl, refl, refl) (_, refl) in
+    record {
+      scan = record {
+        disk = image_looked c rows known.0 rules given.0;
+        workers = may_have_number c rows known.0 (codes "workers") _ refl 64 refl refl;
+      };
+      last = may_have_long c rows known.0 (codes "last") _ refl refl refl;
+    }
+
 reclaimable_whole : (args : List Text) → level_fault built_reclaimable [] nothing_held args false [] ≡ [] →
-    HasScan (rows_at built_reclaimable args).1
+    HasDated (rows_at built_reclaimable args).1
 unfolding clap_on_literals
 reclaimable_whole args clean =
     let c = built_reclaimable.rules in
@@ -352,8 +407,11 @@ reclaimable_whole args clean =
     let given = are_given rows (codes "page" ∷ codes "pages" ∷ codes "extents" ∷ codes "image" ∷ []) known.1 in
     let rules : AreImageRules c = image_rules (_, refl, refl, refl) (_, refl, refl, refl) (_, refl, refl, refl) (_, refl) in
     record {
-      disk = image_given c rows known.0 rules given.0 given.1.0 given.1.1.0 given.1.1.1.0;
-      workers = may_have_number c rows known.0 (codes "workers") _ refl 64 refl refl;
+      scan = record {
+        disk = image_given c rows known.0 rules given.0 given.1.0 given.1.1.0 given.1.1.1.0;
+        workers = may_have_number c rows known.0 (codes "workers") _ refl 64 refl refl;
+      };
+      last = may_have_long c rows known.0 (codes "last") _ refl refl refl;
     }
 
 shard_whole : (args : List Text) → level_fault built_shard [] nothing_held args false [] ≡ [] →
@@ -411,7 +469,7 @@ items_whole args clean =
 -- the command that an argument names, by the test of each name
 abbrev stopped_at : (summary scan shard index locators manifest reclaimable superblocks sizes items demo help : Bool) → Option Shape
 stopped_at summary scan shard index locators manifest reclaimable superblocks sizes items demo help =
-    if summary then Some (looked (codes "summary")) else (if scan then Some (looked (codes "scan")) else (if shard then Some built_shard else (if index then Some (disk (codes "index")) else (if locators then Some (looked (codes "locators")) else (if manifest then Some built_manifest else (if reclaimable then Some built_reclaimable else (if superblocks then Some built_superblocks else (if sizes then Some built_sizes else (if items then Some built_items else (if demo then Some built_demo else (if help || false then Some built_help else None)))))))))))
+    if summary then Some built_summary else (if scan then Some (looked (codes "scan")) else (if shard then Some built_shard else (if index then Some (disk (codes "index")) else (if locators then Some (looked (codes "locators")) else (if manifest then Some built_manifest else (if reclaimable then Some built_reclaimable else (if superblocks then Some built_superblocks else (if sizes then Some built_sizes else (if items then Some built_items else (if demo then Some built_demo else (if help || false then Some built_help else None)))))))))))
 
 stop_whole : (stop : Option (Text × List Text)) → IsNoHelp stop → entered_fault (built shardscrub_app) stop ≡ [] →
     IsWholeParse (entered (built shardscrub_app) stop)
@@ -429,7 +487,7 @@ stop_whole (Some p) other clean =
     go : (u s c x l m r b z i d h : Bool) → bytes_eq (codes "help") p.0 ≡ h →
         option_map_or (λ s. level_fault s [] nothing_held p.1 false []) (stopped_at u s c x l m r b z i d h) [] ≡ []
         → IsWholeParse (option_map (λ s. rows_at s p.1) (stopped_at u s c x l m r b z i d h))
-    go true s c x l m r b z i d h is clean = looked_whole (codes "summary") p.1 clean
+    go true s c x l m r b z i d h is clean = summary_whole p.1 clean
     go false true c x l m r b z i d h is clean = looked_whole (codes "scan") p.1 clean
     go false false true x l m r b z i d h is clean = shard_whole p.1 clean
     go false false false true l m r b z i d h is clean = disk_whole (codes "index") p.1 clean

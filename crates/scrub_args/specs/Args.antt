@@ -36,6 +36,14 @@ IsNumeralOf text n = IsDecimal (without_leading_plus text) n × (n < 2 ^ 32)
 abbrev pub IsNumberOf : List Row → Text → ℕ → Type 0
 IsNumberOf found name n = (text : Text) × (one_of name found ≡ Some text) × IsNumeralOf text n
 
+-- the text is this number below 2^64 in decimal digits; a plus before them counts for nothing
+abbrev pub IsLongNumeralOf : Text → ℕ → Type 0
+IsLongNumeralOf text n = IsDecimal (without_leading_plus text) n × (n < 2 ^ 64)
+
+-- the number of 64 bits that was found for an option
+abbrev pub IsLongNumberOf : List Row → Text → ℕ → Type 0
+IsLongNumberOf found name n = (text : Text) × (one_of name found ≡ Some text) × IsLongNumeralOf text n
+
 -- the numbers that were found for an option that may be repeated, in order; -0 is read as 0
 abbrev pub AreNumbersOf : List Row → Text → List ℕ → Type 0
 AreNumbersOf found name numbers = AllZip IsNumeralOf (unwrap_or (many_of name found) []) numbers
@@ -85,11 +93,11 @@ pub record AreShardArgs (found : List Row) (args : ShardArgs) : Type 0 where
   pub scan : AreScanArgs found args.scan
   pub id : first_of (codes "id") found ≡ Some args.id.now
 
--- the kinds and the lines of doubts that were found to accept
+-- the lines of doubts that were found to accept
 abbrev pub accepted_of : List Row → List Text
 accepted_of found = unwrap_or (all_of (codes "accept") found) []
 
--- the kinds and the lines of doubts that are accepted: those that were found, if each can be
+-- the lines of doubts that are accepted: those that were found, if each can be
 pub record AreAccepted (found : List Row) (accepted : List (List ℕ)) : Type 0 where
   pub given : accepted ≡ accepted_of found
   pub acceptable : first_unacceptable (accepted_of found) ≡ None
@@ -99,13 +107,18 @@ abbrev pub command_of : Wanted → Text
 command_of Report = codes "scan"
 command_of Index = codes "index"
 command_of Locators = codes "locators"
-command_of Summary = codes "summary"
-command_of (Reclaimable accepted) = codes "reclaimable"
+command_of (Summary last) = codes "summary"
+command_of (Reclaimable accepted last) = codes "reclaimable"
 
--- if this is what may be reclaimed, the doubts are accepted that were found
-abbrev pub AcceptsFound : List Row → Wanted → Type 0
-AcceptsFound found (Reclaimable accepted) = AreAccepted found accepted
-AcceptsFound found wanted = Unit {0}
+-- the generation of the last superblock that was written: the number that was found, or None if none was
+abbrev pub IsLastOf : List Row → Option ℕ → Type 0
+IsLastOf found last = MatchOption last (one_of (codes "last") found ≡ None) (IsLongNumberOf found (codes "last"))
+
+-- what is wanted has the values that were found: the generation of the last superblock, and the doubts that are accepted
+abbrev pub IsWantedWith : List Row → Wanted → Type 0
+IsWantedWith found (Summary last) = IsLastOf found last
+IsWantedWith found (Reclaimable accepted last) = AreAccepted found accepted × IsLastOf found last
+IsWantedWith found wanted = Unit {0}
 
 -- the values found for `sizes`
 pub record AreSizesArgs (found : List Row) (args : SizesArgs) : Type 0 where
@@ -123,7 +136,7 @@ abbrev pub IsAskedBy : Option (Text × List Row) → Request → Type 0
 IsAskedBy command Demo = (command ≡ None) ⊎ ((found : List Row) × (command ≡ Some (codes "demo", found)))
 IsAskedBy command (Items args) = (found : List Row) × (command ≡ Some (codes "items", found)) × AreItemsArgs found args
 IsAskedBy command (Disk wanted args) =
-    (found : List Row) × (command ≡ Some (command_of wanted, found)) × AcceptsFound found wanted × AreScanArgs found args
+    (found : List Row) × (command ≡ Some (command_of wanted, found)) × IsWantedWith found wanted × AreScanArgs found args
 IsAskedBy command (Manifest args) =
     (found : List Row) × (command ≡ Some (codes "manifest", found)) × AreManifestArgs found args
 IsAskedBy command (Shard args) = (found : List Row) × (command ≡ Some (codes "shard", found)) × AreShardArgs found args

@@ -1,13 +1,13 @@
-//! The kinds and the lines of doubts that `--accept` may name, and the refusal of other texts.
+//! The lines of doubts that `--accept` may have, and the refusal of other texts.
 
 ghost use Rattle.std.specs.Prelude.{◌≡◌, ℕ, IfOk, List, find, map, nat_eq, not};
 ghost use Rattle.std.specs.List.{starts_with};
-ghost use Rattle.scrub_args.specs.Accepting.{is_acceptable, is_kind, is_line, reason, refusal_of};
+ghost use Rattle.scrub_args.specs.Accepting.{is_acceptable, refusal_of};
 
 use std::alloc::{AllocError, Global};
 use std::marker::Model;
 
-/// The kinds and the lines of doubts that the arguments accept, as given.
+/// The lines of doubts that the arguments accept, as given.
 #[derive(Debug, Drop)]
 pub struct AcceptedDoubts<'a> {
     pub texts: Vec<&'a str>,
@@ -28,16 +28,6 @@ impl<'a> AcceptedDoubts<'a> {
     }
 }
 
-/// Whether the text is a kind of doubts that can be accepted as a whole.
-fn is_kind(text: &str) -> bool
-    ensures { result ≡ is_kind text.now }
-{
-    text == "superblock-damaged"
-        || text == "superblock-stray"
-        || text == "tail"
-        || text == "tail-lost"
-}
-
 /// Whether a text begins with another.
 fn begins(text: &[u8], front: &[u8]) -> bool
     ensures { result ≡ starts_with nat_eq text.now front.now }
@@ -46,22 +36,16 @@ fn begins(text: &[u8], front: &[u8]) -> bool
 }
 
 /// Whether the text begins as the line of a doubt that can be accepted does after the word `doubt`.
-fn is_line(text: &str) -> bool
-    ensures { result ≡ is_line text.now }
+fn is_acceptable(text: &str) -> bool
+    ensures { result ≡ is_acceptable text.now }
 {
     let text = text.as_bytes();
     begins(text, b"superblock-damaged ")
         || begins(text, b"superblock-stray ")
         || begins(text, b"spare ")
+        || begins(text, b"remains ")
         || begins(text, b"tail ")
         || begins(text, b"tail-lost ")
-}
-
-/// Whether the text can be accepted.
-fn is_acceptable(text: &str) -> bool
-    ensures { result ≡ is_acceptable text.now }
-{
-    is_kind(text) || is_line(text)
 }
 
 /// The first text that can't be accepted.
@@ -71,24 +55,13 @@ pub fn unacceptable<'a>(texts: &[&'a str]) -> Option<&'a str>
     texts.iter().copied().find(|text| !is_acceptable(text))
 }
 
-/// Why a text can't be accepted.
-fn reason(text: &str) -> &'static str
-    ensures { result.now ≡ reason text.now }
-{
-    if text == "spare" {
-        ": a spare is accepted by its line alone"
-    } else {
-        "\n  [possible values: superblock-damaged, superblock-stray, tail, tail-lost]"
-    }
-}
-
 /// The refusal of a text that can't be accepted, in the words of `clap`.
 pub fn refusal_of(alloc: Global, text: &str) -> Result<String, AllocError>
     ensures { IfOk result (λ refusal. refusal.bytes.items ≡ refusal_of text.now) }
 {
-    let reason = reason(text);
+    let reason = "not a line of a doubt that can be accepted, without the word doubt";
     let refusal = format!(in alloc;
-        "error: invalid value '{text}' for '--accept <KIND>'{reason}\n\nFor more information, try '--help'.\n"
+        "error: invalid value '{text}' for '--accept <LINE>': {reason}\n\nFor more information, try '--help'.\n"
     )?;
     Ok(refusal)
 }

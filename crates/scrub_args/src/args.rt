@@ -7,11 +7,13 @@ ghost use Rattle.scrub_args.specs.Accepting.{refusal_of};
 ghost use Rattle.scrub_args.specs.Order.{AreExchanged};
 ghost use Rattle.scrub_args.specs.steps.Parsed.{ComesOf, HasImage, HasImageName, HasItems, HasManifest};
 ghost use Rattle.scrub_args.specs.steps.Parsed.{HasNumber, HasNumbers, HasScan, HasShard, HasText};
-ghost use Rattle.scrub_args.specs.steps.Parsed.{IsWantedBy, IsWholeParse, MayHaveNumber, is_disk_command};
+ghost use Rattle.scrub_args.specs.steps.Parsed.{IsWantedBy, IsWholeParse, MayHaveLongNumber, MayHaveNumber};
+ghost use Rattle.scrub_args.specs.steps.Parsed.{is_dated_command, is_disk_command};
 ghost use Rattle.scrub_args.specs.Args.{AreAccepted, AreImageArgs, AreItemsArgs, AreManifestArgs};
 ghost use Rattle.scrub_args.specs.Args.{AreNumbersOf, AreResetsOf, AreScanArgs, AreShardArgs};
 ghost use Rattle.scrub_args.specs.Args.{AreSizesArgs, AreSizesGiven};
-ghost use Rattle.scrub_args.specs.Args.{AskForVersion, IsArgsFault, IsAskedBy, IsNumberOf, IsPartFault};
+ghost use Rattle.scrub_args.specs.Args.{AskForVersion, IsArgsFault, IsAskedBy, IsLastOf, IsNumberOf};
+ghost use Rattle.scrub_args.specs.Args.{IsPartFault};
 ghost use Rattle.scrub_args.specs.Args.{IsRefusal, IsRowsFault, IsTextFault, IsWorkersOf, NameCommand};
 ghost use Rattle.scrub_args.specs.Args.{part_text, texts};
 ghost use Rattle.clap.specs.declared.error.kind.ErrorKind.TheVariants.{DisplayVersion};
@@ -51,10 +53,11 @@ pub enum Wanted<'a> {
     Index,
     /// The named locators, each with its status.
     Locators,
-    /// A verdict, and numbers by their names.
-    Summary,
-    /// What may be reclaimed, with these doubts accepted.
-    Reclaimable(AcceptedDoubts<'a>),
+    /// A verdict, and numbers by their names, with the generation of the last superblock that was written, if
+    /// it is given.
+    Summary(Option<u64>),
+    /// What may be reclaimed, with these doubts accepted, and with that generation.
+    Reclaimable(AcceptedDoubts<'a>, Option<u64>),
 }
 
 /// The arguments of `items`.
@@ -228,7 +231,9 @@ fn wanted_by<'a>(
     name: &str,
     matches: &ArgMatches<'a>,
 ) -> Result<Wanted<'a>, ArgsFault>
-    requires { is_disk_command name.now ≡ true }
+    requires disk { is_disk_command name.now ≡ true }
+    requires last { is_dated_command name.now ≡ true →
+        MayHaveLongNumber (rows_of (found_of matches.now)) (codes "last") }
     ensures { MatchResult result
         (IsWantedBy name.now (rows_of (found_of matches.now)))
         (IsRowsFault (Some (name.now, rows_of (found_of matches.now)))) }
@@ -237,8 +242,11 @@ fn wanted_by<'a>(
         command::SCAN => Ok(Wanted::Report),
         command::INDEX => Ok(Wanted::Index),
         command::LOCATORS => Ok(Wanted::Locators),
-        command::SUMMARY => Ok(Wanted::Summary),
-        command::RECLAIMABLE => Ok(Wanted::Reclaimable(accepted_doubts(alloc, matches)?)),
+        command::SUMMARY => Ok(Wanted::Summary(last(matches))),
+        command::RECLAIMABLE => {
+            let accepted = accepted_doubts(alloc, matches)?;
+            Ok(Wanted::Reclaimable(accepted, last(matches)))
+        }
         _ => unreachable!(),
     }
 }
@@ -321,7 +329,15 @@ fn numbers(alloc: Global, matches: &ArgMatches<'_>, name: &str) -> Result<Vec<u3
     Ok(numbers)
 }
 
-/// The kinds and the lines of doubts to accept.
+/// The generation of the last superblock that was written, if one is given.
+fn last(matches: &ArgMatches<'_>) -> Option<u64>
+    requires { MayHaveLongNumber (rows_of (found_of matches.now)) (codes "last") }
+    ensures { IsLastOf (rows_of (found_of matches.now)) result }
+{
+    matches.get_one::<u64>(command::LAST)
+}
+
+/// The lines of doubts to accept.
 fn accepted_doubts<'a>(
     alloc: Global,
     matches: &ArgMatches<'a>,

@@ -4,19 +4,20 @@ ghost use Rattle.std.specs.Prelude.{◌≡◌, ◌∷◌, IfOk, [], false};
 ghost use Rattle.clap.specs.Words.{app_of, rule_of, shape_of};
 ghost use Rattle.scrub_args.specs.CommandLine.{accept_rule, bad_pages_rule, bare_app, demo_shape, free_shape};
 ghost use Rattle.scrub_args.specs.CommandLine.{free_size_rules, image_rule, image_rules, image_shape};
-ghost use Rattle.scrub_args.specs.CommandLine.{items_shape, map_rule, manifest_shape, option};
+ghost use Rattle.scrub_args.specs.CommandLine.{items_shape, last_rule, map_rule, manifest_shape, option};
 ghost use Rattle.scrub_args.specs.CommandLine.{reclaimable_shape, reset_rule, shard_shape, shardscrub_app};
-ghost use Rattle.scrub_args.specs.CommandLine.{size_rules, sizes_shape, superblocks_shape, with_rules};
+ghost use Rattle.scrub_args.specs.CommandLine.{size_rules, sizes_shape, summary_shape, superblocks_shape};
+ghost use Rattle.scrub_args.specs.CommandLine.{with_rules};
 ghost use Rattle.scrub_args.specs.CommandLine.{id_rule, workers_rule};
 
 use crate::help_texts::{
     ABOUT, ACCEPT_HELP, AFTER_HELP, BAD_PAGES_HELP, DEMO_ABOUT, DEMO_AFTER_HELP, EXTENT_HELP,
     EXTENTS_HELP, FREE_PAGE_HELP, ID_HELP, IMAGE_HELP, INDEX_ABOUT, INDEX_AFTER_HELP, ITEMS_ABOUT,
-    ITEMS_AFTER_HELP, LOCATORS_ABOUT, LOCATORS_AFTER_HELP, MANIFEST_ABOUT, MANIFEST_AFTER_HELP,
-    MAP_HELP, PAGE_HELP, PAGES_HELP, POINTER_HELP, RECLAIMABLE_ABOUT, RECLAIMABLE_AFTER_HELP,
-    RESET_HELP, SCAN_ABOUT, SCAN_AFTER_HELP, SHARD_ABOUT, SHARD_AFTER_HELP, SIZES_ABOUT,
-    SIZES_AFTER_HELP, SUMMARY_ABOUT, SUMMARY_AFTER_HELP, SUPERBLOCKS_ABOUT, SUPERBLOCKS_AFTER_HELP,
-    WORKERS_HELP,
+    ITEMS_AFTER_HELP, LAST_HELP, LOCATORS_ABOUT, LOCATORS_AFTER_HELP, MANIFEST_ABOUT,
+    MANIFEST_AFTER_HELP, MAP_HELP, PAGE_HELP, PAGES_HELP, POINTER_HELP, RECLAIMABLE_ABOUT,
+    RECLAIMABLE_AFTER_HELP, RESET_HELP, SCAN_ABOUT, SCAN_AFTER_HELP, SHARD_ABOUT, SHARD_AFTER_HELP,
+    SIZES_ABOUT, SIZES_AFTER_HELP, SUMMARY_ABOUT, SUMMARY_AFTER_HELP, SUPERBLOCKS_ABOUT,
+    SUPERBLOCKS_AFTER_HELP, WORKERS_HELP,
 };
 use clap::{Arg, ArgAction, Command, value_parser};
 use std::alloc::{AllocError, Global};
@@ -24,7 +25,7 @@ use std::alloc::{AllocError, Global};
 const PROGRAM: &str = "shardscrub";
 
 /// The program's name and version, as a line.
-pub const VERSION: &str = "shardscrub 2.4.0\n";
+pub const VERSION: &str = "shardscrub 3.0.0\n";
 
 /// The command that prints the report of a disk.
 pub const SCAN: &str = "scan";
@@ -71,8 +72,11 @@ pub const EXTENTS: &str = "extents";
 /// How many workers scan the disk beside the caller.
 pub const WORKERS: &str = "workers";
 
-/// The kind or the line of doubts to accept.
+/// The line of a doubt to accept.
 pub const ACCEPT: &str = "accept";
+
+/// The generation of the last superblock that was written.
+pub const LAST: &str = "last";
 
 /// An extent to be taken as reset.
 pub const RESET: &str = "reset";
@@ -100,7 +104,7 @@ pub fn command_line<'a>(alloc: Global) -> Result<Command<'a>, AllocError>
     ensures { IfOk result (λ r. app_of r ≡ shardscrub_app) }
 {
     bare_program(alloc)?
-        .subcommand(looking_command(alloc, SUMMARY, SUMMARY_ABOUT, SUMMARY_AFTER_HELP)?)?
+        .subcommand(summary_command(alloc)?)?
         .subcommand(looking_command(alloc, SCAN, SCAN_ABOUT, SCAN_AFTER_HELP)?)?
         .subcommand(shard_command(alloc)?)?
         .subcommand(disk_command(alloc, INDEX, INDEX_ABOUT, INDEX_AFTER_HELP)?)?
@@ -202,6 +206,31 @@ fn id<'a>(alloc: Global) -> Arg<'a>
         .required(true)
 }
 
+/// The command `summary`.
+fn summary_command<'a>(alloc: Global) -> Result<Command<'a>, AllocError>
+    ensures { IfOk result (λ r. shape_of r ≡ summary_shape) }
+{
+    let command = Command::new(alloc, SUMMARY)
+        .about(SUMMARY_ABOUT)
+        .after_help(SUMMARY_AFTER_HELP);
+    let command = with_free_geometry(alloc, command)?
+        .arg(workers(alloc))?
+        .arg(last(alloc))?;
+    with_image(alloc, command)
+}
+
+/// The option for the generation of the last superblock that was written.
+fn last<'a>(alloc: Global) -> Arg<'a>
+    ensures rule { rule_of result ≡ last_rule }
+    ensures local { result.global ≡ false }
+{
+    Arg::new(alloc, LAST)
+        .long(LAST)
+        .value_name("G")
+        .help(LAST_HELP)
+        .value_parser(value_parser!(u64))
+}
+
 /// The command `reclaimable`.
 fn reclaimable_command<'a>(alloc: Global) -> Result<Command<'a>, AllocError>
     ensures { IfOk result (λ r. shape_of r ≡ reclaimable_shape) }
@@ -209,20 +238,28 @@ fn reclaimable_command<'a>(alloc: Global) -> Result<Command<'a>, AllocError>
     let command = Command::new(alloc, RECLAIMABLE)
         .about(RECLAIMABLE_ABOUT)
         .after_help(RECLAIMABLE_AFTER_HELP);
-    let command = with_geometry(alloc, command)?
-        .arg(workers(alloc))?
-        .arg(accept(alloc))?;
+    let command = with_geometry(alloc, command)?.arg(workers(alloc))?;
+    let command = with_acceptance(alloc, command)?;
     with_image(alloc, command)
 }
 
-/// The option for a kind or a line of doubts to accept. It may be repeated.
+/// Adds the options for what a person accepts: the lines of doubts, and the generation of the last
+/// superblock.
+fn with_acceptance<'a>(alloc: Global, command: Command<'a>) -> Result<Command<'a>, AllocError>
+    ensures { IfOk result (λ r. app_of r ≡ with_rules (app_of command.entry)
+        (accept_rule ∷ last_rule ∷ [])) }
+{
+    command.arg(accept(alloc))?.arg(last(alloc))
+}
+
+/// The option for the line of a doubt to accept. It may be repeated.
 fn accept<'a>(alloc: Global) -> Arg<'a>
     ensures rule { rule_of result ≡ accept_rule }
     ensures local { result.global ≡ false }
 {
     Arg::new(alloc, ACCEPT)
         .long(ACCEPT)
-        .value_name("KIND")
+        .value_name("LINE")
         .help(ACCEPT_HELP)
         .action(ArgAction::Append)
 }

@@ -221,8 +221,9 @@ pub(crate) const SUMMARY_AFTER_HELP: &str =
     "The first line is the verdict. Each of the others is a name and a decimal number, always all of them, in
 this order. So diff compares two summaries.
 
-  verdict WORD           sound; doubt if the disk is clean, but a page of extent 0 is damaged or stray; or
-                         wrong if the disk isn't clean
+  verdict WORD           wrong if the disk isn't clean; doubt if it is, but a page of extent 0 is damaged
+                         or stray, or the superblock that counts hasn't the generation of --last; else
+                         sound
   page_bytes extent_pages extents retired_extents
                          the sizes of the disk, as they were given or found, and its retired extents
   superblocks superblock_generation superblock_tie superblocks_damaged superblocks_stray
@@ -245,7 +246,8 @@ this order. So diff compares two summaries.
 
 If the verdict is sound, the statuses of scan and manifest are 0, superblocks has no line lost, damaged or
 stray, and each doubt of reclaimable is a tail. A newest superblock that reads as zeros leaves no trace but
-a tail at most. So compare superblock_generation with the last one that the node logged.
+a tail at most. So give --last the generation of the last superblock that the node logged: if it isn't the
+one that counts, the verdict isn't sound. If it is sound, reclaimable with the same --last has no doubt.
 
 Exit status:
   0  the verdict is sound
@@ -263,11 +265,12 @@ Its first line:
 pub(crate) const RECLAIMABLE_ABOUT: &str =
     "Lists the extents that may be reclaimed, and what has to be moved first, or why none may be";
 
-pub(crate) const RECLAIMABLE_AFTER_HELP: &str =
-    "First comes a line for each doubt: for anything that may hide data that the node wrote.
+pub(crate) const RECLAIMABLE_AFTER_HELP: &str = "First comes a line for each doubt, in this order:
 
   doubt no-superblock              there is no valid superblock
   doubt tie                        two superblocks or more have the greatest generation
+  doubt last COUNTS G              --last is G, but the superblock that counts has generation COUNTS; or
+                                   COUNTS is none, and there is no superblock
   doubt superblock-lost PAGE       a page of extent 0 can't be read
   doubt superblock-damaged PAGE    a page of extent 0 begins like a superblock but isn't one
   doubt superblock-stray PAGE      a page of extent 0 has bytes other than zero that no superblock holds,
@@ -277,18 +280,26 @@ pub(crate) const RECLAIMABLE_AFTER_HELP: &str =
                                    a locator of OWNER dangles, and all its spares are in extents that
                                    can be reclaimed, without a sound locator that points to one; this
                                    is the first, as locators lists it, with a frame of BYTES bytes
+  doubt remains EXTENT OFFSET COUNT
+                                   COUNT locators of shards dangle and have no spare (those of length 0
+                                   aren't counted), and this extent, which can be reclaimed, has items
+                                   torn or noise, the first at OFFSET: a whole copy may begin in them
   doubt tail EXTENT OFFSET BYTES   this many bytes at or past the write pointer of an extent aren't
                                    zero; the first is at OFFSET
   doubt tail-lost EXTENT FIRST LAST
                                    these pages of an extent, at or past its write pointer, can't be read
 
-An extent that was reset has a tail until the pointer passes the last old byte. Only the node's log
-shows whether the node wrote after its last superblock. Give a kind to --accept only if you know that
-every line of the kind is harmless: tail and tail-lost if the node wrote nothing after its last
-superblock, superblock-damaged and superblock-stray if the superblock that counts is that last one. Or
-give one line without the word doubt, as in --accept 'tail 2 0 1092': this accepts that line alone, and
-has no effect if the line isn't printed. A spare is accepted by its line alone, because its reset may
-take the last copy of a chunk. An accepted line begins with accepted in place of doubt.
+Whoever gives --last G says: the last superblock that was written to this disk has generation G, and
+nothing was written to the disk after it. Take G from the node's log, or from your own if you wrote
+superblocks since, and never from the disk. If the superblock that counts has generation G, each line
+superblock-damaged, superblock-stray, tail and tail-lost is accepted. Else there is the line last.
+
+A doubt of one of these four kinds, a spare or remains can be accepted by its line without the word doubt,
+as in --accept 'tail 2 0 1092': to the byte, that line alone, with no effect if it isn't printed. Accept a
+spare if you copy it or give it up, and remains if you looked for the chunks or give them up. Other doubts
+can't be accepted. An accepted line begins with accepted in place of doubt.
+
+An extent that was reset has a tail until the pointer passes the last old byte.
 
 If no line begins with doubt, a line follows for each extent that can be reclaimed, the greatest gain
 first. After it come the lines for the chunks to move out of it, one for each owner:
@@ -310,10 +321,10 @@ has, and BYTES bytes as they are, to the OFFSET of a room line or directly after
 Never copy into an extent that you reset before you run reclaimable again. If no room is large enough,
 first reset an extent without move lines, and begin again; only if none is listed, use a last-room.
 
-Before the reset make a new image, and check that superblocks counts the generation that you wrote; that
-reclaimable ends with status 0 and names the extent without a move line; and that manifest with --reset
-for this extent prints what manifest printed at the beginning. Begin again after each reset, with the
-same map and the same pages. docs/RECLAIMING.md has all steps.
+Before the reset make a new image, and check that reclaimable with --last and the generation that you
+wrote ends with status 0 and names the extent without a move line; and that manifest with --reset for
+this extent prints what manifest printed at the beginning. Begin again after each reset, with the same
+map and the same pages. docs/RECLAIMING.md has all steps.
 
 Exit status:
   0  no line begins with doubt; there may be nothing to reclaim, and the disk may have other faults
@@ -457,8 +468,11 @@ pub(crate) const WORKERS_HELP: &str =
     "Workers that scan the disk beside the main thread: 0 to 64 (default: 1). Does not affect the output";
 
 pub(crate) const ACCEPT_HELP: &str =
-    "Doubts to accept: superblock-damaged, superblock-stray, tail or tail-lost, or one line without the word \
-     doubt. May be repeated";
+    "Line of a doubt to accept, without the word doubt. May be repeated";
+
+pub(crate) const LAST_HELP: &str =
+    "Generation of the last superblock that was written, if nothing was written to the disk after it: 0 to \
+     18446744073709551615";
 
 pub(crate) const RESET_HELP: &str =
     "Extent to be taken as reset: 1 to one less than the number of extents. May be repeated";

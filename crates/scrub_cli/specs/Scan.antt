@@ -1,5 +1,5 @@
 -- What the commands `scan`, `index`, `locators`, `summary` and `reclaimable` answer for an image file, and why they don't.
-use Rattle.std.specs.Prelude.{◌≡◌, ◌⊎◌, ℕ, List, Bool}
+use Rattle.std.specs.Prelude.{◌≡◌, ◌⊎◌, ℕ, List, Bool, Option}
 use Rattle.scrub_disk.specs.declared.geometry.Geometry.{Geometry as Sizes}
 use Rattle.scrub_disk.specs.Image.{Image}
 use Rattle.scrub_pool.specs.Takings.{TakingsValue}
@@ -8,7 +8,7 @@ use Rattle.scrub_report.specs.Index.{IsIndex}
 use Rattle.scrub_report.specs.Report.{IsReport}
 use Rattle.scrub_listings.specs.Locators.{AreLocatorLines}
 use Rattle.scrub_listings.specs.Summary.{IsSoundImage, IsSummary}
-use Rattle.scrub_reclaim.specs.Doubts.{Accepted}
+use Rattle.scrub_reclaim.specs.Doubts.{Acceptance}
 use Rattle.scrub_reclaim.specs.Reclaimable.{AreReclaimLines, IsClear}
 use Rattle.scrub_args.specs.declared.args.Wanted.{Wanted}
 use Rattle.scrub_args.specs.declared.args.Wanted.TheVariants.{Report, Index, Locators, Summary, Reclaimable}
@@ -30,16 +30,20 @@ pub record IsOutcomeOfImage (image : Image) (outcome : Outcome) : Type 0 where
   pub ended : outcome ≡ outcome_of is_clean
 
 -- the outcome of a summary: whether the verdict on the image is that it is sound
-pub record IsOutcomeOfSummary (image : Image) (outcome : Outcome) : Type 0 where
+pub record IsOutcomeOfSummary (last : Option ℕ) (image : Image) (outcome : Outcome) : Type 0 where
   pub is_sound : Bool
-  pub verdict : IsSoundImage image is_sound
+  pub verdict : IsSoundImage last image is_sound
   pub ended : outcome ≡ outcome_of is_sound
 
 -- the outcome of the doubts of an image: whether each is accepted
-pub record IsOutcomeOfDoubts (image : Image) (accepted : Accepted) (outcome : Outcome) : Type 0 where
+pub record IsOutcomeOfDoubts (image : Image) (accepted : Acceptance) (outcome : Outcome) : Type 0 where
   pub is_clear : Bool
   pub verdict : IsClear image accepted is_clear
   pub ended : outcome ≡ outcome_of is_clear
+
+-- the lines of doubts that are accepted, and the generation of the last superblock, if it is given
+abbrev pub acceptance : List (List ℕ) → Option ℕ → Acceptance
+acceptance lines last = record { lines = lines; last = last }
 
 -- the text is what is wanted of the image: its report, its index, the lines of its named locators, its summary, or the lines
 -- of what may be reclaimed
@@ -47,16 +51,16 @@ abbrev pub Tells : Wanted → Image → List ℕ → Type 0
 Tells Report image text = IsReport image text
 Tells Index image text = IsIndex image text
 Tells Locators image text = AreLocatorLines image text
-Tells Summary image text = IsSummary image text
-Tells (Reclaimable accepted) image text = AreReclaimLines image accepted text
+Tells (Summary last) image text = IsSummary last image text
+Tells (Reclaimable lines last) image text = AreReclaimLines image (acceptance lines last) text
 
 -- the outcome is that of the image, for a summary that of its verdict, or for what may be reclaimed that of its doubts
 abbrev pub IsOutcomeOf : Wanted → Image → Outcome → Type 0
 IsOutcomeOf Report image outcome = IsOutcomeOfImage image outcome
 IsOutcomeOf Index image outcome = IsOutcomeOfImage image outcome
 IsOutcomeOf Locators image outcome = IsOutcomeOfImage image outcome
-IsOutcomeOf Summary image outcome = IsOutcomeOfSummary image outcome
-IsOutcomeOf (Reclaimable accepted) image outcome = IsOutcomeOfDoubts image accepted outcome
+IsOutcomeOf (Summary last) image outcome = IsOutcomeOfSummary last image outcome
+IsOutcomeOf (Reclaimable lines last) image outcome = IsOutcomeOfDoubts image (acceptance lines last) outcome
 
 -- the text is what is wanted of an image, with its outcome
 pub record IsDiskAnswer (wanted : Wanted) (image : Image) (text : List ℕ) (outcome : Outcome) : Type 0 where

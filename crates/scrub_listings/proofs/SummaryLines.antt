@@ -26,7 +26,7 @@ last_lines (Ok u) old mid new before more first later = more_lines old mid new b
 last_lines (Err e) old mid new before more first later = tt
 
 -- as many pass a test as another that gives the same
-count_same : {X : Type 0} (p q : X → Bool) (xs : List X) → All (λ x. p x ≡ q x) xs → count_by p xs ≡ count_by q xs
+pub count_same : {X : Type 0} (p q : X → Bool) (xs : List X) → All (λ x. p x ≡ q x) xs → count_by p xs ≡ count_by q xs
 count_same p q [] same = refl
 count_same p q (x ∷ xs) same =
     sum_by-cons (λ y. one_if (p y)) x xs

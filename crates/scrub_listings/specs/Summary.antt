@@ -1,5 +1,5 @@
 -- The summary of a disk: a verdict, and numbers by their names.
-use Rattle.std.specs.Prelude.{◌≡◌, ◌+◌, ◌==◌, ◌&&◌, ◌||◌, ◌++◌, ◌∷◌, [], ℕ, Bool, true, false, List, codes, length, not, if◌then◌else◌}
+use Rattle.std.specs.Prelude.{◌≡◌, ◌+◌, ◌==◌, ◌&&◌, ◌||◌, ◌++◌, ◌∷◌, [], ℕ, Bool, true, false, List, Option, codes, length, not, if◌then◌else◌}
 use Rattle.std.specs.Fmt.{decimal}
 use Rattle.std.specs.List.{count_by, filter, flat_map, list_any, sum_by}
 use Rattle.std.specs.Option.{option_map_or}
@@ -30,14 +30,22 @@ use Rattle.scrub_listings.specs.Manifest.{lost_runs}
 
 -- ---- the verdict
 
--- the verdict on a disk that is clean or isn't, by whether a page of its extent 0 is damaged or stray
-abbrev pub verdict_by : Bool → Bool → Verdict
-verdict_by clean odd = if clean then if odd then InDoubt else Sound else Wrong
+-- a superblock counts, and has this generation
+abbrev pub counts_as : Choice → ℕ → Bool
+counts_as choice generation = option_map_or (λ c. c.generation == generation) choice.superblock false
 
--- the verdict on what was found: wrong if it isn't clean, in doubt if it is and a page of extent 0 is damaged or stray, or
--- else sound
-abbrev pub verdict : Scrubbed → List SuperblockPage → Verdict
-verdict s pages = verdict_by (is_clean s) (list_any is_odd pages)
+-- the generation of the last superblock that was written is given, and it isn't the one that counts
+abbrev pub is_behind : Option ℕ → Choice → Bool
+is_behind last choice = option_map_or (λ generation. not (counts_as choice generation)) last false
+
+-- the verdict on a disk that is clean or isn't, by whether there is a doubt
+abbrev pub verdict_by : Bool → Bool → Verdict
+verdict_by clean doubt = if clean then if doubt then InDoubt else Sound else Wrong
+
+-- the verdict on what was found, by the generation of the last superblock that was written, if that is given: wrong if it isn't
+-- clean; in doubt if it is, and a page of extent 0 is damaged or stray, or another generation counts; or else sound
+abbrev pub verdict : Option ℕ → Scrubbed → List SuperblockPage → Verdict
+verdict last s pages = verdict_by (is_clean s) (list_any is_odd pages || is_behind last s.choice)
 
 -- the word for a verdict
 abbrev pub verdict_text : Verdict → List ℕ
@@ -196,24 +204,25 @@ abbrev pub verdict_line : Verdict → List ℕ
 verdict_line v = codes "verdict" ++ spaced (verdict_text v) ++ 10 ∷ []
 
 -- the verdict, and the numbers of what was found
-abbrev pub summary_text : List SuperblockPage → Scrubbed → List ℕ
-summary_text pages s = verdict_line (verdict s pages) ++ number_lines (numbers_by pages s (lost_runs s))
+abbrev pub summary_text : Option ℕ → List SuperblockPage → Scrubbed → List ℕ
+summary_text last pages s = verdict_line (verdict last s pages) ++ number_lines (numbers_by pages s (lost_runs s))
 
--- the text is the summary of what is found in an image
-pub record IsSummary (image : Image) (text : List ℕ) : Type 0 where
+-- the text is the summary of what is found in an image, by the generation of the last superblock that was written, if that is
+-- given
+pub record IsSummary (last : Option ℕ) (image : Image) (text : List ℕ) : Type 0 where
   pub found : Scrubbed
   pub scrubbed : IsScrubbed image found
   pub pages : List SuperblockPage
   pub held : AreSuperblockPages image pages
-  pub text_is : text ≡ summary_text pages found
+  pub text_is : text ≡ summary_text last pages found
 
 -- the truth value says whether the verdict on an image is that it is sound
-pub record IsSoundImage (image : Image) (sound : Bool) : Type 0 where
+pub record IsSoundImage (last : Option ℕ) (image : Image) (sound : Bool) : Type 0 where
   pub found : Scrubbed
   pub scrubbed : IsScrubbed image found
   pub pages : List SuperblockPage
   pub held : AreSuperblockPages image pages
-  pub verdict_is : sound ≡ is_sound_verdict (verdict found pages)
+  pub verdict_is : sound ≡ is_sound_verdict (verdict last found pages)
 
 -- ---- steps of the code
 

@@ -35,7 +35,7 @@ pub struct Listing {
 }
 
 /// Appends the line of a named locator, with its line feed.
-fn append_line(alloc: Global, text: &mut String, one: &Checked) -> Result<(), OutOfMemory>
+pub fn append_line(alloc: Global, text: &mut String, one: &Checked) -> Result<(), OutOfMemory>
     ensures { OnOk result (string_bytes text.new ≡ string_bytes text.old ++ locator_line one.now) }
 {
     let owner = owner_text(alloc, one.owner)?;

@@ -56,7 +56,7 @@ fn append_extents(text: &mut String, retired: &[u32]) -> Result<(), OutOfMemory>
 }
 
 /// Appends the line of the retired extents.
-fn append_retired(text: &mut String, retired: &[u32]) -> Result<(), OutOfMemory>
+pub fn append_retired(text: &mut String, retired: &[u32]) -> Result<(), OutOfMemory>
     ensures { OnOk result (string_bytes text.new ≡ string_bytes text.old ++ retired_line retired.now) }
 {
     write!(text, "retired")?;
@@ -65,14 +65,14 @@ fn append_retired(text: &mut String, retired: &[u32]) -> Result<(), OutOfMemory>
 }
 
 /// Appends the line of the index runs.
-fn append_runs(text: &mut String, lost: usize, hidden: usize) -> Result<(), OutOfMemory>
+pub fn append_runs(text: &mut String, lost: usize, hidden: usize) -> Result<(), OutOfMemory>
     ensures { OnOk result (string_bytes text.new ≡ string_bytes text.old ++ runs_line lost hidden) }
 {
     writeln!(text, "runs lost {lost} hidden {hidden}")
 }
 
 /// Appends what the line of a shard's locator of this number begins with.
-fn append_text(
+pub fn append_text(
     alloc: Global,
     text: &mut String,
     number: usize,
@@ -89,7 +89,7 @@ fn append_text(
 }
 
 /// Appends a space and the word for the form of a chunk, if it is known.
-fn append_form(text: &mut String, form: Option<Form>) -> Result<(), OutOfMemory>
+pub fn append_form(text: &mut String, form: Option<Form>) -> Result<(), OutOfMemory>
     ensures { OnOk result (string_bytes text.new ≡ string_bytes text.old ++ form_text form) }
 {
     match form {
@@ -100,7 +100,7 @@ fn append_form(text: &mut String, form: Option<Form>) -> Result<(), OutOfMemory>
 }
 
 /// Appends where the chunk of a locator is looked for.
-fn append_place(text: &mut String, locator: &Locator) -> Result<(), OutOfMemory>
+pub fn append_place(text: &mut String, locator: &Locator) -> Result<(), OutOfMemory>
     ensures { OnOk result (string_bytes text.new ≡ string_bytes text.old ++ looked_for locator.now) }
 {
     let Locator {
@@ -243,7 +243,7 @@ fn text_by<D: PageSource>(
 }
 
 /// How many index runs are lost.
-pub(crate) fn lost_runs(runs: &[RunRow]) -> usize
+pub fn lost_runs(runs: &[RunRow]) -> usize
     ensures { result ≡ count_by (λ r. is_none r.entries) runs.now }
 {
     runs.iter().filter(|run| run.entries.is_none()).count()
@@ -263,7 +263,7 @@ fn is_of_read_run(runs: &[RunRow], owner: Owner) -> bool
 }
 
 /// How many of these locators are hidden, and named by an index run that is read.
-fn hidden_runs(runs: &[RunRow], checked: &[Checked]) -> usize
+pub fn hidden_runs(runs: &[RunRow], checked: &[Checked]) -> usize
     ensures { result ≡ count_by (λ c. is_hidden c.status && is_of_read_row runs.now c.owner) checked.now }
 {
     checked

@@ -1,6 +1,7 @@
 //! The summary of a disk: a verdict, and numbers by their names, for a person and for monitoring.
 
-ghost use Rattle.std.specs.Prelude.{◌≡◌, ◌+◌, ◌++◌, ◌^◌, ◌<◌, ◌≤◌, Bool, List, ℕ, IfOk, OnOk, is_none};
+ghost use Rattle.std.specs.Prelude.{◌≡◌, ◌+◌, ◌++◌, ◌||◌, ◌^◌, ◌<◌, ◌≤◌, Bool, List, ℕ, IfOk, OnOk, Option};
+ghost use Rattle.std.specs.Prelude.{is_none};
 ghost use Rattle.std.specs.Prelude.{length, map, string_bytes, sum};
 ghost use Rattle.std.specs.List.{count_by, filter, list_any, sum_by};
 ghost use Rattle.std.specs.Option.{option_map_or};
@@ -16,7 +17,8 @@ ghost use Rattle.scrub_check.specs.Runs.{ReadRunsValue};
 ghost use Rattle.scrub_report.specs.Answer.{AreTakingsBy};
 ghost use Rattle.scrub_report.specs.Parts.{AreRowsOf, IsScan, found_in};
 ghost use Rattle.scrub_listings.specs.Summary.{IsSoundImage, IsSummary, candidate_numbers, chunk_numbers};
-ghost use Rattle.scrub_listings.specs.Summary.{disk_numbers, has_spare_by, is_lost, is_noise};
+ghost use Rattle.scrub_listings.specs.Summary.{counts_as, disk_numbers, has_spare_by, is_behind, is_lost};
+ghost use Rattle.scrub_listings.specs.Summary.{is_noise};
 ghost use Rattle.scrub_listings.specs.Summary.{is_sound_verdict, is_torn, item_numbers};
 ghost use Rattle.scrub_listings.specs.Summary.{number_line, number_lines, numbers_by, one_if};
 ghost use Rattle.scrub_listings.specs.Summary.{reading_numbers, shard_numbers, superblock_numbers, tally_in};
@@ -42,10 +44,10 @@ use std::thread::Threads;
 /// What a disk is like, in one word.
 #[derive(Clone, Copy)]
 pub enum Verdict {
-    /// It is clean, and no page of extent 0 is damaged or stray.
+    /// It is clean, and there is no doubt.
     Sound,
-    /// It is clean, but a page of extent 0 is damaged or stray. This isn't what candidates call in doubt: a
-    /// disk with that isn't clean.
+    /// It is clean, but a page of extent 0 is damaged or stray, or the superblock that counts isn't the last
+    /// one that was written. This isn't what candidates call in doubt: a disk with that isn't clean.
     InDoubt,
     /// It isn't clean.
     Wrong,
@@ -86,14 +88,42 @@ fn has_odd_page(pages: &[SuperblockPage]) -> bool
     pages.iter().any(|page| is_odd(page))
 }
 
-/// The verdict on a disk that is clean or isn't, and has a damaged or stray page or hasn't.
-fn verdict_by(is_clean: bool, has_odd_page: bool) -> Verdict
-    ensures { result ≡ verdict_by is_clean has_odd_page }
+/// Whether a superblock counts, and has this generation.
+pub fn counts_as(chosen: &Chosen, generation: u64) -> bool
+    ensures { result ≡ counts_as chosen.now generation }
+{
+    match chosen.superblock() {
+        Some(superblock) => superblock.generation() == generation,
+        None => false,
+    }
+}
+
+/// Whether the generation of the last superblock that was written is given, and isn't the one that counts.
+fn is_behind(last: Option<u64>, chosen: &Chosen) -> bool
+    ensures { result ≡ is_behind last chosen.now }
+{
+    match last {
+        Some(generation) => !counts_as(chosen, generation),
+        None => false,
+    }
+}
+
+/// Whether there is a doubt: one of these pages is damaged or stray, or another generation counts than was
+/// given.
+fn has_doubt(last: Option<u64>, chosen: &Chosen, pages: &[SuperblockPage]) -> bool
+    ensures { result ≡ list_any is_odd pages.now || is_behind last chosen.now }
+{
+    has_odd_page(pages) || is_behind(last, chosen)
+}
+
+/// The verdict on a disk that is clean or isn't, by whether there is a doubt.
+fn verdict_by(is_clean: bool, has_doubt: bool) -> Verdict
+    ensures { result ≡ verdict_by is_clean has_doubt }
 {
     if !is_clean {
         return Verdict::Wrong;
     }
-    if has_odd_page {
+    if has_doubt {
         return Verdict::InDoubt;
     }
     Verdict::Sound
@@ -549,14 +579,16 @@ fn summary_of<R: Threads + Sync, D: PageSource>(
     alloc: Global,
     scan: Scan<'_, D>,
     pages: &[SuperblockPage],
+    last: Option<u64>,
 ) -> Result<Listing, OutOfMemory>
     requires scan { IsScan (D.image scan.disk.now) scan }
     requires pages { AreSuperblockPages (D.image scan.disk.now) pages.now }
-    ensures text { IfOk result (λ s. IsSummary (D.image scan.entry.disk.now) s.text.items) }
-    ensures sound { IfOk result (λ s. IsSoundImage (D.image scan.entry.disk.now) s.is_clean) }
+    ensures text { IfOk result (λ s. IsSummary last (D.image scan.entry.disk.now) s.text.items) }
+    ensures sound { IfOk result (λ s. IsSoundImage last (D.image scan.entry.disk.now) s.is_clean) }
 {
     let (parts, twin_chunks) = parts_and_twins(rt, alloc, scan)?;
-    let verdict = verdict_by(is_clean(&parts), has_odd_page(pages));
+    let has_doubt = has_doubt(last, &parts.judged.scan.chosen, pages);
+    let verdict = verdict_by(is_clean(&parts), has_doubt);
     let mut text = String::new(alloc);
     append_verdict(&mut text, verdict)?;
     append_all(alloc, &mut text, pages, &parts, twin_chunks.len())?;
@@ -571,7 +603,8 @@ fn summary_of<R: Threads + Sync, D: PageSource>(
 /// `sound`.
 ///
 /// First comes `verdict sound`, `verdict doubt` or `verdict wrong`, and then `NAME NUMBER` for each number,
-/// always all of them in the same order.
+/// always all of them in the same order. If `last` is given, the generation of the last superblock that was
+/// written to the disk, the verdict isn't `sound` unless the superblock that counts has it.
 ///
 /// It scans as `scrub` does, with this many workers (0 to 64) beside the caller. The only fault is
 /// `OutOfMemory`, returned once every started worker has ended.
@@ -581,20 +614,23 @@ pub fn list_summary<D: PageSource, G: Gate, R: Threads + Wait + Sync>(
     disk: &D,
     workers: u32,
     gate: &G,
+    last: Option<u64>,
 ) -> Result<(Listing, Takings), ScrubFault>
     requires { workers ≤ 64 }
-    ensures text { IfOk result (λ r. IsSummary (D.image disk.now) r.0.text.items) }
-    ensures sound { IfOk result (λ r. IsSoundImage (D.image disk.now) r.0.is_clean) }
+    ensures text { IfOk result (λ r. IsSummary last (D.image disk.now) r.0.text.items) }
+    ensures sound { IfOk result (λ r. IsSoundImage last (D.image disk.now) r.0.is_clean) }
     ensures takings { IfOk result (λ r. AreTakingsBy (D.image disk.now) workers r.1) }
 {
     let (chosen, pages) = choose_with_pages(alloc, disk)?;
     let (scan, takings) = scan_chosen(rt, alloc, disk, chosen, workers, gate)?;
-    let summary = summary_of(rt, alloc, scan, &pages)?;
+    let summary = summary_of(rt, alloc, scan, &pages, last)?;
     Ok((summary, takings))
 }
 
 /// A law: an image has at most one summary, and one verdict whether it is sound.
 pub fn one_summary()
-    ensures text { (image : Image) (a b : List ℕ) → IsSummary image a → IsSummary image b → a ≡ b }
-    ensures sound { (image : Image) (a b : Bool) → IsSoundImage image a → IsSoundImage image b → a ≡ b }
+    ensures text { (last : Option ℕ) (image : Image) (a b : List ℕ) → IsSummary last image a →
+        IsSummary last image b → a ≡ b }
+    ensures sound { (last : Option ℕ) (image : Image) (a b : Bool) → IsSoundImage last image a →
+        IsSoundImage last image b → a ≡ b }
 {}

@@ -22,45 +22,45 @@ use Rattle.scrub_report.specs.Parts.{AreRowsOf, found_in, run_states}
 use Rattle.scrub_report.specs.Report.{IsReport, report_text}
 use Rattle.scrub_report.specs.Scrubbed.{Scrubbed, IsScrubbed, is_in_doubt}
 use Rattle.scrub_report.proofs.OneReport.{one_scrub}
-use Rattle.scrub_reclaim.specs.Doubts.{Accepted}
+use Rattle.scrub_reclaim.specs.Doubts.{Acceptance, accepted_on}
 use Rattle.scrub_reclaim.specs.declared.doubts.Doubt.{Doubt}
-use Rattle.scrub_reclaim.specs.Doubts.{are_accepted, doubts, doubts_in}
-use Rattle.scrub_reclaim.specs.Reclaimable.{AreMoved, AreOfCandidates, AreReclaimLines, IsClear, IsMoved, candidate_lines, doubt_line, is_clear, pointing_to, points_to, reclaim_text, reclaimed, rooms_for, rooms_kept}
+use Rattle.scrub_reclaim.specs.Doubts.{are_accepted, doubts_in}
+use Rattle.scrub_reclaim.specs.Reclaimable.{AreMoved, AreOfCandidates, AreReclaimLines, IsClear, IsMoved, accepted_in, candidate_lines, doubt_line, doubts_for, is_clear, pointing_to, points_to, reclaim_text, reclaimed, rooms_for, rooms_kept}
 
 -- ---- what the code writes
 
 module _ {D : Type 0} {s : _} (p : Parts D s) (read : ReadRunsValue) (rows : AreRowsOf p.judged.scan.plan.runs read p.judged.runs.items)
-    (pages : List SuperblockPage) (accepted : Accepted) where
+    (pages : List SuperblockPage) (accepted : Acceptance) where
   -- the doubts of the rows are those of the runs
-  pub doubts_found : doubts_in p.judged.scan.chosen pages (run_states p.judged.runs.items) p.judged.scan.plan.geometry.page p.judged.scan.all.extents p.judged.checked.items p.liveness.candidates.items ≡ doubts pages (found_in p read)
+  pub doubts_found : doubts_in p.judged.scan.chosen accepted.last pages (run_states p.judged.runs.items) p.judged.scan.plan.geometry.page p.judged.scan.all.extents p.judged.checked.items p.liveness.candidates.items ≡ doubts_for accepted pages (found_in p read)
   doubts_found =
-      ap (λ (states : List RunState). doubts_in p.judged.scan.chosen pages states p.judged.scan.plan.geometry.page p.judged.scan.all.extents p.judged.checked.items p.liveness.candidates.items)
+      ap (λ (states : List RunState). doubts_in p.judged.scan.chosen accepted.last pages states p.judged.scan.plan.geometry.page p.judged.scan.all.extents p.judged.checked.items p.liveness.candidates.items)
       rows.states_are
 
   -- the verdict is that of what was found
   pub clear_found : (list : List Doubt) (clear : Bool) →
-      list ≡ doubts_in p.judged.scan.chosen pages (run_states p.judged.runs.items) p.judged.scan.plan.geometry.page p.judged.scan.all.extents p.judged.checked.items p.liveness.candidates.items →
-      clear ≡ are_accepted accepted list → clear ≡ is_clear accepted pages (found_in p read)
-  clear_found list clear are is = is ∙ ap (are_accepted accepted) (are ∙ doubts_found)
+      list ≡ doubts_in p.judged.scan.chosen accepted.last pages (run_states p.judged.runs.items) p.judged.scan.plan.geometry.page p.judged.scan.all.extents p.judged.checked.items p.liveness.candidates.items →
+      clear ≡ are_accepted (accepted_on accepted p.judged.scan.chosen) list → clear ≡ is_clear accepted pages (found_in p read)
+  clear_found list clear are is = is ∙ ap (are_accepted (accepted_on accepted p.judged.scan.chosen)) (are ∙ doubts_found)
 
   -- the text is that of what was found
   pub lines_found : (list : List Doubt) (clear : Bool) (lines text : List ℕ) →
-      list ≡ doubts_in p.judged.scan.chosen pages (run_states p.judged.runs.items) p.judged.scan.plan.geometry.page p.judged.scan.all.extents p.judged.checked.items p.liveness.candidates.items →
-      clear ≡ are_accepted accepted list → lines ≡ flat_map (doubt_line accepted) list →
+      list ≡ doubts_in p.judged.scan.chosen accepted.last pages (run_states p.judged.runs.items) p.judged.scan.plan.geometry.page p.judged.scan.all.extents p.judged.checked.items p.liveness.candidates.items →
+      clear ≡ are_accepted (accepted_on accepted p.judged.scan.chosen) list → lines ≡ flat_map (doubt_line (accepted_on accepted p.judged.scan.chosen)) list →
       text ≡ lines ++ flat_map (candidate_lines p.judged.checked.items) (if clear then p.liveness.candidates.items else []) ++ rooms_kept clear p →
       text ≡ reclaim_text accepted pages (found_in p read)
   lines_found list clear lines text are is first all =
       all
       ∙ ap
       (λ (u : List ℕ). u ++ flat_map (candidate_lines p.judged.checked.items) (if clear then p.liveness.candidates.items else []) ++ rooms_kept clear p)
-      (first ∙ ap (flat_map (doubt_line accepted)) (are ∙ doubts_found))
+      (first ∙ ap (flat_map (doubt_line (accepted_on accepted p.judged.scan.chosen))) (are ∙ doubts_found))
       ∙ ap
-      (λ (b : Bool). flat_map (doubt_line accepted) (doubts pages (found_in p read)) ++ flat_map (candidate_lines p.judged.checked.items) (if b then p.liveness.candidates.items else []) ++ rooms_kept b p)
+      (λ (b : Bool). flat_map (doubt_line (accepted_on accepted p.judged.scan.chosen)) (doubts_for accepted pages (found_in p read)) ++ flat_map (candidate_lines p.judged.checked.items) (if b then p.liveness.candidates.items else []) ++ rooms_kept b p)
       (clear_found list clear are is)
 
 -- ---- one text, and one verdict
 
-module _ (image : Image) (accepted : Accepted) where
+module _ (image : Image) (accepted : Acceptance) where
   same_text : (s t : Scrubbed) (ps qs : List SuperblockPage) → s ≡ t → ps ≡ qs →
       reclaim_text accepted ps s ≡ reclaim_text accepted qs t
   same_text s t ps qs found pages =
@@ -98,14 +98,14 @@ module _ (image : Image) (accepted : Accepted) where
     text_is =
         t.text_is
         ∙ ap
-        (λ (b : Bool). flat_map (doubt_line accepted) (doubts t.pages t.found) ++ flat_map (candidate_lines t.found.checked) (if b then t.found.candidates else []) ++ rooms_for (if b then t.found.candidates else []) t.found)
+        (λ (b : Bool). flat_map (doubt_line (accepted_in accepted t.found)) (doubts_for accepted t.pages t.found) ++ flat_map (candidate_lines t.found.checked) (if b then t.found.candidates else []) ++ rooms_for (if b then t.found.candidates else []) t.found)
         (sym (v.verdict ∙ same_verdict v.found t.found v.pages t.pages (one_scrub image v.found t.found v.scrubbed t.scrubbed) (one_list_of_pages image v.pages t.pages v.held t.held)));
   }
 
 -- ---- what is reclaimed is safe
 
 -- an element of a part is in the parts put together
-among_parts : {X A : Type 0} (f : X → List A) (xs : List X) (x : X) (y : A) → Contains xs x → Contains (f x) y →
+pub among_parts : {X A : Type 0} (f : X → List A) (xs : List X) (x : X) (y : A) → Contains xs x → Contains (f x) y →
     Contains (flat_map f xs) y
 among_parts f [] x y (i, below, is) there = absurd (omega (arith, below))
 among_parts {X} {A} f (z ∷ xs) x y among there = elim (Contains-cases z xs x among) [
@@ -143,7 +143,7 @@ whole image found x = record {
   findings = x.all;
 }
 
-pub safe_to_reclaim : (image : Image) (accepted : Accepted) (pages : List SuperblockPage) (found : Scrubbed) →
+pub safe_to_reclaim : (image : Image) (accepted : Acceptance) (pages : List SuperblockPage) (found : Scrubbed) →
     IsScrubbed image found → AreMoved found.checked (reclaimed accepted pages found)
 safe_to_reclaim image accepted pages found x = by (is_clear accepted pages found)
   where

@@ -4,6 +4,10 @@ pub mod JoinedPages
 pub mod ByPlace
 pub mod Clear
 pub mod RunDoubts
+pub mod RemainsDoubts
+pub mod DoubtParts
+pub mod LastLaw
+pub mod RemainsLaw
 pub mod SpareDoubts
 pub mod SpareLaw
 pub mod ResetForms

@@ -48,7 +48,7 @@ use Rattle.scrub_report.proofs.OneReader.{one_plan}
 use Rattle.scrub_report.proofs.OneReport.{one_scrub}
 use Rattle.scrub_report.proofs.ResetPlans.{whole_but}
 use Rattle.scrub_listings.specs.Manifest.{IsManifest, IsManifestBut, IsWholeBut, IsWholeImage, after_status_in, hidden_runs, is_of_read_run, is_of_shard, is_whole, is_whole_by, lost_runs, manifest_text, of_shards, text_by}
-use Rattle.scrub_reclaim.specs.Doubts.{Accepted}
+use Rattle.scrub_reclaim.specs.Doubts.{Acceptance}
 use Rattle.scrub_reclaim.specs.Reclaimable.{IsMoved, moves, reclaimed}
 use Rattle.scrub_reclaim.specs.Reset.{IsAfterReset, IsForeseen, IsListedWithoutMoves, IsPlanAfterReset, IsPlanIn, IsReclaimed, NameTheSame}
 use Rattle.scrub_reclaim.proofs.CarriedNames.{Carries, NamesPayload, named_alike}
@@ -342,7 +342,7 @@ HaveTheSameForms s t = All (λ (c : Checked). c.status ≡ Sound → form_at t.a
 -- ---- nothing named points into an extent that is reset
 
 -- a named locator into a listed extent would have to be moved
-none_into : (image : Image) (accepted : Accepted) (e : ℕ) (x : IsListedWithoutMoves image accepted e) (c : Checked) →
+none_into : (image : Image) (accepted : Acceptance) (e : ℕ) (x : IsListedWithoutMoves image accepted e) (c : Checked) →
     Contains x.found.checked c → c.locator.extent ≢ e
 none_into image accepted e x c there into = none (subst (λ (ms : List Checked). Contains ms c) x.unmoved line)
   where
@@ -359,7 +359,7 @@ one_plan_in image p q x y =
     one_plan y.choice p q (rw choice at x.follows) y.follows
 
 -- no named locator points into one of the listed extents
-pub none_into_these : (image : Image) (accepted : Accepted) (extents : List ℕ) (found : Scrubbed) → IsScrubbed image found →
+pub none_into_these : (image : Image) (accepted : Acceptance) (extents : List ℕ) (found : Scrubbed) → IsScrubbed image found →
     All (IsListedWithoutMoves image accepted) extents → All (λ (c : Checked). ¬ Contains extents c.locator.extent) found.checked
 none_into_these image accepted extents found x listed i d below =
     into (get_or found.checked i d) (All-contains_itself found.checked i d below)
@@ -602,7 +602,7 @@ whole_as_foreseen extents before after a b f x y =
 
 -- ---- the law
 
-module _ (accepted : Accepted) (extents : List ℕ) (before after : Image) where
+module _ (accepted : Acceptance) (extents : List ℕ) (before after : Image) where
   pub the_same_named : (found rest : Scrubbed) → IsReclaimed accepted extents before after → IsScrubbed before found →
       IsScrubbed after rest → NameTheSame found rest
   the_same_named found rest r x y =

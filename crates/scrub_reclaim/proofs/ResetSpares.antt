@@ -22,14 +22,14 @@ use Rattle.scrub_check.specs.Spares.{frames, spares_by}
 use Rattle.scrub_report.specs.Scrubbed.{Scrubbed, IsScrubbed, IsScrubbedBut}
 use Rattle.scrub_report.proofs.OneReport.{one_scrub}
 use Rattle.scrub_listings.specs.Manifest.{IsManifest, IsManifestBut, IsWholeBut, IsWholeImage, after_status_in}
-use Rattle.scrub_reclaim.specs.Doubts.{Accepted}
+use Rattle.scrub_reclaim.specs.Doubts.{Acceptance}
 use Rattle.scrub_reclaim.specs.Reclaimable.{AcceptsNoSpare, HasSafeSpare, KeepsSpares, reclaimed}
 use Rattle.scrub_reclaim.specs.Reset.{AreListedWithoutSpares, IsListedWithoutMoves, NameTheSame}
 use Rattle.scrub_reclaim.proofs.Reset.{HaveTheSameForms, IsScannedBy, IsTheSame, alike_items, among_cases, kept_pointer, name_the_same, no_items, none_into_these, one_plan_in, reset_of, said_of, same_numbers, same_text, same_verdict, scanned_by, scans_alike, zero_pointer}
 use Rattle.scrub_reclaim.proofs.ResetForms.{IsAlikeIn, IsPartOf, along, frame_stays, frame_was, same_after, same_form, same_none, spare_among, spare_too}
 use Rattle.scrub_reclaim.proofs.SpareLaw.{spares_kept}
 
-module _ (accepted : Accepted) (extents : List ℕ) (image : Image) (l : AreListedWithoutSpares accepted extents image)
+module _ (accepted : Acceptance) (extents : List ℕ) (image : Image) (l : AreListedWithoutSpares accepted extents image)
     (found rest : Scrubbed) (x : IsScrubbed image found) (y : IsScrubbedBut extents image rest) where
   -- ---- the plan
 
@@ -141,14 +141,14 @@ module _ (accepted : Accepted) (extents : List ℕ) (image : Image) (l : AreList
       (same_none (get_or found.checked i d) (frames found.all) (frames rest.all) (λ s. frame_was found.all rest.all s parts)
       (λ some. still (get_or found.checked i d) (keeps i d below some)))
 
-pub same_without : (accepted : Accepted) (extents : List ℕ) (image : Image) (a b : List ℕ) → AreListedWithoutSpares accepted extents image →
+pub same_without : (accepted : Acceptance) (extents : List ℕ) (image : Image) (a b : List ℕ) → AreListedWithoutSpares accepted extents image →
     IsManifestBut extents image a → IsManifest image b → a ≡ b
 same_without accepted extents image a b l y x =
     y.text_is
     ∙ same_text x.found y.found (named accepted extents image l x.found y.found x.scrubbed y.scrubbed) (after accepted extents image l x.found y.found x.scrubbed y.scrubbed)
     ∙ sym x.text_is
 
-pub whole_without : (accepted : Accepted) (extents : List ℕ) (image : Image) (a b : Bool) → AreListedWithoutSpares accepted extents image →
+pub whole_without : (accepted : Acceptance) (extents : List ℕ) (image : Image) (a b : Bool) → AreListedWithoutSpares accepted extents image →
     IsWholeBut extents image a → IsWholeImage image b → a ≡ b
 whole_without accepted extents image a b l y x =
     y.verdict ∙ same_verdict x.found y.found (named accepted extents image l x.found y.found x.scrubbed y.scrubbed) ∙ sym x.verdict

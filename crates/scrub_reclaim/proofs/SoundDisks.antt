@@ -38,12 +38,12 @@ use Rattle.scrub_report.proofs.OneReport.{one_scrub}
 use Rattle.scrub_listings.specs.declared.summary.Verdict.{Verdict}
 use Rattle.scrub_listings.specs.declared.summary.Verdict.TheVariants.{Sound, InDoubt, Wrong}
 use Rattle.scrub_listings.specs.Manifest.{IsWholeImage, are_sound, hidden_runs, is_of_read_run, is_of_shard, is_whole, lost_runs, of_shards}
-use Rattle.scrub_listings.specs.Summary.{IsSoundImage, one_if, is_sound_verdict, verdict, verdict_by}
+use Rattle.scrub_listings.specs.Summary.{IsSoundImage, counts_as, is_behind, is_sound_verdict, one_if, verdict, verdict_by}
 use Rattle.scrub_reclaim.specs.declared.doubts.Doubt.{Doubt}
-use Rattle.scrub_reclaim.specs.declared.doubts.Doubt.TheVariants.{NoSuperblock, Tail, Tie}
-use Rattle.scrub_reclaim.specs.Doubts.{Accepted, accepts, accepts_tails, doubt_text, is_accepted, choice_doubts, doubts, ends_past, page_doubts, page_ranges, range_doubts, run_doubts, run_lost, spare_doubt, spare_doubts, spare_doubts_of, staying, superblock_damaged, superblock_lost, superblock_stray, tail_doubts, tail_lost_doubts}
+use Rattle.scrub_reclaim.specs.declared.doubts.Doubt.TheVariants.{Last, NoSuperblock, Tail, Tie}
+use Rattle.scrub_reclaim.specs.Doubts.{Acceptance, choice_doubts, doubts, ends_past, gone_count, is_accepted, is_gone, is_last, is_named, last_doubt, last_doubts, page_doubts, page_ranges, range_doubts, remains_among, remains_by, run_doubts, run_lost, spare_doubt, spare_doubts, spare_doubts_of, staying, superblock_damaged, superblock_lost, superblock_stray, tail_doubts, tail_lost_doubts}
 use Rattle.scrub_reclaim.specs.AllRight.{IsAllRight, is_quiet, is_tail}
-use Rattle.scrub_reclaim.specs.Reclaimable.{IsClear, is_clear}
+use Rattle.scrub_reclaim.specs.Reclaimable.{IsClear, accepted_in, doubts_for, is_clear}
 use Rattle.scrub_super.proofs.PageLaws.{held_unless_odd, one_list_of_pages}
 
 -- ---- lists whose elements pass
@@ -53,7 +53,7 @@ not_true true e = absurd (false≢true e)
 not_true false e = refl
 
 -- a test that is weaker passes too
-all_weaker : {X : Type 0} (p q : X → Bool) (xs : List X) → ((x : X) → p x ≡ true → q x ≡ true) → list_all p xs ≡ true → list_all q xs ≡ true
+pub all_weaker : {X : Type 0} (p q : X → Bool) (xs : List X) → ((x : X) → p x ≡ true → q x ≡ true) → list_all p xs ≡ true → list_all q xs ≡ true
 all_weaker p q [] weaker all = refl
 all_weaker p q (x ∷ xs) weaker all =
     let parts = and_parts (p x) (list_all p xs) all in
@@ -133,6 +133,42 @@ no_spare_doubt all checked extents c e =
     (λ (t : Status). if is_dangling t && nat_lt 0 c.locator.length then copies_of all c.locator else [])
     (sound_only c.status e) in
     ap (λ (ss : List Standing). spare_doubt c.owner ss (staying checked extents ss)) none
+
+-- nor is its chunk one that isn't found
+not_gone : (all : List Scanned) (c : Checked) → is_sound c.status ≡ true → not (is_gone all c) ≡ true
+not_gone all c e =
+    ap (λ (t : Status). not (nat_lt 0 c.locator.length && (is_dangling t && length (spares_of all c) == 0))) (sound_only c.status e)
+    ∙ by (nat_lt 0 c.locator.length)
+  where
+    by : (b : Bool) → not (b && false) ≡ true
+    by true = refl
+    by false = refl
+
+-- so there are no remains
+no_remains : (all : List Scanned) (checked : List Checked) (extents : List ℕ) → list_all (λ c. is_sound c.status) checked ≡ true →
+    remains_by extents (gone_count all checked) all ≡ []
+no_remains all checked extents sound =
+    ap (λ (n : ℕ). remains_by extents n all)
+    (none_counted (is_gone all) checked (all_weaker (λ c. is_sound c.status) (λ c. not (is_gone all c)) checked (not_gone all) sound))
+
+-- ---- the last superblock
+
+-- there is no doubt of it if it counts
+no_last : (choice : Choice) (last : Option ℕ) → is_behind last choice ≡ false → last_doubts choice last ≡ []
+no_last choice None e = refl
+no_last choice (Some g) e = by (counts_as choice g) refl
+  where
+    by : (b : Bool) → counts_as choice g ≡ b → last_doubt choice g ≡ []
+    by true is = ap (λ (t : Bool). if t then [] else Last (option_map (λ (c : Contents). c.generation) choice.superblock) g ∷ []) is
+    by false is = absurd (false≢true (sym e ∙ ap not is))
+
+-- it is known, then
+known_last : (choice : Choice) (g : ℕ) → is_behind (Some g) choice ≡ false → is_last (Some g) choice ≡ true
+known_last choice g e = by (counts_as choice g) refl
+  where
+    by : (b : Bool) → counts_as choice g ≡ b → counts_as choice g ≡ true
+    by true is = is
+    by false is = absurd (false≢true (sym e ∙ ap not is))
 
 -- ---- pages of extent 0
 
@@ -221,7 +257,8 @@ no_tail_lost page f e = by f.findings.bad_pages (and_parts (length f.findings.ba
 -- ---- all of it
 
 module _ (image : Image) (pages : List SuperblockPage) (found : Scrubbed) (x : IsScrubbed image found)
-    (held : AreSuperblockPages image pages) (clean : is_clean found ≡ true) (even : list_any is_odd pages ≡ false) where
+    (held : AreSuperblockPages image pages) (clean : is_clean found ≡ true) (even : list_any is_odd pages ≡ false) (last : Option ℕ)
+    (counts : is_behind last found.choice ≡ false) where
   choice_is : is_clean_choice found.choice ≡ true
   choice_is = (and_parts (is_clean_choice found.choice) (list_all is_clean_extent found.all) (and_parts (is_clean_choice found.choice && list_all is_clean_extent found.all) (list_all is_some found.read.runs) (and_parts (is_clean_choice found.choice && list_all is_clean_extent found.all && list_all is_some found.read.runs) (is_clean_list found.checked found.shared) clean).0).0).0
 
@@ -284,72 +321,85 @@ module _ (image : Image) (pages : List SuperblockPage) (found : Scrubbed) (x : I
       by None e = absurd (false≢true e)
       by (Some c) e = ap (λ (b : Bool). let none : List Doubt = [] in none ++ (if b then Tie ∷ [] else [])) no_tie
 
-  tails : list_all is_tail (doubts pages found) ≡ true
+  tails : list_all is_tail (doubts last pages found) ≡ true
   tails =
-      let parts : doubts pages found ≡ [] ++ [] ++ [] ++ [] ++ [] ++ [] ++ flat_map tail_doubts found.all ++ [] =
+      let parts : doubts last pages found ≡ [] ++ [] ++ [] ++ [] ++ [] ++ [] ++ [] ++ [] ++ flat_map tail_doubts found.all ++ [] =
       (λ i. no_choice_doubt i
+      ++ no_last found.choice last counts i
       ++ no_page_doubt superblock_lost pages 0 no_lost quiet i
       ++ no_page_doubt superblock_damaged pages 0 no_damaged quiet i
       ++ no_page_doubt superblock_stray pages 0 no_stray quiet i
       ++ no_run_doubts image found.plan found.plan.runs found.read.runs found.read.states 0 x.read.same x.read.each runs_are i
       ++ nothing (spare_doubts_of found.all found.checked (map (λ (a : CandidateValue). a.extent) found.candidates)) (λ (c : Checked). is_sound c.status) found.checked
       (no_spare_doubt found.all found.checked (map (λ (a : CandidateValue). a.extent) found.candidates)) sound_are i
+      ++ no_remains found.all found.checked (map (λ (a : CandidateValue). a.extent) found.candidates) sound_are i
       ++ flat_map tail_doubts found.all
       ++ nothing (tail_lost_doubts found.plan.geometry.page) is_clean_extent found.all (no_tail_lost found.plan.geometry.page) extents_are i) in
       ap (list_all is_tail) parts
       ∙ list_all-append is_tail (flat_map tail_doubts found.all) []
       ∙ both_true (tails_only found.all) refl
 
-  all_right : IsAllRight pages found
+  all_right : IsAllRight last pages found
   all_right = record { clean = clean; whole = whole; quiet = quiet; tails = tails }
 
-pub sound_is_right : (image : Image) (pages : List SuperblockPage) (found : Scrubbed) → IsScrubbed image found →
-    AreSuperblockPages image pages → is_sound_verdict (verdict found pages) ≡ true → IsAllRight pages found
-sound_is_right image pages found x held is = by (is_clean found) (list_any is_odd pages) refl refl is
+pub sound_is_right : (last : Option ℕ) (image : Image) (pages : List SuperblockPage) (found : Scrubbed) → IsScrubbed image found →
+    AreSuperblockPages image pages → is_sound_verdict (verdict last found pages) ≡ true → IsAllRight last pages found
+sound_is_right last image pages found x held is = by (is_clean found) (list_any is_odd pages || is_behind last found.choice) refl refl is
   where
-    by : (clean odd : Bool) → is_clean found ≡ clean → list_any is_odd pages ≡ odd → is_sound_verdict (verdict_by clean odd) ≡ true →
-        IsAllRight pages found
+    by : (clean doubt : Bool) → is_clean found ≡ clean → (list_any is_odd pages || is_behind last found.choice) ≡ doubt →
+        is_sound_verdict (verdict_by clean doubt) ≡ true → IsAllRight last pages found
     by true true c o e = absurd (false≢true e)
-    by true false c o e = all_right image pages found x held c o
-    by false odd c o e = absurd (false≢true e)
+    by true false c o e =
+        let parts = or_parts (list_any is_odd pages) (is_behind last found.choice) o in
+        all_right image pages found x held c parts.0 last parts.1
+    by false doubt c o e = absurd (false≢true e)
 
 -- ---- what the commands say of it
 
-right : (image : Image) (x : IsSoundImage image true) → IsAllRight x.pages x.found
-right image x = sound_is_right image x.pages x.found x.scrubbed x.held (sym x.verdict_is)
+module _ (last : Option ℕ) (image : Image) (x : IsSoundImage last image true) where
+  right : IsAllRight last x.pages x.found
+  right = sound_is_right last image x.pages x.found x.scrubbed x.held (sym x.verdict_is)
 
-pub sound_is_clean : (image : Image) → IsSoundImage image true → IsCleanImage image true
-sound_is_clean image x = record { found = x.found; scrubbed = x.scrubbed; verdict = sym (right image x).clean }
+  pub sound_is_clean : IsCleanImage image true
+  sound_is_clean = record { found = x.found; scrubbed = x.scrubbed; verdict = sym right.clean }
 
-pub sound_is_whole : (image : Image) → IsSoundImage image true → IsWholeImage image true
-sound_is_whole image x = record { found = x.found; scrubbed = x.scrubbed; verdict = sym (right image x).whole }
+  pub sound_is_whole : IsWholeImage image true
+  sound_is_whole = record { found = x.found; scrubbed = x.scrubbed; verdict = sym right.whole }
 
-pub sound_is_held : (image : Image) (q : ℕ) (bytes : List ℕ) → IsSoundImage image true → q < image.geometry.pages →
+pub sound_is_held : (last : Option ℕ) (image : Image) (q : ℕ) (bytes : List ℕ) → IsSoundImage last image true → q < image.geometry.pages →
     image.page 0 q ≡ Some bytes → AreHeldBytes image q bytes
-sound_is_held image q bytes x here readable =
+sound_is_held last image q bytes x here readable =
     let page : SuperblockPage = get_or x.pages q Lost in
     let within : q < length x.pages = omega (arith, here, x.held.count) in
-    let even : is_odd page ≡ false = even_if_quiet page (AllPass-from_list_all is_quiet x.pages (right image x).quiet q Lost within) in
+    let even : is_odd page ≡ false = even_if_quiet page (AllPass-from_list_all is_quiet x.pages (right last image x).quiet q Lost within) in
     held_unless_odd image q page bytes (x.held.each q page (slice_get-get_or x.pages q Lost within)) even readable
 
--- a test that is weaker passes for some element too
-any_weaker : {X : Type 0} (p q : X → Bool) (xs : List X) → ((x : X) → p x ≡ true → q x ≡ true) → list_any p xs ≡ true → list_any q xs ≡ true
-any_weaker p q [] weaker some = absurd (false≢true some)
-any_weaker p q (x ∷ xs) weaker some = by (λ e. any_weaker p q xs weaker e) (p x) refl some
-  where
-    by : (list_any p xs ≡ true → list_any q xs ≡ true) → (first : Bool) → p x ≡ first → (first || list_any p xs) ≡ true → (q x || list_any q xs) ≡ true
-    by rest true is e = ap (λ b. b || list_any q xs) (weaker x is)
-    by rest false is e = or_right (q x) (list_any q xs) (rest e)
+-- a verdict that is sound is no other
+sound_alone_is : (clean doubt : Bool) → is_sound_verdict (verdict_by clean doubt) ≡ true → doubt ≡ false
+sound_alone_is true true e = absurd (false≢true e)
+sound_alone_is true false e = refl
+sound_alone_is false doubt e = absurd (false≢true e)
 
-tail_accepted : (accepted : Accepted) → accepts_tails accepted ≡ true → (d : Doubt) → is_tail d ≡ true → is_accepted accepted d ≡ true
-tail_accepted accepted yes' (Tail extent first count) e =
-    any_weaker (λ word. bytes_eq word (codes "tail")) (accepts (Tail extent first count) (doubt_text (Tail extent first count))) accepted
-    (λ word is. ap (λ b. b || bytes_eq word (doubt_text (Tail extent first count))) is) yes'
-tail_accepted accepted yes' _ e = absurd (false≢true e)
-
-pub sound_is_clear : (image : Image) (accepted : Accepted) (clear : Bool) → IsSoundImage image true → accepts_tails accepted ≡ true →
-    IsClear image accepted clear → clear ≡ true
-sound_is_clear image accepted clear x yes' c =
+pub sound_is_clear : (last : ℕ) (image : Image) (accepted : Acceptance) (clear : Bool) → IsSoundImage (Some last) image true →
+    accepted.last ≡ Some last → IsClear image accepted clear → clear ≡ true
+sound_is_clear last image accepted clear x given c =
     c.verdict
     ∙ (λ i. is_clear accepted (one_list_of_pages image c.pages x.pages c.held x.held i) (one_scrub image c.found x.found c.scrubbed x.scrubbed i))
-    ∙ all_weaker is_tail (is_accepted accepted) (doubts x.pages x.found) (tail_accepted accepted yes') (right image x).tails
+    ∙ ap (λ (ds : List Doubt). list_all (is_accepted (accepted_in accepted x.found)) ds) are
+    ∙ all_weaker is_tail (is_accepted (accepted_in accepted x.found)) (doubts (Some last) x.pages x.found) tail_accepted (right (Some last) image x).tails
+  where
+    are : doubts_for accepted x.pages x.found ≡ doubts (Some last) x.pages x.found
+    are = ap (λ (o : Option ℕ). doubts o x.pages x.found) given
+
+    known : is_last accepted.last x.found.choice ≡ true
+    known =
+        ap (λ (o : Option ℕ). is_last o x.found.choice) given
+        ∙ known_last x.found.choice last
+        (or_parts (list_any is_odd x.pages) (is_behind (Some last) x.found.choice)
+        (sound_alone_is (is_clean x.found) (list_any is_odd x.pages || is_behind (Some last) x.found.choice) (sym x.verdict_is))).1
+
+    tail_accepted : (d : Doubt) → is_tail d ≡ true → is_accepted (accepted_in accepted x.found) d ≡ true
+    tail_accepted (Tail extent first count) e =
+        or_right (is_named accepted.lines (Tail extent first count)) (is_last accepted.last x.found.choice && true)
+        (both_true known refl)
+    tail_accepted _ e = absurd (false≢true e)

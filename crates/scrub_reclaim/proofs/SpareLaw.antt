@@ -12,38 +12,24 @@ use Rattle.scrub_check.specs.Candidates.{CandidateValue}
 use Rattle.scrub_check.specs.Live.{has_sound_at}
 use Rattle.scrub_check.specs.Spares.{spares_of}
 use Rattle.scrub_report.specs.Scrubbed.{Scrubbed}
-use Rattle.scrub_reclaim.specs.Doubts.{Accepted, doubts, frame_bytes, is_spare}
+use Rattle.scrub_reclaim.specs.Doubts.{Acceptance, frame_bytes, is_spare}
 use Rattle.scrub_reclaim.specs.declared.doubts.Doubt.{Doubt}
 use Rattle.scrub_reclaim.specs.declared.doubts.Doubt.TheVariants.{Spare}
-use Rattle.scrub_reclaim.specs.Doubts.{choice_doubts, is_accepted, is_at_risk, page_doubts, run_doubts, spare_doubt, spare_doubts, spare_doubts_of, staying, superblock_damaged, superblock_lost, superblock_stray, tail_doubts, tail_lost_doubts}
-use Rattle.scrub_reclaim.specs.Reclaimable.{AcceptsNoSpare, HasSafeSpare, KeepsSpares, is_clear, reclaimed}
+use Rattle.scrub_reclaim.specs.Doubts.{is_accepted, is_at_risk, spare_doubt, spare_doubts_of, staying}
+use Rattle.scrub_reclaim.specs.Reclaimable.{AcceptsNoSpare, HasSafeSpare, KeepsSpares, accepted_in, doubts_for, is_clear, reclaimed}
+use Rattle.scrub_reclaim.proofs.DoubtParts.{each_part, of_spares}
 
 not_true : (b : Bool) → not b ≡ true → b ≡ false
 not_true true e = absurd (false≢true e)
 not_true false e = refl
 
 -- what is accepted isn't unaccepted
-clash : (b : Bool) → (b && true) ≡ true → (not (true && b) && true) ≡ true → ⊥
+pub clash : (b : Bool) → (b && true) ≡ true → (not (true && b) && true) ≡ true → ⊥
 clash true e f = false≢true f
 clash false e f = false≢true e
 
--- both parts pass
-split : {X : Type 0} (p : X → Bool) (xs ys : List X) → list_all p (xs ++ ys) ≡ true → (list_all p xs ≡ true) × (list_all p ys ≡ true)
-split p [] ys e = (refl, e)
-split p (x ∷ xs) ys e =
-    let parts = and_parts (p x) (list_all p (xs ++ ys)) e in
-    let rest = split p xs ys parts.1 in
-    (ap₂ (λ (a b : Bool). a && b) parts.0 rest.0, rest.1)
-
--- what is made of each element passes
-each_part : {X Y : Type 0} (p : Y → Bool) (f : X → List Y) (xs : List X) (k : ℕ) (x : X) → k < length xs → get_or xs k x ≡ x →
-    list_all p (flat_map f xs) ≡ true → list_all p (f x) ≡ true
-each_part p f [] k x below is e = absurd (omega (arith, below))
-each_part p f (y ∷ ys) zero x below is e = subst (λ v. list_all p (f v) ≡ true) is (split p (f y) (flat_map f ys) e).0
-each_part p f (y ∷ ys) (suc k) x below is e = each_part p f ys k x (omega (arith, below)) is (split p (f y) (flat_map f ys) e).1
-
 -- the number of an extent is among those of all
-numbered : (candidates : List CandidateValue) (k : ℕ) (d : CandidateValue) → k < length candidates →
+pub numbered : (candidates : List CandidateValue) (k : ℕ) (d : CandidateValue) → k < length candidates →
     list_any (λ n. n == (get_or candidates k d).extent) (map (λ a. a.extent) candidates) ≡ true
 numbered [] k d below = absurd (omega (arith, below))
 numbered (a ∷ candidates) zero d below =
@@ -58,19 +44,9 @@ others : (candidates : List CandidateValue) (e : ℕ) → list_any (λ n. n == e
 others candidates e none k d below same =
     false≢true (sym none ∙ subst (λ (n : ℕ). list_any (λ m. m == n) (map (λ a. a.extent) candidates) ≡ true) same (numbered candidates k d below))
 
-module _ (accepted : Accepted) (pages : List SuperblockPage) (found : Scrubbed) (refused : AcceptsNoSpare accepted pages found) where
+module _ (accepted : Acceptance) (pages : List SuperblockPage) (found : Scrubbed) (refused : AcceptsNoSpare accepted pages found) where
   abbrev numbers : List ℕ
   numbers = map (λ a. a.extent) found.candidates
-
-  -- what holds of all doubts holds of those that spares make
-  of_spares : (p : Doubt → Bool) → list_all p (doubts pages found) ≡ true → list_all p (spare_doubts found.all found.checked found.candidates) ≡ true
-  of_spares p clear =
-      let page = found.plan.geometry.page in
-      let front = choice_doubts found.choice ++ page_doubts superblock_lost pages ++ page_doubts superblock_damaged pages ++ page_doubts superblock_stray pages ++ run_doubts found.read.states in
-      let spares = spare_doubts found.all found.checked found.candidates in
-      let tails = flat_map tail_doubts found.all in
-      let lost = flat_map (tail_lost_doubts page) found.all in
-      (split p front spares (split p (front ++ spares) tails (split p (front ++ spares ++ tails) lost clear).0).0).1
 
   -- one of those that stay
   one_stays : (c : Checked) → 0 < length (staying found.checked numbers (spares_of found.all c)) → HasSafeSpare found found.candidates c
@@ -99,25 +75,25 @@ module _ (accepted : Accepted) (pages : List SuperblockPage) (found : Scrubbed) 
           (not_true (list_any (λ n. n == s.extent) numbers) (ap (λ (t : Bool). not (not t && list_any (λ n. n == s.extent) numbers)) (sym dead) ∙ passes)))
 
   kept : is_clear accepted pages found ≡ true → KeepsSpares found found.candidates
-  kept clear k d below has = by (spares_of found.all c) (staying found.checked numbers (spares_of found.all c)) refl refl (of_one (is_accepted accepted) clear)
-      (of_one (λ x. not (is_spare x && is_accepted accepted x)) refused)
+  kept clear k d below has = by (spares_of found.all c) (staying found.checked numbers (spares_of found.all c)) refl refl (of_one (is_accepted (accepted_in accepted found)) clear)
+      (of_one (λ x. not (is_spare x && is_accepted (accepted_in accepted found) x)) refused)
     where
       c : Checked
       c = get_or found.checked k d
 
-      of_one : (p : Doubt → Bool) → list_all p (doubts pages found) ≡ true →
+      of_one : (p : Doubt → Bool) → list_all p (doubts_for accepted pages found) ≡ true →
           list_all p (spare_doubt c.owner (spares_of found.all c) (staying found.checked numbers (spares_of found.all c))) ≡ true
       of_one p all =
           let there : Contains found.checked c = All-contains_itself found.checked k d below in
-          each_part p (spare_doubts_of found.all found.checked numbers) found.checked there.0 c there.1 there.2 (of_spares p all)
+          each_part p (spare_doubts_of found.all found.checked numbers) found.checked there.0 c there.1 there.2 (of_spares p accepted.last pages found all)
 
       by : (ss ts : List Standing) → spares_of found.all c ≡ ss → staying found.checked numbers (spares_of found.all c) ≡ ts →
-          list_all (is_accepted accepted) (spare_doubt c.owner ss ts) ≡ true →
-          list_all (λ x. not (is_spare x && is_accepted accepted x)) (spare_doubt c.owner ss ts) ≡ true → HasSafeSpare found found.candidates c
+          list_all (is_accepted (accepted_in accepted found)) (spare_doubt c.owner ss ts) ≡ true →
+          list_all (λ x. not (is_spare x && is_accepted (accepted_in accepted found) x)) (spare_doubt c.owner ss ts) ≡ true → HasSafeSpare found found.candidates c
       by [] ts none stay all not_one = absurd (has none)
       by (s ∷ ss) (t ∷ ts) some stay all not_one = one_stays c (let e : length (staying found.checked numbers (spares_of found.all c)) ≡ suc (length ts) = ap length stay in omega (arith, e))
       by (s ∷ ss) [] some stay all not_one =
-          absurd (clash (is_accepted accepted (Spare s.extent s.offset s.length s.uuid c.owner (frame_bytes s))) all not_one)
+          absurd (clash (is_accepted (accepted_in accepted found) (Spare s.extent s.offset s.length s.uuid c.owner (frame_bytes s))) all not_one)
 
   -- without extents to reclaim any will do
   any_will_do : KeepsSpares found []

@@ -1,5 +1,5 @@
 -- What follows from a disk's summary if it says that the disk is sound.
-use Rattle.std.specs.Prelude.{◌≡◌, Bool, true, false, List, not}
+use Rattle.std.specs.Prelude.{◌≡◌, ℕ, Bool, true, false, List, Option, not}
 use Rattle.std.specs.List.{list_all}
 use Rattle.scrub_super.specs.declared.pages.SuperblockPage.{SuperblockPage}
 use Rattle.scrub_super.specs.declared.pages.SuperblockPage.TheVariants.{Lost}
@@ -20,9 +20,10 @@ abbrev pub is_tail : Doubt → Bool
 is_tail (Tail extent first count) = true
 is_tail _ = false
 
--- what is found is clean, nothing is missing of it, no page of extent 0 is lost, damaged or stray, and each doubt is a tail
-pub record IsAllRight (pages : List SuperblockPage) (found : Scrubbed) : Type 0 where
+-- what is found is clean, nothing is missing of it, no page of extent 0 is lost, damaged or stray, and each doubt is a tail, also by the
+-- generation of the last superblock that was written, if that is given
+pub record IsAllRight (last : Option ℕ) (pages : List SuperblockPage) (found : Scrubbed) : Type 0 where
   pub clean : is_clean found ≡ true
   pub whole : is_whole found ≡ true
   pub quiet : list_all is_quiet pages ≡ true
-  pub tails : list_all is_tail (doubts pages found) ≡ true
+  pub tails : list_all is_tail (doubts last pages found) ≡ true

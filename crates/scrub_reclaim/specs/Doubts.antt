@@ -1,17 +1,19 @@
 -- What may have hidden a newer superblock, a newer binding, or a chunk past a write pointer: the doubts of a disk, in the
 -- order of their lines.
-use Rattle.std.specs.Prelude.{◌≡◌, ◌≢◌, ◌≤◌, ◌+◌, ◌-◌, ◌*◌, ◌==◌, ◌&&◌, ◌||◌, ℕ, ⊤, All, Bool, true, false, not, codes, List, [], ◌∷◌, ◌++◌, Option, Some, None, is_none, nat_lt, map, if◌then◌else◌}
+use Rattle.std.specs.Prelude.{◌≡◌, ◌≢◌, ◌≤◌, ◌+◌, ◌-◌, ◌*◌, ◌==◌, ◌&&◌, ◌||◌, ℕ, ⊤, All, Bool, true, false, not, codes, List, [], ◌∷◌, ◌++◌, Option, Some, None, find, is_none, nat_lt, map, if◌then◌else◌}
 use Rattle.std.specs.Fmt.{decimal}
 use Rattle.std.specs.Str.{bytes_eq}
 use Rattle.scrub_scan.specs.Line.{spaced}
-use Rattle.std.specs.Option.{option_map, option_to_list}
-use Rattle.std.specs.List.{enumerate_from, filter, filter_map, flat_map, list_all, list_any, range_with_len}
+use Rattle.std.specs.Option.{option_map, option_map_or, option_to_list}
+use Rattle.std.specs.List.{count_by, enumerate_from, filter, filter_map, flat_map, list_all, list_any, range_with_len}
 use Rattle.scrub_frame.specs.Frame.{frame_overhead}
 use Rattle.scrub_super.specs.declared.pages.SuperblockPage.{SuperblockPage}
 use Rattle.scrub_super.specs.declared.pages.SuperblockPage.TheVariants.{Lost, Damaged}
 use Rattle.scrub_super.specs.Chosen.{Choice}
 use Rattle.scrub_super.specs.Pages.{is_stray}
+use Rattle.scrub_scan.specs.Item.{start_of}
 use Rattle.scrub_scan.specs.Scanned.{Scanned}
+use Rattle.scrub_scan.specs.declared.item.Item.{Item}
 use Rattle.scrub_scan.specs.declared.standing.Standing.{Standing}
 use Rattle.scrub_check.specs.declared.named.Owner.{Owner}
 use Rattle.scrub_check.specs.declared.statuses.checked.Checked.{Checked}
@@ -23,8 +25,10 @@ use Rattle.scrub_check.specs.declared.runs.RunState.TheVariants.{Read}
 use Rattle.scrub_report.specs.Scrubbed.{Scrubbed}
 use Rattle.scrub_report.specs.Texts.{owner_text, state_text}
 use Rattle.scrub_listings.specs.Locators.{place_words}
+use Rattle.scrub_listings.specs.Manifest.{is_without_spare}
+use Rattle.scrub_listings.specs.Summary.{counts_as, is_noise, is_torn}
 use Rattle.scrub_reclaim.specs.declared.doubts.Doubt.{Doubt}
-use Rattle.scrub_reclaim.specs.declared.doubts.Doubt.TheVariants.{NoSuperblock, Tie, SuperblockLost, SuperblockDamaged, SuperblockStray, RunLost, Spare, Tail, TailLost}
+use Rattle.scrub_reclaim.specs.declared.doubts.Doubt.TheVariants.{NoSuperblock, Tie, Last, SuperblockLost, SuperblockDamaged, SuperblockStray, RunLost, Spare, Remains, Tail, TailLost}
 use Rattle.scrub_reclaim.specs.declared.page_ranges.PageRange.{PageRange}
 
 -- ---- neighbouring pages
@@ -61,6 +65,14 @@ pub record AreJoined (pages : List ℕ) (ranges : List PageRange) : Type 0 where
 -- the doubts of a choice: no superblock counts, or two or more records have the greatest generation
 abbrev pub choice_doubts : Choice → List Doubt
 choice_doubts choice = (if is_none choice.superblock then NoSuperblock ∷ [] else []) ++ (if choice.tie then Tie ∷ [] else [])
+
+-- the doubt that the last superblock that was written has this generation, unless that is the generation that counts
+abbrev pub last_doubt : Choice → ℕ → List Doubt
+last_doubt choice last = if counts_as choice last then [] else Last (option_map (λ c. c.generation) choice.superblock) last ∷ []
+
+-- that doubt, if the generation of the last superblock that was written is given
+abbrev pub last_doubts : Choice → Option ℕ → List Doubt
+last_doubts choice last = option_map_or (last_doubt choice) last []
 
 -- the doubt that page q of extent 0 is unreadable
 abbrev pub superblock_lost : ℕ → SuperblockPage → Option Doubt
@@ -143,80 +155,132 @@ spare_doubts all checked candidates = flat_map (spare_doubts_of all checked (map
 abbrev pub spare_doubts_by : List Standing → List Standing → Checked → List Doubt
 spare_doubts_by found stay c = spare_doubt c.owner (spares_by found c) (spares_by stay c)
 
+-- ---- remains
+
+-- the chunk of a named locator isn't found: the locator dangles, its length isn't 0, and it has no spare
+abbrev pub is_gone : List Scanned → Checked → Bool
+is_gone all c = nat_lt 0 c.locator.length && is_without_spare all c
+
+-- how many named locators there are whose chunk isn't found
+abbrev pub gone_count : List Scanned → List Checked → ℕ
+gone_count all checked = count_by (is_gone all) checked
+
+-- in the item a chunk may begin that is none of the items: it is torn or noise
+abbrev pub is_remains : Item → Bool
+is_remains item = is_torn item || is_noise item
+
+-- the doubt that a scanned extent makes in which a chunk may begin that isn't found, by how many aren't found
+abbrev pub remains_in : ℕ → Scanned → List Doubt
+remains_in count f = option_to_list (option_map (λ item. Remains f.extent (start_of item) count) (find is_remains f.findings.items))
+
+-- that doubt, if the extent is among these
+abbrev pub remains_among : List ℕ → ℕ → Scanned → List Doubt
+remains_among extents count f = if list_any (λ n. n == f.extent) extents then remains_in count f else []
+
+-- the doubts of the extents in which such a chunk may begin, if there is one and these extents are reset, ascending
+abbrev pub remains_by : List ℕ → ℕ → List Scanned → List Doubt
+remains_by extents count all = if count == 0 then [] else flat_map (remains_among extents count) all
+
+-- the doubts that remains make if the candidates are reset
+abbrev pub remains_doubts : List Scanned → List Checked → List CandidateValue → List Doubt
+remains_doubts all checked candidates = remains_by (map (λ a. a.extent) candidates) (gone_count all checked) all
+
 -- ---- all of them
 
--- all doubts, by kind, from a choice, the pages of extent 0, the states of the runs, the bytes of a page, the scanned extents,
--- the named locators and the candidates
-abbrev pub doubts_in : Choice → List SuperblockPage → List RunState → ℕ → List Scanned → List Checked → List CandidateValue → List Doubt
-doubts_in choice pages states page all checked candidates =
+-- all doubts, by kind, from a choice, the generation of the last superblock that was written if it is given, the pages of extent
+-- 0, the states of the runs, the bytes of a page, the scanned extents, the named locators and the candidates
+abbrev pub doubts_in : Choice → Option ℕ → List SuperblockPage → List RunState → ℕ → List Scanned → List Checked → List CandidateValue → List Doubt
+doubts_in choice last pages states page all checked candidates =
     choice_doubts choice
+    ++ last_doubts choice last
     ++ page_doubts superblock_lost pages
     ++ page_doubts superblock_damaged pages
     ++ page_doubts superblock_stray pages
     ++ run_doubts states
     ++ spare_doubts all checked candidates
+    ++ remains_doubts all checked candidates
     ++ flat_map tail_doubts all
     ++ flat_map (tail_lost_doubts page) all
 
 -- all doubts of what was found on a disk: by kind, and within a kind by page, run, or extent and page
-abbrev pub doubts : List SuperblockPage → Scrubbed → List Doubt
-doubts pages found = doubts_in found.choice pages found.read.states found.plan.geometry.page found.all found.checked found.candidates
+abbrev pub doubts : Option ℕ → List SuperblockPage → Scrubbed → List Doubt
+doubts last pages found =
+    doubts_in found.choice last pages found.read.states found.plan.geometry.page found.all found.checked found.candidates
 
 -- ---- their texts
+
+-- the generation that counts in decimal, or `none`
+abbrev pub generation_text : Option ℕ → List ℕ
+generation_text None = codes "none"
+generation_text (Some generation) = decimal generation
 
 -- a doubt's kind and its numbers
 abbrev pub doubt_text : Doubt → List ℕ
 doubt_text NoSuperblock = codes "no-superblock"
 doubt_text Tie = codes "tie"
+doubt_text (Last counts last) = codes "last" ++ spaced (generation_text counts) ++ spaced (decimal last)
 doubt_text (SuperblockLost q) = codes "superblock-lost" ++ spaced (decimal q)
 doubt_text (SuperblockDamaged q) = codes "superblock-damaged" ++ spaced (decimal q)
 doubt_text (SuperblockStray q) = codes "superblock-stray" ++ spaced (decimal q)
 doubt_text (RunLost k state) = codes "run-lost" ++ spaced (decimal k) ++ spaced (state_text state)
 doubt_text (Spare extent offset size uuid owner bytes) =
     codes "spare" ++ spaced (place_words extent offset size uuid) ++ spaced (owner_text owner) ++ spaced (decimal bytes)
+doubt_text (Remains extent offset count) = codes "remains" ++ spaced (decimal extent) ++ spaced (decimal offset) ++ spaced (decimal count)
 doubt_text (Tail extent first count) = codes "tail" ++ spaced (decimal extent) ++ spaced (decimal first) ++ spaced (decimal count)
 doubt_text (TailLost extent first last) = codes "tail-lost" ++ spaced (decimal extent) ++ spaced (decimal first) ++ spaced (decimal last)
 
 -- ---- what was accepted
 
--- kinds of doubts, and texts of single doubts
-abbrev pub Accepted : Type 0
-Accepted = List (List ℕ)
+-- what a person accepts: doubts by the texts of their lines; and, if it is given, that the last superblock that was written to the
+-- disk has this generation, and that nothing was written to the disk after it
+pub record Acceptance : Type 0 where
+  pub lines : List (List ℕ)
+  pub last : Option ℕ
+
+-- what is accepted on a disk: doubts by the texts of their lines; and whether it is known that the superblock that counts is the
+-- last one that was written
+pub record Accepted : Type 0 where
+  pub lines : List (List ℕ)
+  pub is_last : Bool
+
+-- the superblock that counts has the generation that was given
+abbrev pub is_last : Option ℕ → Choice → Bool
+is_last last choice = option_map_or (counts_as choice) last false
+
+-- what is accepted on a disk with this choice
+abbrev pub accepted_on : Acceptance → Choice → Accepted
+accepted_on a choice = record { lines = a.lines; is_last = is_last a.last choice }
 
 -- the doubt is one that spares make
 abbrev pub is_spare : Doubt → Bool
 is_spare (Spare extent offset size uuid owner bytes) = true
 is_spare _ = false
 
+-- the doubt is one that remains make
+abbrev pub is_of_remains : Doubt → Bool
+is_of_remains (Remains extent offset count) = true
+is_of_remains _ = false
+
+-- the doubt is none if the superblock that counts is the last one that was written, and nothing was written after it
+abbrev pub is_settled_by_last : Doubt → Bool
+is_settled_by_last (SuperblockDamaged q) = true
+is_settled_by_last (SuperblockStray q) = true
+is_settled_by_last (Tail extent first count) = true
+is_settled_by_last (TailLost extent first last) = true
+is_settled_by_last _ = false
+
 -- the doubt may be accepted
 abbrev pub may_be_accepted : Doubt → Bool
-may_be_accepted (SuperblockDamaged q) = true
-may_be_accepted (SuperblockStray q) = true
-may_be_accepted (Spare extent offset size uuid owner bytes) = true
-may_be_accepted (Tail extent first count) = true
-may_be_accepted (TailLost extent first last) = true
-may_be_accepted _ = false
+may_be_accepted d = is_settled_by_last d || is_spare d || is_of_remains d
 
--- the word is the kind of the doubt, and one that may be accepted as a whole; a spare may not
-abbrev pub is_kind_of : Doubt → List ℕ → Bool
-is_kind_of (SuperblockDamaged q) word = bytes_eq word (codes "superblock-damaged")
-is_kind_of (SuperblockStray q) word = bytes_eq word (codes "superblock-stray")
-is_kind_of (Tail extent first count) word = bytes_eq word (codes "tail")
-is_kind_of (TailLost extent first last) word = bytes_eq word (codes "tail-lost")
-is_kind_of _ word = false
+-- one of the lines has the text of the doubt, which may be accepted
+abbrev pub is_named : List (List ℕ) → Doubt → Bool
+is_named lines doubt = may_be_accepted doubt && list_any (λ line. bytes_eq line (doubt_text doubt)) lines
 
--- the word accepts the doubt, whose text is given: it is its kind, or its text
-abbrev pub accepts : Doubt → List ℕ → List ℕ → Bool
-accepts doubt text word = is_kind_of doubt word || (may_be_accepted doubt && bytes_eq word text)
-
--- one of the words accepts the doubt
+-- the doubt is accepted: by its line, or with all that the last superblock settles
 abbrev pub is_accepted : Accepted → Doubt → Bool
-is_accepted accepted doubt = list_any (accepts doubt (doubt_text doubt)) accepted
+is_accepted accepted doubt = is_named accepted.lines doubt || (accepted.is_last && is_settled_by_last doubt)
 
--- tails are accepted as a kind
-abbrev pub accepts_tails : Accepted → Bool
-accepts_tails accepted = list_any (λ word. bytes_eq word (codes "tail")) accepted
-
--- each of these doubts was accepted
+-- each of these doubts is accepted
 abbrev pub are_accepted : Accepted → List Doubt → Bool
 are_accepted accepted list = list_all (is_accepted accepted) list

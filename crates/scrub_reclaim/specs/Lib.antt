@@ -1,6 +1,7 @@
 -- For public clauses.
 pub mod Doubts
 pub mod Reclaimable
+pub mod Remains
 pub mod Reset
 pub mod Room
 pub mod Copy

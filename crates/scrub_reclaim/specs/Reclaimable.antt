@@ -1,9 +1,10 @@
 -- The lines that say which extents can be reclaimed, and what must be moved first.
-use Rattle.std.specs.Prelude.{◌≡◌, ◌≢◌, ◌⊎◌, ◌++◌, ◌∷◌, ◌==◌, ◌&&◌, [], ℕ, Bool, true, List, All, Contains, codes, length, map, not, if◌then◌else◌}
+use Rattle.std.specs.Prelude.{◌≡◌, ◌≢◌, ◌⊎◌, ◌++◌, ◌∷◌, ◌==◌, ◌&&◌, ◌||◌, [], ℕ, Bool, true, List, All, Contains, Some, codes, length, map, not, if◌then◌else◌}
 use Rattle.std.specs.Fmt.{decimal}
 use Rattle.std.specs.List.{filter, flat_map, list_all}
 use Rattle.scrub_disk.specs.Image.{Image}
 use Rattle.scrub_super.specs.declared.pages.SuperblockPage.{SuperblockPage}
+use Rattle.scrub_super.specs.Contents.{Contents}
 use Rattle.scrub_super.specs.Pages.{AreSuperblockPages}
 use Rattle.scrub_scan.specs.Line.{spaced}
 use Rattle.scrub_check.specs.declared.lists.kept_chunk.KeptChunk.{KeptChunk}
@@ -19,7 +20,7 @@ use Rattle.scrub_report.specs.Scrubbed.{Scrubbed, IsScrubbed}
 use Rattle.scrub_report.specs.Texts.{owner_text}
 use Rattle.scrub_listings.specs.Locators.{place_text}
 use Rattle.scrub_reclaim.specs.declared.doubts.Doubt.{Doubt}
-use Rattle.scrub_reclaim.specs.Doubts.{Accepted, are_accepted, doubt_text, doubts, is_accepted, is_spare}
+use Rattle.scrub_reclaim.specs.Doubts.{Acceptance, Accepted, accepted_on, are_accepted, doubt_text, doubts, is_accepted, is_named, is_of_remains, is_settled_by_last, is_spare}
 use Rattle.scrub_reclaim.specs.Room.{room_lines}
 
 -- ---- the lines of doubts
@@ -76,12 +77,20 @@ all_candidate_lines checked candidates = flat_map (candidate_lines checked) cand
 
 -- ---- the whole text
 
+-- the doubts of what was found, with that of the last generation if it is given
+abbrev pub doubts_for : Acceptance → List SuperblockPage → Scrubbed → List Doubt
+doubts_for a pages found = doubts a.last pages found
+
+-- what is accepted of the doubts of what was found
+abbrev pub accepted_in : Acceptance → Scrubbed → Accepted
+accepted_in a found = accepted_on a found.choice
+
 -- each doubt was accepted
-abbrev pub is_clear : Accepted → List SuperblockPage → Scrubbed → Bool
-is_clear accepted pages found = are_accepted accepted (doubts pages found)
+abbrev pub is_clear : Acceptance → List SuperblockPage → Scrubbed → Bool
+is_clear a pages found = are_accepted (accepted_in a found) (doubts_for a pages found)
 
 -- the extents to reclaim: all candidates if each doubt was accepted, or else none
-abbrev pub reclaimed : Accepted → List SuperblockPage → Scrubbed → List CandidateValue
+abbrev pub reclaimed : Acceptance → List SuperblockPage → Scrubbed → List CandidateValue
 reclaimed accepted pages found = if is_clear accepted pages found then found.candidates else []
 
 -- the lines of extents with room, if there are extents to reclaim, or else nothing
@@ -96,13 +105,13 @@ module _ {D : Type 0} {s : _} where
       else room_lines p.judged.scan.plan.geometry p.judged.scan.all.extents p.judged.checked.items (if clear then p.liveness.candidates.items else [])
 
 -- the lines of the doubts, then those of the extents to reclaim, and then those of extents with room
-abbrev pub reclaim_text : Accepted → List SuperblockPage → Scrubbed → List ℕ
+abbrev pub reclaim_text : Acceptance → List SuperblockPage → Scrubbed → List ℕ
 reclaim_text accepted pages found =
-    doubt_lines accepted (doubts pages found) ++ all_candidate_lines found.checked (reclaimed accepted pages found)
+    doubt_lines (accepted_in accepted found) (doubts_for accepted pages found) ++ all_candidate_lines found.checked (reclaimed accepted pages found)
     ++ rooms_for (reclaimed accepted pages found) found
 
 -- the text is the lines of the doubts, of the extents to reclaim and of those with room, of what is found in an image
-pub record AreReclaimLines (image : Image) (accepted : Accepted) (text : List ℕ) : Type 0 where
+pub record AreReclaimLines (image : Image) (accepted : Acceptance) (text : List ℕ) : Type 0 where
   pub found : Scrubbed
   pub scrubbed : IsScrubbed image found
   pub pages : List SuperblockPage
@@ -110,7 +119,7 @@ pub record AreReclaimLines (image : Image) (accepted : Accepted) (text : List �
   pub text_is : text ≡ reclaim_text accepted pages found
 
 -- the truth value says whether each doubt of an image was accepted, so that no line begins with `doubt`
-pub record IsClear (image : Image) (accepted : Accepted) (clear : Bool) : Type 0 where
+pub record IsClear (image : Image) (accepted : Acceptance) (clear : Bool) : Type 0 where
   pub found : Scrubbed
   pub scrubbed : IsScrubbed image found
   pub pages : List SuperblockPage
@@ -121,14 +130,14 @@ pub record IsClear (image : Image) (accepted : Accepted) (clear : Bool) : Type 0
 
 -- the extents to reclaim are the candidates of a report of the same image, all of them in its order if it is clear, or
 -- else none; the lines of the extents with room follow
-pub record AreOfCandidates (image : Image) (accepted : Accepted) (report text : List ℕ) (clear : Bool) : Type 0 where
+pub record AreOfCandidates (image : Image) (accepted : Acceptance) (report text : List ℕ) (clear : Bool) : Type 0 where
   pub found : Scrubbed
   pub scrubbed : IsScrubbed image found
   pub pages : List SuperblockPage
   pub held : AreSuperblockPages image pages
   pub report_is : report ≡ report_text found
   pub text_is :
-      text ≡ doubt_lines accepted (doubts pages found) ++ all_candidate_lines found.checked (if clear then found.candidates else []) ++ rooms_for (if clear then found.candidates else []) found
+      text ≡ doubt_lines (accepted_in accepted found) (doubts_for accepted pages found) ++ all_candidate_lines found.checked (if clear then found.candidates else []) ++ rooms_for (if clear then found.candidates else []) found
 
 -- a named locator is sound, points to a chunk that a candidate keeps, and has a line among its moves
 pub record IsMoved (checked : List Checked) (a : CandidateValue) (c : Checked) : Type 0 where
@@ -140,9 +149,13 @@ pub record IsMoved (checked : List Checked) (a : CandidateValue) (c : Checked) :
 abbrev pub AreMoved : List Checked → List CandidateValue → Type 0
 AreMoved checked candidates = All (λ a. All (λ c. c.locator.extent ≡ a.extent → IsMoved checked a c) checked) candidates
 
+-- no doubt of a kind was accepted
+abbrev pub AcceptsNone : (Doubt → Bool) → Acceptance → List SuperblockPage → Scrubbed → Type 0
+AcceptsNone is_of_kind a pages found = list_all (λ d. not (is_of_kind d && is_accepted (accepted_in a found) d)) (doubts_for a pages found) ≡ true
+
 -- no spare was accepted: no line begins with `accepted spare`
-abbrev pub AcceptsNoSpare : Accepted → List SuperblockPage → Scrubbed → Type 0
-AcceptsNoSpare accepted pages found = list_all (λ d. not (is_spare d && is_accepted accepted d)) (doubts pages found) ≡ true
+abbrev pub AcceptsNoSpare : Acceptance → List SuperblockPage → Scrubbed → Type 0
+AcceptsNoSpare a pages found = AcceptsNone is_spare a pages found
 
 -- a named locator has a spare that is live or in none of these extents
 pub record HasSafeSpare (found : Scrubbed) (listed : List CandidateValue) (c : Checked) : Type 0 where
@@ -153,3 +166,13 @@ pub record HasSafeSpare (found : Scrubbed) (listed : List CandidateValue) (c : C
 -- each named locator that has a spare has one that is live or in none of these extents
 abbrev pub KeepsSpares : Scrubbed → List CandidateValue → Type 0
 KeepsSpares found listed = All (λ c. spares_of found.all c ≢ [] → HasSafeSpare found listed c) found.checked
+
+-- ---- by the generation of the last superblock
+
+-- the superblock that counts has this generation, and each doubt is accepted by a line with its text, or is of a kind that the last
+-- superblock settles
+pub record IsListedByLast (last : ℕ) (a : Acceptance) (pages : List SuperblockPage) (found : Scrubbed) : Type 0 where
+  pub counts : Contents
+  pub is : found.choice.superblock ≡ Some counts
+  pub generation : counts.generation ≡ last
+  pub each : list_all (λ d. is_named a.lines d || is_settled_by_last d) (doubts_for a pages found) ≡ true

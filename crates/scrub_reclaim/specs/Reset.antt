@@ -9,13 +9,13 @@ use Rattle.scrub_check.specs.Candidates.{CandidateValue}
 use Rattle.scrub_check.specs.ChunkForms.{form_at}
 use Rattle.scrub_check.specs.declared.statuses.status.Status.TheVariants.{Sound}
 use Rattle.scrub_report.specs.Scrubbed.{Scrubbed, IsScrubbed}
-use Rattle.scrub_reclaim.specs.Doubts.{Accepted}
+use Rattle.scrub_reclaim.specs.Doubts.{Acceptance}
 use Rattle.scrub_reclaim.specs.Reclaimable.{AcceptsNoSpare, moves, reclaimed}
 
 -- ---- which extents may be reset
 
 -- extent e is listed among those to reclaim of an image, with nothing to move out of it first
-pub record IsListedWithoutMoves (image : Image) (accepted : Accepted) (e : ℕ) : Type 0 where
+pub record IsListedWithoutMoves (image : Image) (accepted : Acceptance) (e : ℕ) : Type 0 where
   pub found : Scrubbed
   pub scrubbed : IsScrubbed image found
   pub pages : List SuperblockPage
@@ -59,7 +59,7 @@ pub record IsForeseen (extents : List ℕ) (before after : Image) : Type 0 where
 
 -- each of these extents is listed among those to reclaim of an image with nothing to move out of it first, and no spare was
 -- accepted
-pub record AreListedWithoutSpares (accepted : Accepted) (extents : List ℕ) (image : Image) : Type 0 where
+pub record AreListedWithoutSpares (accepted : Acceptance) (extents : List ℕ) (image : Image) : Type 0 where
   pub found : Scrubbed
   pub scrubbed : IsScrubbed image found
   pub pages : List SuperblockPage
@@ -68,7 +68,7 @@ pub record AreListedWithoutSpares (accepted : Accepted) (extents : List ℕ) (im
   pub spares : AcceptsNoSpare accepted pages found
 
 -- these extents were reset, and each had been listed among those to reclaim with nothing to move out of it first
-pub record IsReclaimed (accepted : Accepted) (extents : List ℕ) (before after : Image) : Type 0 where
+pub record IsReclaimed (accepted : Acceptance) (extents : List ℕ) (before after : Image) : Type 0 where
   pub listed : All (IsListedWithoutMoves before accepted) extents
   pub reset : IsAfterReset extents before after
 

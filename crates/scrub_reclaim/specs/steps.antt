@@ -2,4 +2,5 @@
 pub mod Moves
 pub mod PageDoubts
 pub mod PageRanges
+pub mod Remains
 pub mod Room

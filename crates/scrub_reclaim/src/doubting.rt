@@ -5,15 +5,18 @@ ghost use Rattle.std.specs.List.{filter_map, flat_map};
 ghost use Rattle.scrub_scan.specs.Scanned.{scanned};
 ghost use Rattle.scrub_report.specs.Parts.{run_states};
 ghost use Rattle.scrub_reclaim.specs.Doubts.{choice_doubts, doubts_in, ends_past, lost_past, page_doubts};
-ghost use Rattle.scrub_reclaim.specs.Doubts.{range_doubts, run_doubts, run_lost, tail_doubts};
-ghost use Rattle.scrub_reclaim.specs.Doubts.{superblock_stray, tail_lost_doubts};
+ghost use Rattle.scrub_reclaim.specs.Doubts.{last_doubt, last_doubts, range_doubts, run_doubts, run_lost};
+ghost use Rattle.scrub_reclaim.specs.Doubts.{superblock_damaged, superblock_lost, superblock_stray};
+ghost use Rattle.scrub_reclaim.specs.Doubts.{tail_doubts, tail_lost_doubts};
 ghost use Rattle.scrub_reclaim.specs.steps.PageDoubts.{page_doubt};
 
 use crate::doubts::Doubt;
 use crate::page_ranges::{PageRange, join_pages};
+use crate::remains::add_remains;
 use crate::spare_doubts::add_spares;
-use scrub_check::RunState;
+use scrub_check::{RunState, Spares};
 use scrub_disk::{OutOfMemory, PageSource};
+use scrub_listings::summary::counts_as;
 use scrub_report::parts::Parts;
 use scrub_report::runs::RunRow;
 use scrub_scan::{AllFindings, ExtentResult};
@@ -21,7 +24,7 @@ use scrub_super::{Chosen, SuperblockPage};
 use std::alloc::Global;
 
 /// The doubts that the choice makes: no superblock counts, or another one is as new.
-fn choice_doubts(alloc: Global, chosen: &Chosen) -> Result<Vec<Doubt>, OutOfMemory>
+pub fn choice_doubts(alloc: Global, chosen: &Chosen) -> Result<Vec<Doubt>, OutOfMemory>
     ensures { IfOk result (λ v. v.items ≡ choice_doubts chosen.now) }
 {
     let mut doubts = Vec::new(alloc);
@@ -34,9 +37,38 @@ fn choice_doubts(alloc: Global, chosen: &Chosen) -> Result<Vec<Doubt>, OutOfMemo
     Ok(doubts)
 }
 
+/// Adds the doubt that the last superblock that was written has this generation, unless that is the one that
+/// counts.
+fn add_last(doubts: &mut Vec<Doubt>, chosen: &Chosen, last: u64) -> Result<(), OutOfMemory>
+    ensures { OnOk result (doubts.new.items ≡ doubts.old.items ++ last_doubt chosen.now last) }
+{
+    if counts_as(chosen, last) {
+        return Ok(());
+    }
+    let counts = chosen
+        .superblock()
+        .map(|superblock| superblock.generation());
+    doubts.push(Doubt::Last { counts, last })?;
+    Ok(())
+}
+
+/// Adds that doubt, if the generation of the last superblock that was written is given.
+fn add_last_if(
+    doubts: &mut Vec<Doubt>,
+    chosen: &Chosen,
+    last: Option<u64>,
+) -> Result<(), OutOfMemory>
+    ensures { OnOk result (doubts.new.items ≡ doubts.old.items ++ last_doubts chosen.now last) }
+{
+    match last {
+        Some(last) => add_last(doubts, chosen, last),
+        None => Ok(()),
+    }
+}
+
 /// What makes a page of extent 0 doubtful.
 #[derive(Clone, Copy)]
-pub(crate) enum PageDoubt {
+pub enum PageDoubt {
     /// It is lost.
     Lost,
     /// It is damaged.
@@ -71,7 +103,7 @@ fn page_doubt(kind: PageDoubt, page: usize, held: &SuperblockPage) -> Option<Dou
 }
 
 /// The doubts of this kind that the pages of extent 0 make, by number.
-fn page_doubts(
+pub fn page_doubts(
     alloc: Global,
     kind: PageDoubt,
     pages: &[SuperblockPage],
@@ -96,7 +128,7 @@ fn run_lost(number: usize, state: RunState) -> Option<Doubt>
 }
 
 /// The doubts of the lost index runs, by number.
-fn lost_runs(alloc: Global, runs: &[RunRow]) -> Result<Vec<Doubt>, OutOfMemory>
+pub fn lost_runs(alloc: Global, runs: &[RunRow]) -> Result<Vec<Doubt>, OutOfMemory>
     ensures { IfOk result (λ v. v.items ≡ run_doubts (run_states runs.now)) }
 {
     runs.iter()
@@ -206,27 +238,51 @@ fn add_lost_tails<D: PageSource>(
     Ok(())
 }
 
-/// The doubts of a disk, by kind, and within a kind by page, run, or extent and page.
+/// The doubts of superblocks and of index runs, by kind, and within a kind by page or run. `last` is the
+/// generation of the last superblock that was written, if it is given.
+fn record_doubts(
+    alloc: Global,
+    last: Option<u64>,
+    pages: &[SuperblockPage],
+    chosen: &Chosen,
+    runs: &[RunRow],
+) -> Result<Vec<Doubt>, OutOfMemory>
+    ensures { IfOk result (λ v. v.items ≡ choice_doubts chosen.now ++ last_doubts chosen.now last
+        ++ page_doubts superblock_lost pages.now ++ page_doubts superblock_damaged pages.now
+        ++ page_doubts superblock_stray pages.now ++ run_doubts (run_states runs.now)) }
+{
+    let mut doubts = choice_doubts(alloc, chosen)?;
+    add_last_if(&mut doubts, chosen, last)?;
+    doubts.extend_from_slice(&page_doubts(alloc, PageDoubt::Lost, pages)?)?;
+    doubts.extend_from_slice(&page_doubts(alloc, PageDoubt::Damaged, pages)?)?;
+    doubts.extend_from_slice(&page_doubts(alloc, PageDoubt::Stray, pages)?)?;
+    doubts.extend_from_slice(&lost_runs(alloc, runs)?)?;
+    Ok(doubts)
+}
+
+/// The doubts of a disk, by kind, and within a kind by page, run, or extent and page. `last` is the
+/// generation of the last superblock that was written, if it is given.
 pub(crate) fn doubts_of<D: PageSource>(
     alloc: Global,
+    last: Option<u64>,
     pages: &[SuperblockPage],
     parts: &Parts<'_, D>,
 ) -> Result<Vec<Doubt>, OutOfMemory>
     ensures { IfOk result (λ v.
-        v.items ≡ doubts_in parts.now.judged.scan.chosen pages.now (run_states parts.now.judged.runs.items)
+        v.items ≡ doubts_in parts.now.judged.scan.chosen last pages.now
+        (run_states parts.now.judged.runs.items)
         parts.now.judged.scan.plan.geometry.page parts.now.judged.scan.all.extents
         parts.now.judged.checked.items parts.now.liveness.candidates.items) }
 {
     let judged = &parts.judged;
     let scan = &judged.scan;
     let page = scan.plan.geometry().page();
-    let mut doubts = choice_doubts(alloc, &scan.chosen)?;
-    doubts.extend_from_slice(&page_doubts(alloc, PageDoubt::Lost, pages)?)?;
-    doubts.extend_from_slice(&page_doubts(alloc, PageDoubt::Damaged, pages)?)?;
-    doubts.extend_from_slice(&page_doubts(alloc, PageDoubt::Stray, pages)?)?;
-    doubts.extend_from_slice(&lost_runs(alloc, &judged.runs)?)?;
+    let mut doubts = record_doubts(alloc, last, pages, &scan.chosen, &judged.runs)?;
     let candidates = &parts.liveness.candidates;
-    add_spares(alloc, &mut doubts, &scan.all, &judged.checked, candidates)?;
+    let (all, checked) = (&scan.all, &judged.checked);
+    let spares = Spares::of(alloc, all, checked)?;
+    add_spares(alloc, &mut doubts, &spares, checked, candidates)?;
+    add_remains(alloc, &mut doubts, all, &spares, checked, candidates)?;
     add_tails(&mut doubts, &scan.all)?;
     add_lost_tails(alloc, &mut doubts, page, &scan.all)?;
     Ok(doubts)

@@ -1,17 +1,21 @@
 //! Doubts: what may have hidden a newer superblock, a newer binding, or a chunk past a write pointer; and
 //! which of them were accepted. `doubting` finds them.
 
-ghost use Rattle.std.specs.Prelude.{◌≡◌, ◌++◌, IfOk, OnOk, map, string_bytes};
+ghost use Rattle.std.specs.Prelude.{◌≡◌, ◌++◌, ◌&&◌, IfOk, OnOk, map, string_bytes};
 ghost use Rattle.std.specs.List.{list_any};
-ghost use Rattle.scrub_reclaim.specs.declared.doubts.Doubt.TheVariants.{Spare};
-ghost use Rattle.scrub_reclaim.specs.Doubts.{accepts, are_accepted, doubt_text, is_accepted, is_kind_of};
+ghost use Rattle.std.specs.Str.{bytes_eq};
+ghost use Rattle.scrub_reclaim.specs.declared.doubts.Doubt.TheVariants.{Last, Spare};
+ghost use Rattle.scrub_reclaim.specs.Doubts.{accepted_on, are_accepted, doubt_text, generation_text};
+ghost use Rattle.scrub_reclaim.specs.Doubts.{is_accepted, is_last, is_named, is_settled_by_last};
 ghost use Rattle.scrub_reclaim.specs.Doubts.{may_be_accepted};
 ghost use Rattle.scrub_reclaim.specs.Reclaimable.{doubt_line, doubt_lines, doubt_word};
 
 use scrub_check::{Owner, RunState};
 use scrub_disk::OutOfMemory;
 use scrub_listings::listing::PlaceText;
+use scrub_listings::summary::counts_as;
 use scrub_report::texts::{owner_text, state_text};
+use scrub_super::Chosen;
 use std::alloc::Global;
 use std::fmt::Write;
 use std::marker::Model;
@@ -19,11 +23,17 @@ use uuid::Uuid;
 
 /// What may have hidden something that a disk holds, or what a reset would take the last spare of.
 #[derive(Clone, Copy)]
-pub(crate) enum Doubt {
+pub enum Doubt {
     /// No superblock counts.
     NoSuperblock,
     /// Two superblocks or more have the greatest generation.
     Tie,
+    /// The last superblock that was written has the generation `last`, and the one that counts, if there is
+    /// one, another.
+    Last {
+        counts: Option<u64>,
+        last: u64,
+    },
     /// This page of extent 0 is unreadable.
     SuperblockLost {
         page: usize,
@@ -51,6 +61,13 @@ pub(crate) enum Doubt {
         uuid: Uuid,
         owner: Owner,
         bytes: u64,
+    },
+    /// So many chunks that are asked for aren't found, and one may begin in an extent that may be reclaimed:
+    /// its first torn or noise item is at this offset.
+    Remains {
+        extent: u32,
+        offset: u32,
+        count: usize,
     },
     /// An extent has this many nonzero bytes at or past its write pointer, the first of them at this
     /// offset.
@@ -83,13 +100,33 @@ fn append_spare_text(
     write!(text, "spare {place} {owner} {bytes}")
 }
 
+/// Appends the generation that counts, or `none`.
+fn append_generation(text: &mut String, counts: Option<u64>) -> Result<(), OutOfMemory>
+    ensures { OnOk result (string_bytes text.new ≡ string_bytes text.old ++ generation_text counts) }
+{
+    match counts {
+        Some(generation) => write!(text, "{generation}"),
+        None => write!(text, "none"),
+    }
+}
+
+/// Appends the text of the doubt that the last superblock isn't the one that counts.
+fn append_last_text(text: &mut String, counts: Option<u64>, last: u64) -> Result<(), OutOfMemory>
+    ensures { OnOk result (string_bytes text.new ≡ string_bytes text.old ++ doubt_text (Last counts last)) }
+{
+    write!(text, "last ")?;
+    append_generation(text, counts)?;
+    write!(text, " {last}")
+}
+
 /// Appends a doubt's kind and its numbers.
-fn append_doubt_text(alloc: Global, text: &mut String, doubt: &Doubt) -> Result<(), OutOfMemory>
+pub fn append_doubt_text(alloc: Global, text: &mut String, doubt: &Doubt) -> Result<(), OutOfMemory>
     ensures { OnOk result (string_bytes text.new ≡ string_bytes text.old ++ doubt_text doubt.now) }
 {
     match *doubt {
         Doubt::NoSuperblock => write!(text, "no-superblock"),
         Doubt::Tie => write!(text, "tie"),
+        Doubt::Last { counts, last } => append_last_text(text, counts, last),
         Doubt::SuperblockLost { page } => write!(text, "superblock-lost {page}"),
         Doubt::SuperblockDamaged { page } => write!(text, "superblock-damaged {page}"),
         Doubt::SuperblockStray { page } => write!(text, "superblock-stray {page}"),
@@ -113,6 +150,11 @@ fn append_doubt_text(alloc: Global, text: &mut String, doubt: &Doubt) -> Result<
             };
             append_spare_text(alloc, text, &place, owner, bytes)
         }
+        Doubt::Remains {
+            extent,
+            offset,
+            count,
+        } => write!(text, "remains {extent} {offset} {count}"),
         Doubt::Tail {
             extent,
             offset,
@@ -135,86 +177,131 @@ fn doubt_text(alloc: Global, doubt: &Doubt) -> Result<String, OutOfMemory>
     Ok(text)
 }
 
-/// What a person accepted, knowing what made the doubts: kinds of doubts, and single doubts by what their
-/// lines have after `doubt`.
+/// What a person accepts, knowing what made the doubts: single doubts, by what their lines have after
+/// `doubt`; and, if it is given, that the last superblock that was written to the disk has this generation,
+/// and that nothing was written to the disk after it.
 #[derive(Drop)]
-pub struct Accepted<'v, 'a> {
-    words: &'v [&'a str],
+pub struct Acceptance<'v, 'a> {
+    lines: &'v [&'a str],
+    last: Option<u64>,
+}
+
+impl<'v, 'a> Model for Acceptance<'v, 'a> {
+    ghost use Rattle.std.specs.Prelude.{map};
+    ghost use Rattle.scrub_reclaim.specs.Doubts.{Acceptance};
+
+    ghost Value = { Acceptance };
+
+    ghost view = { λ a. record { lines = map (λ line. line.now) a.lines.now; last = a.last } };
+}
+
+impl<'v, 'a> Acceptance<'v, 'a> {
+    /// These lines, without the word `doubt`, and this generation. What has to be mended first isn't accepted
+    /// by any line.
+    pub fn new(lines: &'v [&'a str], last: Option<u64>) -> Acceptance<'v, 'a>
+        ensures lines { result.lines ≡ map (λ line. line.now) lines.now }
+        ensures last { result.last ≡ last }
+    {
+        Acceptance { lines, last }
+    }
+
+    /// The generation of the last superblock that was written, if it is given.
+    pub(crate) fn last(&self) -> Option<u64>
+        ensures { result ≡ self.now.last }
+    {
+        self.last
+    }
+
+    /// What is accepted on a disk whose superblock was chosen so.
+    pub(crate) fn on(&self, chosen: &Chosen) -> Accepted<'v, 'a>
+        ensures { result ≡ accepted_on self.now chosen.now }
+    {
+        Accepted {
+            lines: self.lines,
+            is_last: is_last(self.last, chosen),
+        }
+    }
+}
+
+/// Whether the superblock that counts has the generation that was given.
+fn is_last(last: Option<u64>, chosen: &Chosen) -> bool
+    ensures { result ≡ is_last last chosen.now }
+{
+    match last {
+        Some(generation) => counts_as(chosen, generation),
+        None => false,
+    }
+}
+
+/// What is accepted on a disk: single doubts, and whether the superblock that counts is known to be the last
+/// one that was written.
+#[derive(Drop)]
+pub(crate) struct Accepted<'v, 'a> {
+    lines: &'v [&'a str],
+    is_last: bool,
 }
 
 impl<'v, 'a> Model for Accepted<'v, 'a> {
-    ghost use Rattle.std.specs.Prelude.{List, ℕ, map};
+    ghost use Rattle.std.specs.Prelude.{map};
+    ghost use Rattle.scrub_reclaim.specs.Doubts.{Accepted};
 
-    ghost Value = { List (List ℕ) };
+    ghost Value = { Accepted };
 
-    ghost view = { λ a. map (λ word. word.now) a.words.now };
+    ghost view = { λ a. record { lines = map (λ line. line.now) a.lines.now; is_last = a.is_last } };
 }
 
-impl<'v, 'a> Accepted<'v, 'a> {
-    /// These kinds and these single doubts. A spare is accepted alone, and what has to be mended first is not
-    /// at all.
-    pub fn new(words: &'v [&'a str]) -> Accepted<'v, 'a>
-        ensures { result ≡ map (λ word. word.now) words.now }
-    {
-        Accepted { words }
-    }
+/// Whether a doubt is none if the superblock that counts is the last one that was written, and nothing was
+/// written after it.
+fn is_settled_by_last(doubt: &Doubt) -> bool
+    ensures { result ≡ is_settled_by_last doubt.now }
+{
+    matches!(
+        doubt,
+        Doubt::SuperblockDamaged { .. }
+            | Doubt::SuperblockStray { .. }
+            | Doubt::Tail { .. }
+            | Doubt::TailLost { .. }
+    )
 }
 
 /// Whether a doubt may be accepted.
 fn may_be_accepted(doubt: &Doubt) -> bool
     ensures { result ≡ may_be_accepted doubt.now }
 {
-    match doubt {
-        Doubt::SuperblockDamaged { .. }
-        | Doubt::SuperblockStray { .. }
-        | Doubt::Spare { .. }
-        | Doubt::Tail { .. }
-        | Doubt::TailLost { .. } => true,
-        Doubt::NoSuperblock | Doubt::Tie | Doubt::SuperblockLost { .. } | Doubt::RunLost { .. } =>
-            false,
-    }
+    is_settled_by_last(doubt) || matches!(doubt, Doubt::Spare { .. } | Doubt::Remains { .. })
 }
 
-/// Whether a word is the kind of a doubt, and one that may be accepted as a whole.
-fn is_kind_of(doubt: &Doubt, word: &str) -> bool
-    ensures { result ≡ is_kind_of doubt.now word.now }
+/// Whether a text is among lines.
+fn is_among(lines: &[&str], text: &str) -> bool
+    ensures { result ≡ list_any (λ line. bytes_eq line.now text.now) lines.now }
 {
-    match doubt {
-        Doubt::SuperblockDamaged { .. } => word == "superblock-damaged",
-        Doubt::SuperblockStray { .. } => word == "superblock-stray",
-        Doubt::Tail { .. } => word == "tail",
-        Doubt::TailLost { .. } => word == "tail-lost",
-        Doubt::NoSuperblock
-        | Doubt::Tie
-        | Doubt::SuperblockLost { .. }
-        | Doubt::RunLost { .. }
-        | Doubt::Spare { .. } => false,
-    }
+    lines.iter().any(|line| *line == text)
 }
 
-/// Whether a word accepts a doubt, whose text is given.
-fn accepts(doubt: &Doubt, text: &str, word: &str) -> bool
-    ensures { result ≡ accepts doubt.now text.now word.now }
+/// Whether a doubt, whose text is given, is accepted by one of the lines.
+fn is_named(lines: &[&str], doubt: &Doubt, text: &str) -> bool
+    requires { text.now ≡ doubt_text doubt.now }
+    ensures { result ≡ is_named (map (λ line. line.now) lines.now) doubt.now }
 {
-    is_kind_of(doubt, word) || (may_be_accepted(doubt) && word == text)
+    may_be_accepted(doubt) && is_among(lines, text)
 }
 
-/// Whether one of these words accepts a doubt, whose text is given.
-fn is_among(words: &[&str], doubt: &Doubt, text: &str) -> bool
-    ensures { result ≡ list_any (λ word. accepts doubt.now text.now word.now) words.now }
+/// Whether a doubt is settled by what is known of the last superblock.
+fn is_settled(is_last: bool, doubt: &Doubt) -> bool
+    ensures { result ≡ is_last && is_settled_by_last doubt.now }
 {
-    words.iter().any(|word| accepts(doubt, text, word))
+    is_last && is_settled_by_last(doubt)
 }
 
-/// Whether a doubt, whose text is given, was accepted.
+/// Whether a doubt, whose text is given, is accepted.
 fn is_accepted(accepted: &Accepted<'_, '_>, doubt: &Doubt, text: &str) -> bool
     requires { text.now ≡ doubt_text doubt.now }
     ensures { result ≡ is_accepted accepted.now doubt.now }
 {
-    is_among(accepted.words, doubt, text)
+    is_named(accepted.lines, doubt, text) || is_settled(accepted.is_last, doubt)
 }
 
-/// Whether each of these doubts was accepted.
+/// Whether each of these doubts is accepted.
 pub(crate) fn are_accepted(
     alloc: Global,
     accepted: &Accepted<'_, '_>,

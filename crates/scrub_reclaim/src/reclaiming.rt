@@ -1,7 +1,7 @@
 //! What can be reclaimed of a disk, as lines: the doubts, and if all are accepted the extents, each with the
 //! chunks to move first.
 
-ghost use Rattle.std.specs.Prelude.{◌≡◌, ◌++◌, ◌≤◌, ℕ, [], All, Bool, true, List, IfOk, OnOk};
+ghost use Rattle.std.specs.Prelude.{◌≡◌, ◌≢◌, ◌++◌, ◌≤◌, ℕ, [], All, Bool, true, List, IfOk, OnOk, Some};
 ghost use Rattle.std.specs.Prelude.{map, string_bytes, if◌then◌else◌};
 ghost use Rattle.std.specs.List.{flat_map};
 ghost use Rattle.scrub_disk.specs.Image.{Image};
@@ -14,17 +14,18 @@ ghost use Rattle.scrub_report.specs.Parts.{IsScan};
 ghost use Rattle.scrub_report.specs.Report.{IsReport};
 ghost use Rattle.scrub_report.specs.Scrubbed.{Scrubbed, IsScrubbed};
 ghost use Rattle.scrub_listings.specs.Manifest.{IsManifest, IsManifestBut, IsWholeBut, IsWholeImage};
-ghost use Rattle.scrub_reclaim.specs.Doubts.{Accepted};
+ghost use Rattle.scrub_reclaim.specs.Doubts.{Acceptance};
 ghost use Rattle.scrub_reclaim.specs.steps.Moves.{AreRisingPlaces, PointAlike};
 ghost use Rattle.scrub_reclaim.specs.Reclaimable.{AcceptsNoSpare, KeepsSpares, AreMoved, AreOfCandidates};
-ghost use Rattle.scrub_reclaim.specs.Reclaimable.{AreReclaimLines, IsClear, all_candidate_lines};
-ghost use Rattle.scrub_reclaim.specs.Reclaimable.{candidate_lines, kept_lines, move_line, reclaim_line};
-ghost use Rattle.scrub_reclaim.specs.Reclaimable.{reclaimed, rooms_kept};
+ghost use Rattle.scrub_reclaim.specs.Reclaimable.{AreReclaimLines, IsClear, IsListedByLast};
+ghost use Rattle.scrub_reclaim.specs.Reclaimable.{all_candidate_lines, candidate_lines, is_clear};
+ghost use Rattle.scrub_reclaim.specs.Reclaimable.{kept_lines, move_line, reclaim_line, reclaimed, rooms_kept};
+ghost use Rattle.scrub_reclaim.specs.Remains.{AcceptsNoRemains, KeepsRemains};
 ghost use Rattle.scrub_reclaim.specs.Reset.{AreListedWithoutSpares, IsReclaimed, NameTheSame};
 ghost use Rattle.scrub_reclaim.specs.Room.{IsRoom, has_room, place_in};
 
 use crate::doubting::doubts_of;
-use crate::doubts::{Accepted, are_accepted, doubt_lines};
+use crate::doubts::{Acceptance, are_accepted, doubt_lines};
 use crate::moves::{by_place, pointing_to};
 use crate::room::append_rooms;
 use scrub_check::{Candidate, Checked, KeptChunk};
@@ -184,18 +185,19 @@ fn listing_of<R: Threads + Sync, D: PageSource>(
     alloc: Global,
     scan: Scan<'_, D>,
     pages: &[SuperblockPage],
-    accepted: &Accepted<'_, '_>,
+    acceptance: &Acceptance<'_, '_>,
 ) -> Result<Listing, OutOfMemory>
     requires scan { IsScan (D.image scan.disk.now) scan }
     requires pages { AreSuperblockPages (D.image scan.disk.now) pages.now }
     ensures text { IfOk result (λ l.
-        AreReclaimLines (D.image scan.entry.disk.now) accepted.now l.text.items) }
-    ensures clear { IfOk result (λ l. IsClear (D.image scan.entry.disk.now) accepted.now l.is_clean) }
+        AreReclaimLines (D.image scan.entry.disk.now) acceptance.now l.text.items) }
+    ensures clear { IfOk result (λ l. IsClear (D.image scan.entry.disk.now) acceptance.now l.is_clean) }
 {
     let parts = parts_of(rt, alloc, scan, &[])?;
-    let doubts = doubts_of(alloc, pages, &parts)?;
-    let is_clear = are_accepted(alloc, accepted, &doubts)?;
-    let mut text = doubt_lines(alloc, accepted, &doubts)?;
+    let doubts = doubts_of(alloc, acceptance.last(), pages, &parts)?;
+    let accepted = acceptance.on(&parts.judged.scan.chosen);
+    let is_clear = are_accepted(alloc, &accepted, &doubts)?;
+    let mut text = doubt_lines(alloc, &accepted, &doubts)?;
     let candidates = &parts.liveness.candidates;
     let checked = &parts.judged.checked;
     append_reclaimed(alloc, &mut text, is_clear, checked, candidates)?;
@@ -209,7 +211,7 @@ fn listing_of<R: Threads + Sync, D: PageSource>(
 /// Lists what can be reclaimed of a disk, and returns which extents the caller and each worker took. It is
 /// clean if no line begins with `doubt`.
 ///
-/// There is a line for each doubt, by kind. It begins with `accepted` if it was accepted, or else with
+/// There is a line for each doubt, by kind. It begins with `accepted` if it is accepted, or else with
 /// `doubt`. If no line begins with `doubt`, then comes `reclaim EXTENT FREE` for each candidate of the
 /// report, in its order, and after each of them `move EXTENT OFFSET LENGTH UUID OWNER BYTES` for each named
 /// locator into it, by the chunk that it points to, whose payload takes LENGTH and whose frame takes BYTES.
@@ -225,32 +227,32 @@ pub fn list_reclaimable<D: PageSource, G: Gate, R: Threads + Wait + Sync>(
     disk: &D,
     workers: u32,
     gate: &G,
-    accepted: &Accepted<'_, '_>,
+    acceptance: &Acceptance<'_, '_>,
 ) -> Result<(Listing, Takings), ScrubFault>
     requires { workers ≤ 64 }
-    ensures text { IfOk result (λ r. AreReclaimLines (D.image disk.now) accepted.now r.0.text.items) }
-    ensures clear { IfOk result (λ r. IsClear (D.image disk.now) accepted.now r.0.is_clean) }
+    ensures text { IfOk result (λ r. AreReclaimLines (D.image disk.now) acceptance.now r.0.text.items) }
+    ensures clear { IfOk result (λ r. IsClear (D.image disk.now) acceptance.now r.0.is_clean) }
     ensures takings { IfOk result (λ r. AreTakingsBy (D.image disk.now) workers r.1) }
 {
     let (chosen, pages) = choose_with_pages(alloc, disk)?;
     let (scan, takings) = scan_chosen(rt, alloc, disk, chosen, workers, gate)?;
-    let listing = listing_of(rt, alloc, scan, &pages, accepted)?;
+    let listing = listing_of(rt, alloc, scan, &pages, acceptance)?;
     Ok((listing, takings))
 }
 
 /// A law: what can be reclaimed of an image has at most one text of lines, and at most one verdict whether it
 /// is clear.
 pub fn one_reclaim_listing()
-    ensures text { (image : Image) (accepted : Accepted) (a b : List ℕ) →
+    ensures text { (image : Image) (accepted : Acceptance) (a b : List ℕ) →
         AreReclaimLines image accepted a → AreReclaimLines image accepted b → a ≡ b }
-    ensures clear { (image : Image) (accepted : Accepted) (a b : Bool) → IsClear image accepted a →
+    ensures clear { (image : Image) (accepted : Acceptance) (a b : Bool) → IsClear image accepted a →
         IsClear image accepted b → a ≡ b }
 {}
 
 /// A law: the extents to reclaim are the candidates of the report, in its order, if no line begins with
 /// `doubt`, or else there is none.
 pub fn reclaimed_are_candidates()
-    ensures { (image : Image) (accepted : Accepted) (report text : List ℕ) (clear : Bool) →
+    ensures { (image : Image) (accepted : Acceptance) (report text : List ℕ) (clear : Bool) →
         IsReport image report →
         AreReclaimLines image accepted text → IsClear image accepted clear →
         AreOfCandidates image accepted report text clear }
@@ -259,7 +261,7 @@ pub fn reclaimed_are_candidates()
 /// A law: no move is forgotten. Each named locator into an extent to reclaim is sound, points to a chunk to
 /// keep, and has a line among the moves.
 pub fn reclaiming_is_safe()
-    ensures { (image : Image) (accepted : Accepted) (pages : List SuperblockPage) (found : Scrubbed) →
+    ensures { (image : Image) (accepted : Acceptance) (pages : List SuperblockPage) (found : Scrubbed) →
         IsScrubbed image found →
         AreMoved found.checked (reclaimed accepted pages found) }
 {}
@@ -268,8 +270,26 @@ pub fn reclaiming_is_safe()
 /// live or in an extent that isn't to be reclaimed. So no reset takes the last spare of a named locator. A
 /// copy that is no item of a tiling is no spare.
 pub fn no_spare_is_taken()
-    ensures { (accepted : Accepted) (pages : List SuperblockPage) (found : Scrubbed) →
+    ensures { (accepted : Acceptance) (pages : List SuperblockPage) (found : Scrubbed) →
         AcceptsNoSpare accepted pages found → KeepsSpares found (reclaimed accepted pages found) }
+{}
+
+/// A law: where the generation of the last superblock is given, and an extent is to be reclaimed, the
+/// superblock that counts has that generation. Each doubt is accepted by a line of its own, or is of a kind
+/// that the last superblock settles: a damaged or stray page of extent 0, or a tail, readable or not.
+pub fn listed_by_last()
+    ensures { (accepted : Acceptance) (last : ℕ) (pages : List SuperblockPage) (found : Scrubbed) →
+        accepted.last ≡ Some last → reclaimed accepted pages found ≢ [] →
+        IsListedByLast last accepted pages found }
+{}
+
+/// A law: where no line begins with `doubt` or `accepted remains`, a copy of a chunk that isn't found begins
+/// in an extent to reclaim only inside a chunk, after its start. So no reset takes what is left of a chunk
+/// and lies between the chunks.
+pub fn no_remains_are_taken()
+    ensures { (image : Image) (accepted : Acceptance) (pages : List SuperblockPage) (found : Scrubbed) →
+        IsScrubbed image found → is_clear accepted pages found ≡ true →
+        AcceptsNoRemains accepted pages found → KeepsRemains image accepted pages found }
 {}
 
 /// A law: a reset loses nothing that is named. Let extents be listed without a `move` line, and be reset.
@@ -278,16 +298,17 @@ pub fn no_spare_is_taken()
 /// the same index as before. If no line begins with `accepted spare` either, the image has the same manifest
 /// with these resets as without them, and the same exit status.
 pub fn a_reset_loses_nothing()
-    ensures named { (accepted : Accepted) (extents : List ℕ) (before after : Image) (found rest : Scrubbed) →
+    ensures named { (accepted : Acceptance) (extents : List ℕ) (before after : Image)
+        (found rest : Scrubbed) →
         IsReclaimed accepted extents before after → IsScrubbed before found → IsScrubbed after rest →
         NameTheSame found rest }
-    ensures spares { (accepted : Accepted) (extents : List ℕ) (image : Image) (a b : List ℕ) →
+    ensures spares { (accepted : Acceptance) (extents : List ℕ) (image : Image) (a b : List ℕ) →
         AreListedWithoutSpares accepted extents image → IsManifestBut extents image a → IsManifest image b →
         a ≡ b }
-    ensures whole { (accepted : Accepted) (extents : List ℕ) (image : Image) (a b : Bool) →
+    ensures whole { (accepted : Acceptance) (extents : List ℕ) (image : Image) (a b : Bool) →
         AreListedWithoutSpares accepted extents image → IsWholeBut extents image a → IsWholeImage image b →
         a ≡ b }
-    ensures index { (accepted : Accepted) (extents : List ℕ) (before after : Image) (a b : List ℕ) →
+    ensures index { (accepted : Acceptance) (extents : List ℕ) (before after : Image) (a b : List ℕ) →
         IsReclaimed accepted extents before after → IsIndex before a → IsIndex after b → a ≡ b }
 {}
 

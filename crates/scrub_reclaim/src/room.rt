@@ -24,7 +24,7 @@ use std::alloc::Global;
 use std::fmt::Write;
 
 /// The extents of the locators that aren't sound, in the order of the locators.
-fn unsound_extents(alloc: Global, checked: &[Checked]) -> Result<Vec<u32>, OutOfMemory>
+pub fn unsound_extents(alloc: Global, checked: &[Checked]) -> Result<Vec<u32>, OutOfMemory>
     ensures { IfOk result (λ v. v.items ≡
         map (λ c. c.locator.extent) (filter (λ c. not (is_sound c.status)) checked.now)) }
 {
@@ -36,7 +36,7 @@ fn unsound_extents(alloc: Global, checked: &[Checked]) -> Result<Vec<u32>, OutOf
 }
 
 /// Numbers in order.
-pub(crate) fn sorted(mut numbers: Vec<u32>) -> Result<Vec<u32>, OutOfMemory>
+pub fn sorted(mut numbers: Vec<u32>) -> Result<Vec<u32>, OutOfMemory>
     ensures sorted { IfOk result (λ v. IsSorted nat_cmp v.items) }
     ensures same { IfOk result (λ v. IsPermutation numbers.items v.items) }
 {
@@ -54,7 +54,7 @@ pub(crate) fn has_number(numbers: &[u32], number: u32) -> bool
 
 /// Whether a chunk can be put into an extent; `unsound` has the sorted numbers of those into which an unsound
 /// locator points.
-fn may_grow<D: PageSource>(unsound: &[u32], found: &ExtentResult<'_, D>) -> bool
+pub fn may_grow<D: PageSource>(unsound: &[u32], found: &ExtentResult<'_, D>) -> bool
     requires { IsSorted nat_cmp unsound.now }
     ensures { result ≡ may_grow_by unsound.now (scanned found.now) }
 {
@@ -79,7 +79,7 @@ fn ends_in_chunk(items: &[Item]) -> bool
 }
 
 /// The place for the next frame, by the bytes of a page, the write pointer and the items below it.
-fn next_place(page: u32, pointer: u32, items: &[Item]) -> u64
+pub fn next_place(page: u32, pointer: u32, items: &[Item]) -> u64
     requires { 0 < page }
     ensures { result ≡ next_place page pointer items.now }
 {
@@ -91,7 +91,7 @@ fn next_place(page: u32, pointer: u32, items: &[Item]) -> u64
 }
 
 /// Whether there is nothing but zeros from the pointer of an extent to a place.
-fn is_zero_to<D: PageSource>(place: u64, found: &ExtentResult<'_, D>) -> bool
+pub fn is_zero_to<D: PageSource>(place: u64, found: &ExtentResult<'_, D>) -> bool
     ensures { result ≡ is_zero_to place (scanned found.now) }
 {
     match found.findings().tail_first() {

@@ -4,9 +4,11 @@ ghost use Rattle.std.specs.Prelude.{◌≡◌, ◌++◌, ◌∷◌, ◌&&◌, []
 ghost use Rattle.std.specs.Ordering.{nat_cmp};
 ghost use Rattle.std.specs.List.{flat_map, list_any};
 ghost use Rattle.std.specs.List.Sorted.{IsSorted};
+ghost use Rattle.scrub_scan.specs.Scanned.{Scanned};
 ghost use Rattle.scrub_check.specs.declared.statuses.checked.Checked.{Checked};
 ghost use Rattle.scrub_check.specs.Checked.{is_sound};
 ghost use Rattle.scrub_check.specs.Live.{has_sound_at};
+ghost use Rattle.scrub_check.specs.Spares.{AreSpares};
 ghost use Rattle.scrub_reclaim.specs.Doubts.{frame_bytes, is_at_risk, spare_doubt, spare_doubts};
 ghost use Rattle.scrub_reclaim.specs.Doubts.{spare_doubts_by, staying};
 ghost use Rattle.scrub_reclaim.specs.steps.Moves.{AreRisingPlaces, PointAlike};
@@ -15,8 +17,8 @@ use crate::doubts::Doubt;
 use crate::moves::{by_place, pointing_to};
 use crate::room::{candidate_extents, has_number, sorted};
 use scrub_check::{Candidate, Checked, Owner, Spares};
-use scrub_disk::{OutOfMemory, PageSource};
-use scrub_scan::{AllFindings, Standing};
+use scrub_disk::OutOfMemory;
+use scrub_scan::Standing;
 use std::alloc::Global;
 
 /// Whether one of these locators is sound.
@@ -146,20 +148,20 @@ fn add_all(
     Ok(())
 }
 
-/// Adds the doubts that spares make if the candidates are reset. Each spare is looked at once.
-pub(crate) fn add_spares<D: PageSource>(
+/// Adds the doubts that these spares of the named locators make if the candidates are reset. Each spare is
+/// looked at once.
+pub(crate) fn add_spares(
     alloc: Global,
     doubts: &mut Vec<Doubt>,
-    all: &AllFindings<'_, D>,
+    spares: &Spares,
     checked: &[Checked],
     candidates: &[Candidate],
 ) -> Result<(), OutOfMemory>
-    ensures { OnOk result (doubts.new.items ≡ doubts.old.items ++
-        spare_doubts all.now.extents checked.now candidates.now) }
+    ensures { (all : List Scanned) → AreSpares all checked.now spares.now →
+        OnOk result (doubts.new.items ≡ doubts.old.items ++ spare_doubts all checked.now candidates.now) }
 {
-    let spares = Spares::of(alloc, all, checked)?;
     let places = by_place(alloc, checked)?;
     let extents = sorted(candidate_extents(alloc, candidates)?)?;
     let stay = Spares::among(staying(alloc, &places, &extents, spares.all())?)?;
-    add_all(doubts, &spares, &stay, checked)
+    add_all(doubts, spares, &stay, checked)
 }

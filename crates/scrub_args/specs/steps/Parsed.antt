@@ -2,10 +2,11 @@
 use Rattle.std.specs.Prelude.{◌≡◌, ◌≢◌, ◌⊎◌, ◌||◌, All, Bool, true, false, List, [], Option, None, Some, codes, IfSome, pos, unwrap_or}
 use Rattle.std.specs.Str.{bytes_eq}
 use Rattle.clap.specs.Words.{IsSignedIn, Row, Text, first_of, many_of, one_of, without_minus}
+use Rattle.clap.specs.Values.{IsUnsignedIn}
 use Rattle.clap.specs.declared.error.kind.ErrorKind.{ErrorKind}
 use Rattle.clap.specs.declared.error.kind.ErrorKind.TheVariants.{DisplayHelp, DisplayVersion, OutOfMemory as no_memory}
 use Rattle.clap_walk.specs.Rows.{HasNumberTo}
-use Rattle.scrub_args.specs.Args.{AcceptsFound, command_of}
+use Rattle.scrub_args.specs.Args.{IsWantedWith, command_of}
 use Rattle.scrub_args.specs.declared.args.Wanted.{Wanted}
 use Rattle.scrub_args.specs.declared.args.ArgsFault.{ArgsFault}
 use Rattle.scrub_args.specs.declared.args.ArgsFault.TheVariants.{Refused, Help, OutOfMemory}
@@ -24,6 +25,14 @@ HasNumber found name = HasNumberTo 4294967295 found name
 -- a value was found for the option, and it is such a number; or none was
 abbrev pub MayHaveNumber : List Row → Text → Type 0
 MayHaveNumber found name = (one_of name found ≡ None) ⊎ HasNumber found name
+
+-- a value was found for the option, and it is a whole number of 64 bits
+abbrev pub HasLongNumber : List Row → Text → Type 0
+HasLongNumber found name = (text : Text) × (one_of name found ≡ Some text) × IsUnsignedIn 0 18446744073709551615 text
+
+-- a value was found for the option, and it is such a number; or none was
+abbrev pub MayHaveLongNumber : List Row → Text → Type 0
+MayHaveLongNumber found name = (one_of name found ≡ None) ⊎ HasLongNumber found name
 
 -- the text is read of a value that is a whole number of 32 bits
 abbrev pub IsReadNumber : Text → Type 0
@@ -48,10 +57,15 @@ pub record HasImage (found : List Row) : Type 0 where
   pub extents : MayHaveNumber found (codes "extents")
   pub image : HasImageName found
 
--- what `clap` found has all that `scan`, `index`, `locators`, `summary` and `reclaimable` need
+-- what `clap` found has all that each command on the whole disk needs
 pub record HasScan (found : List Row) : Type 0 where
   pub disk : HasImage found
   pub workers : (one_of (codes "workers") found ≡ None) ⊎ HasNumberTo 64 found (codes "workers")
+
+-- what `clap` found has all that `summary` and `reclaimable` need
+pub record HasDated (found : List Row) : Type 0 where
+  pub scan : HasScan found
+  pub last : MayHaveLongNumber found (codes "last")
 
 -- what `clap` found has all that `manifest` needs
 pub record HasManifest (found : List Row) : Type 0 where
@@ -76,26 +90,31 @@ is_disk_command name =
     || (bytes_eq name (codes "locators")
     || (bytes_eq name (codes "summary") || bytes_eq name (codes "reclaimable"))))
 
--- this is wanted by the command of this name, with the doubts accepted that were found
-abbrev pub IsWantedBy : Text → List Row → Wanted → Type 0
-IsWantedBy name found wanted = (name ≡ command_of wanted) × AcceptsFound found wanted
+-- whether the command is one of them to which the generation of the last superblock can be given
+abbrev pub is_dated_command : Text → Bool
+is_dated_command name = bytes_eq name (codes "summary") || bytes_eq name (codes "reclaimable")
 
--- what a command needs, by the first of these that it is: one on the whole disk, `manifest`, `shard`, `superblocks`, `sizes`,
--- `items`, `demo`
-abbrev pub HasNeeds : (disk manifest shard superblocks sizes items demo : Bool) → List Row → Type 0
-HasNeeds true manifest shard superblocks sizes items demo found = HasScan found
-HasNeeds false true shard superblocks sizes items demo found = HasManifest found
-HasNeeds false false true superblocks sizes items demo found = HasShard found
-HasNeeds false false false true sizes items demo found = HasImage found
-HasNeeds false false false false true items demo found = HasImageName found
-HasNeeds false false false false false true demo found = HasItems found
-HasNeeds false false false false false false true found = Unit {0}
-HasNeeds false false false false false false false found = ⊥
+-- this is wanted by the command of this name, with the values that were found
+abbrev pub IsWantedBy : Text → List Row → Wanted → Type 0
+IsWantedBy name found wanted = (name ≡ command_of wanted) × IsWantedWith found wanted
+
+-- what a command needs, by the first of these that it is: one to which the generation of the last superblock can be given, another one on
+-- the whole disk, `manifest`, `shard`, `superblocks`, `sizes`, `items`, `demo`
+abbrev pub HasNeeds : (dated disk manifest shard superblocks sizes items demo : Bool) → List Row → Type 0
+HasNeeds true disk manifest shard superblocks sizes items demo found = HasDated found
+HasNeeds false true manifest shard superblocks sizes items demo found = HasScan found
+HasNeeds false false true shard superblocks sizes items demo found = HasManifest found
+HasNeeds false false false true superblocks sizes items demo found = HasShard found
+HasNeeds false false false false true sizes items demo found = HasImage found
+HasNeeds false false false false false true items demo found = HasImageName found
+HasNeeds false false false false false false true demo found = HasItems found
+HasNeeds false false false false false false false true found = Unit {0}
+HasNeeds false false false false false false false false found = ⊥
 
 -- the command is one of the program's, and has all that it needs
 abbrev pub IsWholeCommand : Text → List Row → Type 0
 IsWholeCommand name found =
-    HasNeeds (is_disk_command name) (bytes_eq name (codes "manifest")) (bytes_eq name (codes "shard"))
+    HasNeeds (is_dated_command name) (is_disk_command name) (bytes_eq name (codes "manifest")) (bytes_eq name (codes "shard"))
     (bytes_eq name (codes "superblocks")) (bytes_eq name (codes "sizes")) (bytes_eq name (codes "items")) (bytes_eq name (codes "demo")) found
 
 -- if a command was found, it is one of the program's, and has all that it needs

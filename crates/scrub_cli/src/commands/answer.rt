@@ -10,7 +10,7 @@ ghost use Rattle.scrub_cli.specs.Answer.{IsVersionAnswer};
 ghost use Rattle.scrub_cli.specs.Lines.{lines_of};
 ghost use Rattle.scrub_cli.specs.Outcome.{outcome_of};
 ghost use Rattle.scrub_cli.specs.Manifest.{IsManifestListed};
-ghost use Rattle.scrub_cli.specs.Scan.{IsDiskAnswer};
+ghost use Rattle.scrub_cli.specs.Scan.{IsDiskAnswer, acceptance};
 ghost use Rattle.scrub_cli.specs.SizesListed.{AreSizesListed};
 ghost use Rattle.scrub_cli.specs.Superblock.{AreSuperblocksListed};
 
@@ -19,7 +19,7 @@ use scrub_args::{AcceptedDoubts, VERSION, Wanted};
 use scrub_disk::{OutOfMemory, PageSource, RawImage};
 use scrub_listings::{list_locators, list_manifest, list_sizes, list_summary, list_superblocks};
 use scrub_pool::{NoGate, Takings};
-use scrub_reclaim::{Accepted, list_reclaimable};
+use scrub_reclaim::{Acceptance, list_reclaimable};
 use scrub_report::{ScrubFault, are_clean_items, scrub};
 use scrub_scan::{Item, item_line};
 use std::alloc::Global;
@@ -102,10 +102,10 @@ pub fn sizes_listing<R: RawImage>(
 }
 
 /// The doubts that the arguments accept, for a list of what may be reclaimed.
-fn as_accepted<'v, 'a>(accepted: &'v AcceptedDoubts<'a>) -> Accepted<'v, 'a>
-    ensures { result ≡ accepted.now }
+fn acceptance<'v, 'a>(accepted: &'v AcceptedDoubts<'a>, last: Option<u64>) -> Acceptance<'v, 'a>
+    ensures { result ≡ acceptance accepted.now last }
 {
-    Accepted::new(&accepted.texts)
+    Acceptance::new(&accepted.texts, last)
 }
 
 /// What is wanted of a disk, with its status, and the extents that each worker took. This many workers scan
@@ -138,14 +138,19 @@ pub fn disk_answer<R: Threads + Wait + Sync, D: PageSource>(
             let (listing, takings) = list_locators(rt, alloc, disk, workers, &NoGate)?;
             Ok((Answer::new(listing.text, listing.is_clean), takings))
         }
-        Wanted::Summary => {
-            let (summary, takings) = list_summary(rt, alloc, disk, workers, &NoGate)?;
+        Wanted::Summary(last) => {
+            let (summary, takings) = list_summary(rt, alloc, disk, workers, &NoGate, *last)?;
             Ok((Answer::new(summary.text, summary.is_clean), takings))
         }
-        Wanted::Reclaimable(accepted) => {
-            let accepted = as_accepted(&accepted);
+        Wanted::Reclaimable(accepted, last) => {
+            let acceptance = acceptance(&accepted, *last);
             let (listing, takings) = list_reclaimable(
-                rt, alloc, disk, workers, &NoGate, &accepted,
+                rt,
+                alloc,
+                disk,
+                workers,
+                &NoGate,
+                &acceptance,
             )?;
             Ok((Answer::new(listing.text, listing.is_clean), takings))
         }

@@ -12,7 +12,7 @@ use scrub_fakes::worked::many_shards;
 use scrub_fakes::{CountingSource, plan_of, put_chunk, put_superblock};
 use scrub_listings::{list_locators, list_manifest, list_summary};
 use scrub_pool::{Gate, NoGate, Takings};
-use scrub_reclaim::{Accepted, list_reclaimable};
+use scrub_reclaim::{Acceptance, list_reclaimable};
 use scrub_report::ScrubFault;
 use std::alloc::Global;
 use std::process::Abort;
@@ -70,11 +70,11 @@ fn answer<D: PageSource, G: Gate, R: Threads + Wait + Sync>(
     let (listing, takings) = match which {
         Which::Locators => list_locators(rt, alloc, disk, workers, gate)?,
         Which::Reclaimable => {
-            let accepted = Accepted::new(NONE);
-            list_reclaimable(rt, alloc, disk, workers, gate, &accepted)?
+            let acceptance = Acceptance::new(NONE, None);
+            list_reclaimable(rt, alloc, disk, workers, gate, &acceptance)?
         }
         Which::Manifest => list_manifest(rt, alloc, disk, workers, gate, &[])?,
-        Which::Summary => list_summary(rt, alloc, disk, workers, gate)?,
+        Which::Summary => list_summary(rt, alloc, disk, workers, gate, None)?,
     };
     Ok(Listing {
         text: listing.text,

@@ -2,7 +2,7 @@
 use Rattle.std.proofs.Common.{◌∙◌}
 use Rattle.std.proofs.lemmas.Result.{err_from_is_err_and}
 use Rattle.clap.specs.Words.{found_of, rows_of, subcommand_rows_of}
-use Rattle.scrub_args.proofs.ArgsFound.{disk_of_whole, found_command, image_of_whole, items_of_whole, manifest_of_whole, name_of_whole, part_fault_of_rows, shard_of_whole, twice}
+use Rattle.scrub_args.proofs.ArgsFound.{disk_of_whole, found_command, image_of_whole, items_of_whole, last_of_whole, manifest_of_whole, name_of_whole, part_fault_of_rows, shard_of_whole, twice}
 use Rattle.scrub_args.proofs.args.request_of.Goals as goal
 
 pub items_args-requires : goal.items_args-requires
@@ -52,6 +52,13 @@ returns-in_err-image_args-in-Some-superblocks-default c =
     rw (p.1, p.2)
     (part_fault_of_rows name found command fault.field-0.0
     (found_command command name found (met.ensures.name ∙ twice (λ p. p.0) _ _) met.ensures.rows) fault.ensures)
+
+pub wanted_by-requires-clause-last : goal.wanted_by-requires-clause-last
+wanted_by-requires-clause-last c dated =
+    let met = c.in-Some in
+    last_of_whole (subcommand_rows_of c.args.matches.now) met.name.now (rows_of (found_of met.matches.now)) c.requires
+    (met.ensures.name ∙ twice (λ p. p.0) _ _)
+    met.ensures.rows dated
 
 pub scan_args-requires : goal.scan_args-requires
 scan_args-requires c =

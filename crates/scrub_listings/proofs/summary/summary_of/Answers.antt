@@ -15,8 +15,8 @@ returns-clause-text g c =
     let pages = c.args.pages.now in
     let found : Scrubbed = found_in parts are.read in
     let clean_is : c.is_clean.result ≡ is_clean found = c.is_clean.ensures ∙ clean_found parts are.read are.rows in
-    let verdict_is : c.verdict_by-verdict.result ≡ verdict found pages =
-    c.verdict_by-verdict.ensures ∙ (λ i. verdict_by (clean_is i) (c.has_odd_page.ensures i)) in
+    let verdict_is : c.verdict_by-verdict.result ≡ verdict c.args.last found pages =
+    c.verdict_by-verdict.ensures ∙ (λ i. verdict_by (clean_is i) (c.has_doubt-has_doubt.ensures i)) in
     record {
       found = found;
       scrubbed = are.scrubbed;
@@ -36,8 +36,8 @@ returns-clause-sound g c =
     let pages = c.args.pages.now in
     let found : Scrubbed = found_in parts are.read in
     let clean_is : c.is_clean.result ≡ is_clean found = c.is_clean.ensures ∙ clean_found parts are.read are.rows in
-    let verdict_is : c.verdict_by-verdict.result ≡ verdict found pages =
-    c.verdict_by-verdict.ensures ∙ (λ i. verdict_by (clean_is i) (c.has_odd_page.ensures i)) in
+    let verdict_is : c.verdict_by-verdict.result ≡ verdict c.args.last found pages =
+    c.verdict_by-verdict.ensures ∙ (λ i. verdict_by (clean_is i) (c.has_doubt-has_doubt.ensures i)) in
     record {
       found = found;
       scrubbed = are.scrubbed;

@@ -3,7 +3,7 @@ use Rattle.std.proofs.Common.{◌≡◌, ◌++◌, [], ℕ, List, ap, ◌∙◌,
 use Rattle.std.specs.Prelude.{string_bytes}
 use Rattle.std.specs.List.{flat_map}
 use Rattle.scrub_report.specs.Parts.{found_in}
-use Rattle.scrub_reclaim.specs.Doubts.{are_accepted}
+use Rattle.scrub_reclaim.specs.Doubts.{accepted_on, are_accepted}
 use Rattle.scrub_reclaim.specs.Reclaimable.{candidate_lines, doubt_line, rooms_kept}
 use Rattle.scrub_reclaim.proofs.Clear.{clear_found, lines_found}
 use Rattle.scrub_reclaim.proofs.reclaiming.listing_of.Goals as goal
@@ -12,7 +12,8 @@ pub returns-clause-text : goal.returns-clause-text
 returns-clause-text g c =
     let are = c.in_ok-parts.ensures in
     let parts = c.in_ok-parts.parts in
-    let accepted = c.args.accepted.now in
+    let acceptance = c.args.acceptance.now in
+    let accepted = accepted_on acceptance parts.judged.scan.chosen in
     let list = c.in_ok-doubts.doubts.items in
     let clear = c.in_ok-is_clear.is_clear in
     let lines = string_bytes c.in_ok-text.text in
@@ -30,14 +31,15 @@ returns-clause-text g c =
       held = c.requires.pages;
       text_is =
           ap (λ (v : Vec ℕ Global). v.items) c.into_bytes.ensures.value
-          ∙ lines_found parts are.read are.rows c.args.pages.now accepted list clear lines text c.in_ok-doubts.ensures is first all;
+          ∙ lines_found parts are.read are.rows c.args.pages.now acceptance list clear lines text (rw c.last.ensures at c.in_ok-doubts.ensures) is first all;
     }
 
 pub returns-clause-clear : goal.returns-clause-clear
 returns-clause-clear g c =
     let are = c.in_ok-parts.ensures in
     let parts = c.in_ok-parts.parts in
-    let accepted = c.args.accepted.now in
+    let acceptance = c.args.acceptance.now in
+    let accepted = accepted_on acceptance parts.judged.scan.chosen in
     let list = c.in_ok-doubts.doubts.items in
     let clear = c.in_ok-is_clear.is_clear in
     let is : clear ≡ are_accepted accepted list = search rules in
@@ -46,5 +48,5 @@ returns-clause-clear g c =
       scrubbed = are.scrubbed;
       pages = c.args.pages.now;
       held = c.requires.pages;
-      verdict = clear_found parts are.read are.rows c.args.pages.now accepted list clear c.in_ok-doubts.ensures is;
+      verdict = clear_found parts are.read are.rows c.args.pages.now acceptance list clear (rw c.last.ensures at c.in_ok-doubts.ensures) is;
     }

@@ -8,14 +8,14 @@ use Rattle.scrub_reclaim.proofs.SpareDoubts.{all_alike}
 use Rattle.scrub_reclaim.proofs.spare_doubts.add_spares.Goals as goal
 
 pub returns : goal.returns
-returns g c =
+returns c all are =
     let checked = c.args.checked.now in
     let places : PointAlike checked c.deref.result.now = rw c.deref.ensures.value c.in_ok-places.ensures.same in
     let numbers : IsPermutation (map (λ a. a.extent) c.args.candidates.now) c.deref-2.result.now =
     rw c.deref-2.ensures.value (rw c.in_ok-candidate_extents.ensures at c.in_ok-extents.ensures.same) in
-    let safe : c.in_ok-staying.field-0.items ≡ staying checked c.deref-2.result.now c.in_ok-spares.spares =
+    let safe : c.in_ok-staying.field-0.items ≡ staying checked c.deref-2.result.now c.args.spares.now =
     c.in_ok-staying.ensures checked places ∙ ap (staying checked c.deref-2.result.now) c.all.ensures in
     subst (λ (ds : List Doubt). OnOk c.add_all.result (c.add_all.new.doubts.items ≡ c.args.doubts.now.items ++ ds))
-    (all_alike c.args.all.now.extents checked c.in_ok-spares.spares c.in_ok-spares.ensures (map (λ a. a.extent) c.args.candidates.now) c.deref-2.result.now numbers
+    (all_alike all checked c.args.spares.now are (map (λ a. a.extent) c.args.candidates.now) c.deref-2.result.now numbers
     c.in_ok-staying.field-0.items c.in_ok-stay.stay safe c.in_ok-stay.ensures)
     c.add_all.ensures
