@@ -1,6 +1,6 @@
 #!/usr/bin/env python3
-"""Walks the checklist of docs/RECLAIMING.md on made-up disks, makes mistakes, and holds the laws of acting, as tests/test_checklist.py
-does, on more disks and others.
+"""Walks the checklist of docs/RECLAIMING.md on made-up disks, makes mistakes, and holds the laws of acting and those of `compare`, as
+tests/test_checklist.py and tests/test_compare.py do, on more disks and others.
 
 Prints a line for each failure, and how often each case came up. The last line is 'N passed, M failed'. Exit status: 0 if all
 passed, 1 if something failed, 2 if the arguments are wrong, 70 if there is no program of these sources.
@@ -12,23 +12,24 @@ from collections import Counter
 from pathlib import Path
 
 sys.path.insert(0, str(Path(__file__).resolve().parent.parent / "tests"))
+from lib import compare_laws, laws
 from lib.drive import Broken, Engine
-from lib.laws import hold_laws_on
-from lib.mistakes import MISTAKES
+from lib.mishaps import MISTAKES, judge_mistake
 from lib.program import choose_program
-from lib.walk import judge_mistake, row, trials, walk_honestly
+from lib.walk import row, trials, walk_honestly
 
 
 def print_rows(engine, one, seed, found, tries):
-    print(row(one.name, found))
+    print(row(one.name, found), flush=True)
     if any(box in (4, 5) for box, _ in found):
-        print(row("    without looking at the place and without cmp", trials(engine, one, seed, tries, ("look", "cmp"))))
+        print(row("    without looking at the place", trials(engine, one, seed, tries, ("look",))))
 
 
 def checks(engine, given, seen):
     """Yields each check, as a function."""
-    for turn in range(given.laws):
-        yield lambda: hold_laws_on(engine, given.seed * 1_000_003 + turn, seen)
+    for hold_laws_on in (laws.hold_laws_on, compare_laws.hold_laws_on):
+        for turn in range(given.laws):
+            yield lambda: hold_laws_on(engine, given.seed * 1_000_003 + turn, seen)
     for turn in range(given.disks):
         yield lambda: walk_honestly(engine, given.seed * 1_000_003 + turn, seen)
     for one in MISTAKES if given.tries else []:
@@ -41,7 +42,8 @@ def checks(engine, given, seen):
 def main():
     parser = argparse.ArgumentParser(prog="fuzz/checklist.py", description=__doc__.partition("\n\n")[0],
                                      epilog=__doc__.partition("\n\n")[2], formatter_class=argparse.RawDescriptionHelpFormatter)
-    for name, value, what in (("--disks", 200, "how many disks are walked"), ("--laws", 400, "on how many disks the laws are held"),
+    for name, value, what in (("--disks", 200, "how many disks are walked"),
+                              ("--laws", 400, "on how many disks, and on how many pairs of images, the laws are held"),
                               ("--tries", 4, "on how many disks each mistake is made"), ("--seed", 2, "others for each seed")):
         parser.add_argument(name, type=int, default=value, metavar="N", help=f"{what} (default: {value})")
     parser.add_argument("--table", action="store_true", help="print for each mistake which box stops it, how often, and how often "
@@ -60,7 +62,7 @@ def main():
             except Broken as why:
                 outcomes["failed"] += 1
                 print("FAILED:", str(why)[:2000], flush=True)
-    print(f"{given.laws} disks for the laws, {given.disks} walked, {len(MISTAKES)} kinds of mistakes, {engine.calls} calls:",
+    print(f"{given.laws} disks and pairs for the laws, {given.disks} walked, {len(MISTAKES)} kinds of mistakes, {engine.calls} calls:",
           dict(sorted(seen.items())))
     print(f"{outcomes['passed']} passed, {outcomes['failed']} failed")
     return int(outcomes["failed"] > 0)

@@ -449,7 +449,7 @@ class Disks(AnswerCase):
 # What each help has.
 HELP = {
     "--help": ["Usage: shardscrub [COMMAND]", "\n  summary ", "\n  scan ", "\n  shard ", "\n  index ", "\n  locators ",
-               "\n  manifest ", "\n  reclaimable ", "\n  superblocks ", "\n  sizes ", "\n  items ", "\n  demo ", "Exit status",
+               "\n  manifest ", "\n  reclaimable ", "\n  compare ", "\n  superblocks ", "\n  sizes ", "\n  items ", "\n  demo ", "Exit status",
                "\n  shardscrub summary examples/one-shard.img", "--extent 1 --pointer 41 examples/one-shard.img"],
     "demo --help": ["Usage: shardscrub demo", "Exit status", "\n  shardscrub demo\n"],
     "items --help": ["Usage: shardscrub items", "--page <BYTES>", "power of two, 64 to 65536", "1 to 65536", "67108864 bytes",
@@ -483,6 +483,12 @@ HELP = {
                            "doubt tail EXTENT OFFSET BYTES",
                            "move EXTENT OFFSET LENGTH UUID OWNER BYTES", "\n  room EXTENT OFFSET BYTES ",
                            "\n  last-room EXTENT OFFSET BYTES ", "Exit status"],
+    "compare --help": ["Usage: shardscrub compare", "--workers <COUNT>", "--reset <EXTENT>", "<BEFORE> <AFTER> [EXTENT:PAGE]...",
+                       "\n  doubt before D, doubt after D ", "\n  generation BEFORE AFTER ", "\n  pointer EXTENT BEFORE AFTER ",
+                       "\n  written EXTENT OFFSET ", "\n  named OWNER EXTENT OFFSET LENGTH UUID STATUS\n", "\n  lost LINE, new LINE ",
+                       "\n  spare LINE ", "\n  safe BEFORE AFTER ", "Exit status",
+                       "\n  shardscrub compare --page 64 --pages 4 --extents 3 examples/one-shard.img examples/one-shard.img",
+                       "\n  safe 1 1\n"],
     "sizes --help": ["Usage: shardscrub sizes", "--map <FILE>", "OFFSET KIND GENERATION PAGE PAGES EXTENTS", "lost FROM TO",
                      "Exit status", "\n  0 SSB1 1 64 4 3\n"],
 }

@@ -1,12 +1,13 @@
-"""Walks the checklist of docs/RECLAIMING.md on made-up disks, and makes mistakes on the way, one at a time. Also holds the laws of
-spares, copies, resets, manifests and shards on pairs of images. fuzz/checklist.py does so on others."""
+"""Walks the checklist of docs/RECLAIMING.md on made-up disks, and makes mistakes on the way, one at a time; or a copy rots meanwhile, a
+superblock goes, or a node writes. Also holds the laws of spares, copies, resets, manifests and shards on pairs of images.
+fuzz/checklist.py does so on others, and prints which box stops what."""
 from collections import Counter
 
-from lib.cases import RoomCase, add_tests
+from lib.cases import Case, RoomCase, add_tests
 from lib.drive import Engine
 from lib.laws import hold_laws_on
-from lib.mistakes import MISTAKES
-from lib.walk import judge_mistake, trials, walk_honestly
+from lib.mishaps import HARMLESS, MISTAKES, TOO_LATE, UNSEEN, judge_mistake
+from lib.walk import trials, walk_honestly
 
 SEED, LAWS, WALKS, TRIES = 1, 200, 100, 2
 
@@ -35,10 +36,18 @@ class Walks(EngineCase):
 
 
 class Mistakes(EngineCase):
-    """Each mistake is stopped by a box that should stop it."""
+    """Each mistake is stopped by a box before bytes are lost, unless a list says otherwise."""
 
     def check(self, one):
         judge_mistake(one, trials(self.engine, one, SEED, TRIES))
+
+
+class Lists(Case):
+    def test_the_lists_name_mistakes(self):
+        names = {one.name for one in MISTAKES}
+        for listed in (UNSEEN, TOO_LATE, HARMLESS):
+            self.same("no such mistake", sorted(set(listed) - names), [])
+        self.same("two of one name", len(names), len(MISTAKES))
 
 
 add_tests(Laws, Laws.check, [(f"disk {turn:03}", turn) for turn in range(LAWS)])

@@ -48,7 +48,7 @@ class Help(Case):
         self.same("the same after the word help", said("help", name), (status, out, text))
         self.same("the sentence", text.split("\n")[0], command.about)
         used = ["shardscrub", name, *["[OPTIONS]"] * (options_of(command) != ()), *map(written, required_of(command)),
-                *["<IMAGE>"] * command.takes_image, *["[EXTENT:PAGE]..."] * command.takes_pages]
+                *(f"<{image}>" for image in command.images), *["[EXTENT:PAGE]..."] * command.takes_pages]
         self.same("the usage", re.search("^Usage: (.*)$", text, re.M)[1], " ".join(used))
         arguments = [(f"[{one}]..." if OPTIONS[one].is_repeated else f"<{one}>", plain(OPTIONS[one].help)) for one in arguments_of(command)]
         self.same("the arguments", part_of(text, "Arguments"), arguments)
@@ -67,9 +67,9 @@ class Help(Case):
         self.same("the statuses 0 and 1", [found.get(number) for number in range(len(both))], both)
         unfound, too_long, unopened = ", or no sizes are found", "the image is too long, or ", STATUSES[3][0].partition(", the image is")[0]
         invalid = STATUSES[2][0] if command.sizes is False else STATUSES[2][0].removesuffix(unfound)
-        failed = STATUSES[3][0] if command.takes_pages else f"{unopened}, or the output failed" if command.takes_image else "the output failed"
+        failed = STATUSES[3][0] if command.takes_pages else f"{unopened}, or the output failed" if command.images else "the output failed"
         self.true(f"status 3 of {name}", found[3].partition(":")[0] == failed, found[3])
-        self.same("the other statuses", (found.get(2), found[4]), (invalid if command.takes_image else None, STATUSES[4][0]))
+        self.same("the other statuses", (found.get(2), found[4]), (invalid if command.images else None, STATUSES[4][0]))
         self.true("the words of status 2 and 3", unfound in STATUSES[2][0] and too_long in STATUSES[3][0])
 
     def test_the_program(self):

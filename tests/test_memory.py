@@ -23,6 +23,7 @@ from lib.worked import behind_a_damaged_frame
 SMALL = "--page 64 --pages 4 --extents 3 examples/one-shard.img"
 SEVERAL = "--page 64 --pages 16 --extents 5 examples/several-findings.img 3:1"
 RECLAIMED = "--page 64 --pages 8 --extents 5 examples/reclaimed-before.img"
+COPIED = "--page 64 --pages 8 --extents 4 examples/rotted.img examples/copied.img"
 RESCUED = "--page 512 --pages 4 --extents 4 --map examples/rescued.map examples/rescued.img"
 # Disks that the tests make: see `retiring`, `large` and `behind_a_damaged_frame`.
 ROOM = "ROOM/"
@@ -48,6 +49,8 @@ COMMAND_LINES = {
     "reclaimable with another generation": f"reclaimable --workers 0 --last 2 {RECLAIMED}",
     "reclaimable with a tail accepted": f"reclaimable --workers 2 --accept 'tail 1 208 45' {RECLAIMED}",
     "reclaimable with remains": f"reclaimable --workers 0 --page 64 --pages 8 --extents 4 {ROOM}behind.img",
+    "compare": f"compare --workers 2 --reset 2 {COPIED}",
+    "compare without workers": f"compare --workers 0 --reset 1 {COPIED}",
     "refused line": f"reclaimable --accept 'tie 1' {RECLAIMED}",
     "manifest": f"manifest {SEVERAL}",
     "manifest with a map": f"manifest --workers 0 {RESCUED}",

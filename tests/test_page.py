@@ -232,6 +232,7 @@ class Files(PageCase):
             ("a manifest", "wrong.txt", "retired\nruns lost 0 hidden 0\ntotal 0 0\n", "the output of manifest, which this page doesn't draw"),
             ("a manifest without a superblock", "wrong.txt", "no-superblock\n", "the output of manifest, which"),
             ("a summary", "wrong.txt", "verdict sound\npage_bytes 64\n", "the output of summary, which this page doesn't draw"),
+            ("two images that were compared", "wrong.txt", "written 2 42\nunsafe\n", "the output of compare, which this page doesn't draw"),
             ("something else", "wrong.txt", "hello\n", "neither a report nor an output"),
             ("an empty file of no known kind", "wrong.txt", "", "name doesn't say what it is"),
         )

@@ -621,6 +621,15 @@ class Calls(RoomCase):
     def test_no_image(self):
         self.check_changes_nothing([([], []), (["--help"], []), (["repair"], [])])
 
+    def test_compare_changes_nothing(self):
+        """It opens the map, then the earlier image, then the later one."""
+        command, runs = ["compare", *SEVERAL, "--reset", "2"], []
+        for given in ([], ["--map", "map"]):
+            for before, after in (("image", "image"), ("image", "longer"), ("image", "nothing"), ("longer", "image"), ("nothing", "image")):
+                files = [name for name in [before, *[after] * (before == "image")] if name != "nothing"]
+                runs.append(([*command, *given, before, after], [*given[1:], *files]))
+        self.check_changes_nothing([*runs, ([*command, "--map", "no-map", "image", "image"], ["no-map"])])
+
     def check_command(self, command):
         runs = []
         for given in ([], ["--map", "map"]):

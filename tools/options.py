@@ -26,7 +26,8 @@ class Option(NamedTuple):
 
 class Command(NamedTuple):
     """A command: its sentence in the help, how it takes the sizes, its options in the order of the help, and what the statuses 0 and 1
-    mean. `sizes` is True if they have to be given, False if they may be left out, None if they can't be given."""
+    mean. `sizes` is True if they have to be given, False if they may be left out, None if they can't be given. `images` has the names of
+    its images."""
     about: str
     ok: str
     not_ok: str = ""
@@ -34,7 +35,7 @@ class Command(NamedTuple):
     own: tuple = ()
     required: tuple = ()
     takes_map: bool = True
-    takes_image: bool = True
+    images: tuple = ("IMAGE",)
     takes_pages: bool = True
 
 
@@ -56,8 +57,8 @@ OPTIONS = {
     "--id": Option("ID", "Identifier of the shard: 32 hexadecimal digits, as `locators` prints them", (
         "The digits may be in either case.",), "the digits in either case"),
     "--reset": Option("EXTENT", "Extent to be taken as reset: 1 to one less than the number of extents. May be repeated", (
-        "The manifest is then printed as it will be once this extent is reset: as if its write pointer were 0.",),
-        "may be [repeated](#the-manifest)", True),
+        "`manifest` and `compare` then take the disk as it will be once this extent is reset: as if its write pointer were 0.",),
+        "may be repeated: of [`manifest`](#the-manifest) and of [`compare`](#two-images)", True),
     "--accept": Option("LINE", "Line of a doubt to accept, without the word `doubt`. May be repeated", (
         "*LINE* is what follows `doubt` on a line of the kind `superblock-damaged`, `superblock-stray`, `spare`, `remains`, `tail` or "
         "`tail-lost`, to the byte.",
@@ -80,6 +81,9 @@ OPTIONS = {
         "It has no header.",
         "It is a regular file or a block device; nothing else is opened.",
         "A page that isn't whole in it is unreadable, and so is one that can't be read.")),
+    "BEFORE": Option("", "Raw image of the disk before, with its doubts settled", ("It is read like *IMAGE*.",)),
+    "AFTER": Option("", "Raw image of the same disk after; it may be the same file", (
+        "It is read like *IMAGE*, with the same map and the same pages.",)),
     "EXTENT:PAGE": Option("", "More pages to treat as unreadable: 1:3 is page 3 of extent 1", (
         "They are unreadable in this call alone.",
         "Both numbers count from 0."), "", True),
@@ -106,6 +110,8 @@ COMMANDS = {
     "reclaimable": Command("Lists the extents that may be reclaimed, and what has to be moved first, or why none may be",
         "no line begins with `doubt`; there may be nothing to reclaim, and the disk may have other faults",
         "a line begins with `doubt`", True, ("--workers", "--accept", "--last")),
+    "compare": Command("Compares two images of a disk: whether what was written in between lost anything, and extents may be reset",
+        "the last line is `safe`", "it is `unsafe`; " + WHOLE.format("text"), True, ("--workers", "--reset"), images=("BEFORE", "AFTER")),
     "superblocks": Command("Lists the superblock records of extent 0, and its pages that may have held one",
         "every line is a `record`, and one of them `counts`", "anything else, including no line at all"),
     "sizes": Command("Lists the superblock records of an image of unknown sizes, each with its own sizes",
@@ -114,7 +120,7 @@ COMMANDS = {
         "every item is a `chunk`, `sealed` or not, or padding", "an item is `torn`, `noise` or `lost`",
         own=("--extent", "--pointer"), required=("--extent",)),
     "demo": Command("Prints the report of a small built-in disk with one shard", "the report is printed", sizes=None, takes_map=False,
-        takes_image=False, takes_pages=False),
+        images=(), takes_pages=False),
 }
 # The statuses of the program as its help has them, and what the man page adds.
 STATUSES = {
@@ -140,7 +146,7 @@ def required_of(command):
 
 
 def arguments_of(command):
-    return (*("IMAGE",) * command.takes_image, *("EXTENT:PAGE",) * command.takes_pages)
+    return (*command.images, *("EXTENT:PAGE",) * command.takes_pages)
 
 
 def plain(text):
@@ -206,7 +212,7 @@ def synopsis():
             lines.append(".RB [ \\-\\-page\n.I BYTES\n.B \\-\\-pages\n.I COUNT\n.B \\-\\-extents\n.IR COUNT ]")
             options = options[3:]
         lines += [option_line(one, one in required_of(command)) for one in options]
-        lines += [".I IMAGE"] * command.takes_image + [".RI [ EXTENT : PAGE ]..."] * command.takes_pages + [".YS"]
+        lines += [f".I {' '.join(command.images)}"] * (command.images != ()) + [".RI [ EXTENT : PAGE ]..."] * command.takes_pages + [".YS"]
     return "\n".join(lines + ['.SY "shardscrub help"', ".RI [ command ]", ".YS", ".SY shardscrub", ".B \\-\\-version", ".YS", ""])
 
 

@@ -3,7 +3,7 @@ import os
 import re
 import subprocess
 
-from lib import reference
+from lib import compared, reference
 from lib.disks import geometry, record, run
 from lib.reference import Image, choose, frame_at, read_run, refusal, status_of, tile, write_locator
 
@@ -60,6 +60,22 @@ class Engine:
         words = [word for text in accepted for word in ("--accept", text)] + [word for e in resets for word in ("--reset", str(e))]
         words += ["--last", str(last)] if last is not None else []
         done = self.run(drive, [command, *words])
+        if done.returncode not in (0, 1) or done.stderr:
+            raise RuntimeError(f"{done.args}: status {done.returncode}, {done.stderr.decode()}")
+        return done.stdout.decode(), done.returncode == 0
+
+    def compare(self, before, after, resets=()):
+        """The text that `compare` prints of two drives, and whether its status is 0."""
+        self.calls += 1
+        if self.program is None:
+            return compared.compare(before.image(), after.image(), resets)
+        names = [os.path.join(os.path.dirname(self.name), name) for name in ("before", "after")]
+        for name, drive in zip(names, (before, after)):
+            with open(name, "wb") as file:
+                file.write(drive.raw)
+        pairs = [f"{e}:{g}" for e, g in sorted(after.unreadable)]
+        words = ["compare", *geometry(before.page, before.pages, before.extents), *(f"--reset={e}" for e in resets), *names, *pairs]
+        done = subprocess.run([self.program, *words], stdin=subprocess.DEVNULL, capture_output=True)
         if done.returncode not in (0, 1) or done.stderr:
             raise RuntimeError(f"{done.args}: status {done.returncode}, {done.stderr.decode()}")
         return done.stdout.decode(), done.returncode == 0
@@ -218,14 +234,10 @@ def held(drive):
     return found
 
 
-def is_held(before, after, given_up=()):
-    """Whether a disk holds what it held. A spare may be new, or used by an entry, or gone where it was given up."""
-    def is_good(place, old, new):
-        if old == "spare" and new == "none":
-            return place in given_up
+def is_held(before, after):
+    """Whether a disk holds what it held. A spare may be new, or used by an entry."""
+    def is_good(old, new):
         return old == new or old == "none" and new == "spare" or old == "spare" and isinstance(new, bytes)
 
     return before.keys() == after.keys() and all(
-        len(parts) == len(after[identifier]) and all(is_good((identifier, k), old, new)
-                                                     for k, (old, new) in enumerate(zip(parts, after[identifier])))
-        for identifier, parts in before.items())
+        len(parts) == len(after[identifier]) and all(map(is_good, parts, after[identifier])) for identifier, parts in before.items())

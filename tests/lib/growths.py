@@ -77,13 +77,14 @@ IN_RUNS = {
     "unsound_extents": "reclaimable",
     "sorted": "reclaimable",
     "list_reclaimable": "reclaimable",
+    "compare": "compare",
     "read_shard": "shard",
 }
 # The crates whose public functions are in this account.
 LIBRARIES = ["sha_lanes"] + [
     f"scrub_{name}"
     for name in ("disk", "map", "frame", "super", "scan", "run", "merge", "check", "book", "pool", "report", "listings",
-                 "reclaim", "shard")
+                 "reclaim", "compare", "shard")
 ]
 # A public function: its indentation, its name, and its signature up to the clauses or the body.
 FUNCTION = re.compile(r"^( *)pub fn (\w+)(.*?)(?=\n *(?:requires|ensures|\{)| \{)", re.MULTILINE | re.DOTALL)

@@ -1,7 +1,7 @@
-"""The mistakes that lib/walk.py makes, one at a time, with the boxes that may stop each. A `!` means that bytes are lost by then, and
-`none` that no box stops it."""
+"""The mistakes in what is written: the copies, the run and the superblocks. lib/walk.py makes them, one at a time; lib/mishaps.py has the
+others, and what may come of each."""
 from lib.disks import frame, record, sealed_frame
-from lib.drive import Drive, Full, bindings_of, chunks_of, named_locators, place_of
+from lib.drive import bindings_of, chunks_of, named_locators, place_of
 from lib.reference import SEALED, choose, tile
 
 
@@ -9,17 +9,17 @@ class Mistake:
     """What a person does wrong, and at which point of a walk. `make` gets the walk and the right value, and returns the wrong one,
     or None where there is no such mistake here. `often` ones are made each time."""
 
-    def __init__(self, name, point, make, boxes, often=False, drive=None, without=()):
-        self.name, self.point, self.make, self.boxes = name, point, make, boxes
+    def __init__(self, name, point, make, often=False, drive=None, without=()):
+        self.name, self.point, self.make = name, point, make
         self.often, self.drive, self.without = often, drive, without
 
 
 MISTAKES = []
 
 
-def mistake(name, point, boxes="", **more):
+def mistake(name, point, **more):
     def add(make):
-        MISTAKES.append(Mistake(name, point, make, boxes, **more))
+        MISTAKES.append(Mistake(name, point, make, **more))
         return make
     return add
 
@@ -57,50 +57,50 @@ def parsed(text):
 
 # Copies
 
-@mistake("a copy is forgotten", "copy", "4")
+@mistake("a copy is forgotten", "copy")
 def _(walk, text):
     return b""
 
 
-@mistake("a copy is written some bytes too late", "place", "4 4!")
+@mistake("a copy is written some bytes too late", "place")
 def _(walk, target):
     return target[0], target[1] + walk.choice.choice([1, 2, 7, walk.drive.page])
 
 
-@mistake("a copy is written some bytes too early", "place", "4 4! 5 5!")
+@mistake("a copy is written some bytes too early", "place")
 def _(walk, target):
     count = walk.choice.choice([1, 2, 7])
     return (target[0], target[1] - count) if target[1] >= count else None
 
 
-@mistake("a copy is cut at its end", "copy", "4")
+@mistake("a copy is cut at its end", "copy")
 def _(walk, text):
     return text[:-walk.choice.choice([1, 2, 16, 18])]
 
 
-@mistake("a copy lacks its first bytes", "copy", "4")
+@mistake("a copy lacks its first bytes", "copy")
 def _(walk, text):
     return text[walk.choice.choice([1, 2, 22]):]
 
 
-@mistake("a bit changes while it is copied", "copy", "4")
+@mistake("a bit changes while it is copied", "copy")
 def _(walk, text):
     return flipped(walk, text)
 
 
-@mistake("another chunk is copied", "source", "7")
+@mistake("another chunk is copied", "source")
 def _(walk, place):
     part = walk.parts[walk.current]
     some = [start for start, stop, _, _ in chunks_of(walk.drive, place[0], walk.fields["pointers"][place[0] - 1]) if start != place[1]]
     return (place[0], walk.choice.choice(some)) if some and part.count else None
 
 
-@mistake("the bytes are taken some bytes off", "source", "7")
+@mistake("the bytes are taken some bytes off", "source")
 def _(walk, place):
     return place[0], place[1] + walk.choice.choice([1, -1, 22]) if place[1] else 1
 
 
-@mistake("the bytes are taken from another extent", "source", "4 7")
+@mistake("the bytes are taken from another extent", "source")
 def _(walk, place):
     return walk.choice.choice([e for e in range(1, walk.drive.extents) if e != place[0]]), place[1]
 
@@ -118,27 +118,27 @@ def is_of_shard(walk):
     return any(place_of(c) == place for _, locators in walk.entries for c in locators)
 
 
-@mistake("a shard's chunk is framed anew in the other form", "copy", "4")
+@mistake("a shard's chunk is framed anew in the other form", "copy")
 def _(walk, text):
     return None if not is_of_shard(walk) else reframed(walk, text, False)
 
 
-@mistake("a run's chunk is framed anew in the other form", "copy", "4")
+@mistake("a run's chunk is framed anew in the other form", "copy")
 def _(walk, text):
     return reframed(walk, text, False) if is_run(walk) else None
 
 
-@mistake("a chunk is framed anew under another UUID", "copy", "4")
+@mistake("a chunk is framed anew under another UUID", "copy")
 def _(walk, text):
     return reframed(walk, text, True, walk.choice.randbytes(16)) if is_of_shard(walk) or is_run(walk) else None
 
 
-@mistake("only the payload is copied", "copy", "4")
+@mistake("only the payload is copied", "copy")
 def _(walk, text):
     return parsed(text)[2] or None
 
 
-@mistake("a copy goes into a wrong extent by a slip", "place", "4 4!")
+@mistake("a copy goes into a wrong extent by a slip", "place")
 def _(walk, target):
     return walk.choice.choice([e for e in range(1, walk.drive.extents) if e != target[0]]), target[1]
 
@@ -157,25 +157,25 @@ def without_room(walk):
     return [e for e in range(1, walk.drive.extents) if e not in roomy]
 
 
-@mistake("a copy goes into an extent without room, behind what is written there, and its entry names it", "target", "4 7 none")
+@mistake("a copy goes into an extent without room, behind what is written there, and its entry names it", "target")
 def _(walk, target):
     count = walk.parts[walk.current].count
     some = [place for e in without_room(walk) if (place := next_place(walk, e, count))]
     return walk.choice.choice(some) if some else None
 
 
-@mistake("a copy goes into the extent that is reset", "target", "4 7")
+@mistake("a copy goes into the extent that is reset", "target")
 def _(walk, target):
     return next_place(walk, walk.parts[walk.current].place[0], walk.parts[walk.current].count)
 
 
-@mistake("a copy goes into another extent that is reset with it", "target", "4 7")
+@mistake("a copy goes into another extent that is reset with it", "target")
 def _(walk, target):
     some = [e for e in walk.chosen if e != walk.parts[walk.current].place[0]]
     return next_place(walk, some[0], walk.parts[walk.current].count) if some else None
 
 
-@mistake("a copy goes into a retired extent", "target", "4 7")
+@mistake("a copy goes into a retired extent", "target")
 def _(walk, target):
     return next_place(walk, walk.choice.choice(walk.fields["retired"]), walk.parts[walk.current].count) if walk.fields["retired"] else None
 
@@ -186,44 +186,44 @@ def in_use(walk, extents):
     return sorted((e, o) for e, o in places if e in extents and o + walk.parts[walk.current].count <= walk.drive.size)
 
 
-@mistake("a copy goes over a chunk in use", "target", "4")
+@mistake("a copy goes over a chunk in use", "target")
 def _(walk, target):
     some = in_use(walk, {e for e in range(1, walk.drive.extents) if e not in walk.chosen})
     return walk.choice.choice(some) if some else None
 
 
-@mistake("a copy goes over another copy", "target", "4 7")
+@mistake("a copy goes over another copy", "target")
 def _(walk, target):
     return walk.parts[walk.current - 1].target if walk.current else None
 
 
-@mistake("a copy goes to the pointer, not to OFFSET", "target", "7")
+@mistake("a copy goes to the pointer, not to OFFSET", "target")
 def _(walk, target):
     pointer = walk.fields["pointers"][target[0] - 1]
     return (target[0], pointer) if walk.rooms.get(target[0], (pointer,))[0] == target[1] != pointer else None
 
 
-@mistake("a copy begins some zeros behind OFFSET or behind the last copy", "target", "7")
+@mistake("a copy begins some zeros behind OFFSET or behind the last copy", "target")
 def _(walk, target):
     gap = walk.choice.choice([1, 5, 20])
     part, at = walk.parts[walk.current], target[1] + gap
     return (target[0], at) if is_last_in_its_extent(walk) and at % walk.drive.page and at + part.count <= walk.drive.size else None
 
 
-@mistake("a copy begins at a page behind OFFSET", "target", "none")
+@mistake("a copy begins at a page behind OFFSET", "target")
 def _(walk, target):
     at = target[1] + walk.drive.page - target[1] % walk.drive.page
     part = walk.parts[walk.current]
     return (target[0], at) if is_last_in_its_extent(walk) and at + part.count <= walk.drive.size else None
 
 
-@mistake("a copy goes past the end of its extent", "target", "4 7")
+@mistake("a copy goes past the end of its extent", "target")
 def _(walk, target):
     part = walk.parts[walk.current]
     return (target[0], walk.drive.size - part.count // 2) if target[0] + 1 < walk.drive.extents else None
 
 
-@mistake("a copy goes over what is left of a broken shard behind a pointer, in an extent without room", "target", "4 7 none", drive="in tail")
+@mistake("a copy goes over what is left of a broken shard behind a pointer, in an extent without room", "target", drive="in tail")
 def _(walk, target):
     part = walk.parts[walk.current]
     for owner, c, status in named_locators(walk.drive):
@@ -240,51 +240,51 @@ def wrong(change):
     return lambda walk, entries: first_change(walk, entries, lambda c: change(walk, c))
 
 
-mistake("an entry has a wrong extent", "entries", "7")(
+mistake("an entry has a wrong extent", "entries")(
     wrong(lambda walk, c: {**c, "extent": walk.choice.choice([e for e in range(walk.drive.extents + 1) if e != c["extent"]])}))
-mistake("an entry has a wrong offset", "entries", "7")(
+mistake("an entry has a wrong offset", "entries")(
     wrong(lambda walk, c: {**c, "offset": max(0, c["offset"] + walk.choice.choice([-1, 1, 22, walk.drive.page]))} if c["offset"] else None))
-mistake("an entry has a wrong length", "entries", "7")(
+mistake("an entry has a wrong length", "entries")(
     wrong(lambda walk, c: {**c, "length": c["length"] + walk.choice.choice([1, 38])}))
-mistake("an entry has a wrong digest", "entries", "7")(
+mistake("an entry has a wrong digest", "entries")(
     wrong(lambda walk, c: {**c, "digest": flipped(walk, c["digest"])}))
-mistake("an entry has a wrong UUID", "entries", "7")(
+mistake("an entry has a wrong UUID", "entries")(
     wrong(lambda walk, c: {**c, "uuid": flipped(walk, c["uuid"])}))
-mistake("an entry has the old place", "entries", "7")(
+mistake("an entry has the old place", "entries")(
     wrong(lambda walk, c: {**c, **dict(zip(("extent", "offset"), next(old for old, new in walk.places.items() if new == place_of(c))))}))
 
 
-@mistake("an entry has the place of another copy", "entries", "7")
+@mistake("an entry has the place of another copy", "entries")
 def _(walk, entries):
     return first_change(walk, entries, lambda c: next(({**c, "extent": x, "offset": o} for x, o in walk.places.values()
                                                        if (x, o) != place_of(c)), None))
 
 
-@mistake("an entry is written under an identifier that no shard has", "entries", "7")
+@mistake("an entry is written under an identifier that no shard has", "entries")
 def _(walk, entries):
     return sorted([(walk.choice.randbytes(16), entries[0][1]), *entries[1:]])
 
 
-@mistake("an entry is written under another shard's identifier", "entries", "7")
+@mistake("an entry is written under another shard's identifier", "entries")
 def _(walk, entries):
     some = [i for i, all_of in bindings_of(walk.drive).items() if all_of[0] and i not in dict(entries)]
     return sorted([(walk.choice.choice(some), entries[0][1]), *entries[1:]]) if some else None
 
 
-@mistake("the entries of two shards are exchanged", "entries", "7")
+@mistake("the entries of two shards are exchanged", "entries")
 def _(walk, entries):
     if len(entries) < 2 or [c["digest"] for c in entries[0][1]] == [c["digest"] for c in entries[1][1]]:
         return None
     return [(entries[0][0], entries[1][1]), (entries[1][0], entries[0][1]), *entries[2:]]
 
 
-@mistake("the locators of an entry are in another order", "entries", "7")
+@mistake("the locators of an entry are in another order", "entries")
 def _(walk, entries):
     some = [n for n, (_, cs) in enumerate(entries) if cs[0]["digest"] != cs[-1]["digest"]]
     return [(i, cs[::-1] if n == some[0] else cs) for n, (i, cs) in enumerate(entries)] if some else None
 
 
-@mistake("an entry is made from an older run", "entries", "7")
+@mistake("an entry is made from an older run", "entries")
 def _(walk, entries):
     bindings = bindings_of(walk.drive)
     for n, (i, cs) in enumerate(entries):
@@ -294,7 +294,7 @@ def _(walk, entries):
     return None
 
 
-@mistake("an entry of a shard without a move is added, from an older run", "entries", "5 7")
+@mistake("an entry of a shard without a move is added, from an older run", "entries")
 def _(walk, entries):
     for i, (newest, *older) in bindings_of(walk.drive).items():
         for other in older:
@@ -303,7 +303,7 @@ def _(walk, entries):
     return None
 
 
-@mistake("an entry of a deleted shard is added, from an older run", "entries", "5 7")
+@mistake("an entry of a deleted shard is added, from an older run", "entries")
 def _(walk, entries):
     for i, (newest, *older) in bindings_of(walk.drive).items():
         if not newest and any(older):
@@ -311,48 +311,48 @@ def _(walk, entries):
     return None
 
 
-@mistake("a shard's entry is forgotten", "entries", "7")
+@mistake("a shard's entry is forgotten", "entries")
 def _(walk, entries):
     at = walk.choice.randrange(len(entries))
     return [*entries[:at], *entries[at + 1:]]
 
 
-@mistake("a second owner's entry is forgotten", "entries", "7")
+@mistake("a second owner's entry is forgotten", "entries")
 def _(walk, entries):
     places = [place_of(c) for _, cs in entries for c in cs]
     some = [n for n, (_, cs) in enumerate(entries) if all(places.count(place_of(c)) > 1 for c in cs if place_of(c) in walk.places.values())]
     return [*entries[:some[0]], *entries[some[0] + 1:]] if some and len(entries) > 1 else None
 
 
-@mistake("an entry has only the locators that moved", "entries", "7")
+@mistake("an entry has only the locators that moved", "entries")
 def _(walk, entries):
     less = [(i, [c for c in cs if place_of(c) in walk.places.values()]) for i, cs in entries]
     return less if less != entries else None
 
 
-@mistake("an entry has no locators", "entries", "7")
+@mistake("an entry has no locators", "entries")
 def _(walk, entries):
     return [(entries[0][0], []), *entries[1:]]
 
 
 # The run
 
-@mistake("a run has a wrong digest", "run", "7")
+@mistake("a run has a wrong digest", "run")
 def _(walk, payload):
     return payload[:-1] + bytes([payload[-1] ^ 1])
 
 
-@mistake("the entries of a run don't rise", "entries", "7")
+@mistake("the entries of a run don't rise", "entries")
 def _(walk, entries):
     return entries[::-1] if len(entries) > 1 else None
 
 
-@mistake("the run isn't written", "frame of the run", "5")
+@mistake("the run isn't written", "frame of the run")
 def _(walk, text):
     return b""
 
 
-@mistake("the run is written over a copy", "target of the run", "5 7")
+@mistake("the run is written over a copy", "target of the run")
 def _(walk, target):
     return walk.parts[0].target
 
@@ -398,181 +398,68 @@ def holds_named(walk, e):
     return is_other(walk, e) and any(c["extent"] == e and status == "sound" for _, c, status in named_locators(walk.drive))
 
 
-for number, copies in (("6", "7"), ("8", "8")):
+for number in (6, 8):
     point = f"superblock of box {number}"
-    mistake(f"box {number}: the new run is forgotten", point, copies)(
+    mistake(f"box {number}: the new run is forgotten", point)(
         field("runs", lambda walk, runs: runs[1:] if walk.entries and runs else None))
-    mistake(f"box {number}: the new run is put last", point, copies + " none")(
+    mistake(f"box {number}: the new run is put last", point)(
         field("runs", lambda walk, runs: [*runs[1:], runs[0]] if walk.entries and len(runs) > 1 else None))
-    mistake(f"box {number}: two older runs are exchanged", point, copies + " none")(
+    mistake(f"box {number}: two older runs are exchanged", point)(
         field("runs", lambda walk, runs: [*runs[:-2], runs[-1], runs[-2]] if len(runs) > 1 + bool(walk.entries) else None))
-    mistake(f"box {number}: an older run is forgotten", point, copies + " none")(
+    mistake(f"box {number}: an older run is forgotten", point)(
         field("runs", lambda walk, runs: runs[:-1] if len(runs) > bool(walk.entries) else None))
-    mistake(f"box {number}: a run that moved has its old place", point, copies)(
+    mistake(f"box {number}: a run that moved has its old place", point)(
         field("runs", lambda walk, runs: [moved_back(walk, c) for c in runs]))
-    mistake(f"box {number}: the generation isn't raised", point, copies)(
+    mistake(f"box {number}: the generation isn't raised", point)(
         field("generation", lambda walk, g: g - 1))
-    mistake(f"box {number}: the generation is lower", point, copies)(
+    mistake(f"box {number}: the generation is lower", point)(
         field("generation", lambda walk, g: g - 2 if g > 1 else None))
-    mistake(f"box {number}: the generation is greater by more than 1", point, copies)(
+    mistake(f"box {number}: the generation is greater by more than 1", point)(
         field("generation", lambda walk, g: g + walk.choice.choice([1, 9, 2 ** 32])))
-    mistake(f"box {number}: the pointer of an extent with copies is as before", point, copies)(
-        pointer(is_written, lambda walk, w, old: old if number == "6" else walk.choice.choice([w - 1, w - 40])))
-    mistake(f"box {number}: the pointer of an extent with copies is too small", point, copies)(
+    mistake(f"box {number}: the pointer of an extent with copies is as before", point)(
+        pointer(is_written, lambda walk, w, old: old if number == 6 else walk.choice.choice([w - 1, w - 40])))
+    mistake(f"box {number}: the pointer of an extent with copies is too small", point)(
         pointer(is_written, lambda walk, w, old: w - walk.choice.choice([1, 17])))
-    mistake(f"box {number}: the pointer of an extent with copies is too great", point, copies + " none")(
+    mistake(f"box {number}: the pointer of an extent with copies is too great", point)(
         pointer(is_written, lambda walk, w, old: w + walk.choice.choice([1, 64, 200])))
-    mistake(f"box {number}: the pointer of an extent with named chunks is too small", point, copies + " none")(
+    mistake(f"box {number}: the pointer of an extent with named chunks is too small", point)(
         pointer(holds_named, lambda walk, w, old: max(0, w - walk.choice.choice([1, 64, 1000])) if w else None))
-    mistake(f"box {number}: another pointer is 0", point, copies + " none")(
+    mistake(f"box {number}: another pointer is 0", point)(
         pointer(is_other, lambda walk, w, old: 0))
-    mistake(f"box {number}: another pointer is too great", point, copies + " none")(
+    mistake(f"box {number}: another pointer is too great", point)(
         pointer(is_other, lambda walk, w, old: w + walk.choice.choice([1, 64, 200])))
-    mistake(f"box {number}: the retired extents are forgotten", point, copies)(
+    mistake(f"box {number}: the retired extents are forgotten", point)(
         field("retired", lambda walk, retired: [] if retired else None))
-    mistake(f"box {number}: one more extent is retired", point, copies)(
+    mistake(f"box {number}: one more extent is retired", point)(
         field("retired", lambda walk, retired: sorted({*retired, walk.choice.randrange(1, walk.drive.extents)})))
-    mistake(f"box {number}: the superblock has a wrong digest", f"record of box {number}", copies)(
+    mistake(f"box {number}: the superblock has a wrong digest", f"record of box {number}")(
         lambda walk, text: flipped(walk, text))
-    mistake(f"box {number}: the superblock has the sizes of another disk", f"record of box {number}", copies)(
+    mistake(f"box {number}: the superblock has the sizes of another disk", f"record of box {number}")(
         lambda walk, text: record(walk.drive.page, walk.drive.pages + 1, walk.drive.extents, [0] * (walk.drive.extents - 1), [], 99))
-    mistake(f"box {number}: the superblock is written over the one that counts", f"page of box {number}", copies + " none")(
+    mistake(f"box {number}: the superblock is written over the one that counts", f"page of box {number}")(
         lambda walk, at: choose(walk.drive.image())["page"] * walk.drive.page)
-    mistake(f"box {number}: the superblock doesn't begin at a page", f"page of box {number}", copies)(
+    mistake(f"box {number}: the superblock doesn't begin at a page", f"page of box {number}")(
         lambda walk, at: at + 8)
-    mistake(f"box {number}: the superblock is written into another extent", f"page of box {number}", f"{copies} {copies}!")(
+    mistake(f"box {number}: the superblock is written into another extent", f"page of box {number}")(
         lambda walk, at: walk.drive.size * walk.choice.randrange(1, walk.drive.extents) + at)
-    mistake(f"box {number}: what is left of an overwritten superblock isn't zeroed", f"zeros of box {number}", copies + " none")(
+    mistake(f"box {number}: what is left of an overwritten superblock isn't zeroed", f"zeros of box {number}")(
         lambda walk, value: False)
 
-mistake("box 6: the pointer of the extent to reset is 0 already", "superblock of box 6", "7")(
+mistake("box 6: the pointer of the extent to reset is 0 already", "superblock of box 6")(
     lambda walk, fields: {**fields, "pointers": [0 if e in walk.chosen else w for e, w in enumerate(fields["pointers"], 1)]})
-mistake("box 8: no extent is reset", "extents of box 8", "8", often=True)(lambda walk, extents: [])
-mistake("box 8: another extent is reset", "extents of box 8", "8", often=True)(
+mistake("box 8: no extent is reset", "extents of box 8", often=True)(lambda walk, extents: [])
+mistake("box 8: another extent is reset", "extents of box 8", often=True)(
     lambda walk, extents: [e for e in range(1, walk.drive.extents) if e not in extents and e not in walk.fields["retired"]][:1] or None)
-mistake("box 8: one more extent is reset", "extents of box 8", "8 none", often=True)(
+mistake("box 8: one more extent is reset", "extents of box 8", often=True)(
     lambda walk, extents: [*extents, *[e for e in range(1, walk.drive.extents) if e not in extents and e not in walk.fields["retired"]][:1]])
-mistake("box 8: the superblock of box 2 is written, with the pointer 0", "superblock of box 8", "8")(
+mistake("box 8: the superblock of the first image is written, with the pointer 0", "superblock of box 8")(
     lambda walk, fields: {**walk.first_fields, "generation": fields["generation"],
                           "pointers": [0 if e in walk.chosen else w for e, w in enumerate(walk.first_fields["pointers"], 1)]} if walk.parts else None)
 
+# Boxes left out
 
-# Boxes left out, other images, and other arguments
-
-def left_out(name, without, boxes):
-    MISTAKES.append(Mistake(name, "never", None, boxes, without=without))
-
-
-mistake("box 4 is left out", "copies", "7")(lambda walk, parts: [] if parts else None)
-mistake("box 5 is left out", "box 5", "7")(lambda walk, entries: [] if entries else None)
-mistake("box 6 is left out", "box 6", "7")(lambda walk, value: False)
-left_out("box 7 is left out", (7,), "none")
-left_out("the checks of box 8 are left out", (8,), "none")
-
-
-def older_image(walk, drive):
-    """The image before the last superblock."""
-    return drive.copy(drive.older[-1]) if drive.older and choose(drive.copy(drive.older[-1]).image())["page"] is not None else None
-
-
-def first_image(walk, drive):
-    return drive.copy(walk.first.raw)
-
-
-def other_sizes(walk, drive):
-    if drive.pages % 2 == 0:
-        return Drive(drive.page, drive.pages // 2, drive.extents * 2, drive.raw)
-    return None
-
-
-def without_pairs(walk, drive):
-    """The image without its unreadable pages, which read as zeros."""
-    if not drive.unreadable:
-        return None
-    other = drive.copy()
-    for e, g in drive.unreadable:
-        other.write(e, g * drive.page, bytes(drive.page))
-    other.unreadable = frozenset()
-    return other
-
-
-for number in range(1, 4):
-    mistake(f"box {number} is done on an image from before the last superblock", f"image of box {number}",
-            {1: "1", 2: "2 4 5 7 none", 3: "7 none"}[number], often=True)(older_image)
-for number in (2, 3, 7, 8):
-    mistake(f"box {number} is done with other sizes", f"image of box {number}", str(number), often=True)(other_sizes)
-    mistake(f"box {number} is done without the unreadable pages", f"image of box {number}",
-            {2: "2 7 none", 3: "7 none", 7: "7 8 none", 8: "8 none"}[number], often=True)(without_pairs)
-mistake("box 7 is done on the image of box 1", "image of box 7", "7", often=True)(
-    lambda walk, drive: first_image(walk, drive) if walk.parts else None)
-mistake("box 8 is done on the image of box 7", "image of box 8", "8", often=True)(
-    lambda walk, drive: drive.copy(walk.raw_of_7))
-mistake("the manifest of box 3 is made after box 6", "after box 6", "none")(lambda walk, value: walk.box_3() or ())
-mistake("box 7: the manifest is made without --reset", "resets", "none")(lambda walk, extents: ())
-mistake("box 7: the manifest is made with --reset of another extent", "resets", "7 none")(
-    lambda walk, extents: [e for e in range(1, walk.drive.extents) if e not in extents][:1] or None)
-mistake("box 7: the manifest is made with --reset of one of several", "resets", "none")(
-    lambda walk, extents: extents[:1] if len(extents) > 1 else None)
-
-
-def erase(walk, value):
-    for e in walk.chosen:
-        walk.drive.write(e, 0, bytes(walk.drive.size))
-    return ()
-
-
-mistake("the extent is erased between box 3 and box 4", "before box 4", "7 7! 8")(erase)
-mistake("the extent is erased between box 7 and box 8", "before box 8", "8")(erase)
-
-
-@mistake("a copy rots between box 7 and box 8", "before box 8", "8")
-def rot(walk, value):
-    if not walk.parts:
-        return None
-    part = walk.choice.choice(walk.parts)
-    extent, offset = part.target
-    walk.drive.write(extent, offset, flipped(walk, walk.drive.read(*part.target, part.count)))
-    return ()
-
-
-mistake("box 8 writes into another extent, too", "after writing of box 8", "8 8!")(
+mistake("box 4 is left out", "copies")(lambda walk, parts: [] if parts else None)
+mistake("box 5 is left out", "box 5")(lambda walk, entries: [] if entries else None)
+mistake("box 6 is left out", "box 6")(lambda walk, value: False)
+mistake("box 8 writes into another extent, too", "after writing of box 8")(
     lambda walk, value: walk.drive.write(walk.choice.randrange(1, walk.drive.extents), walk.choice.randrange(walk.drive.size - 4), b"oops") or ())
-
-
-# Doubts
-
-mistake("the node wrote something after its last superblock, and the log isn't searched for it", "written after", "2 none none!",
-        drive="later")(lambda walk, value: False)
-mistake("the newest superblock is damaged, and G isn't taken from the log but from the disk", "last", "2 none none!", drive="damaged")(
-    lambda walk, last: choose(walk.drive.image())["generation"])
-mistake("the newest superblock is damaged", "never", "1", drive="damaged", without=("nothing",))(None)
-mistake("G is too small by 1", "last", "1")(lambda walk, last: last - 1 if last > 0 else None)
-mistake("G is too great", "last", "1")(lambda walk, last: last + walk.choice.choice([1, 9, 2 ** 32]))
-mistake("a spare is accepted, and its chunk isn't copied", "spare", "7 none", drive="spare", often=True)(
-    lambda walk, way: "nothing")
-
-
-# A node that writes meanwhile
-
-def node_writes(rounds):
-    def make(walk, value):
-        node = walk.running
-        try:
-            if rounds:
-                node.step()
-                node.flush()
-                node.superblock()
-            else:
-                node.append(walk.choice.randbytes(30))
-        except Full:
-            return None
-        walk.node = node
-        return ()
-    return make
-
-
-for number, boxes, more in (("1", "4 5 7 8 none none!", "4 8"), ("3", "4 5 7 8 none none!", "4 8"), ("4", "5 7 none none!", "5 6 6! 7"),
-                            ("5", "7 none none!", "6 7"), ("6", "7 none!", "7"), ("7", "8", "8"), ("8a", "8", "8 none!")):
-    where = f"after box {number}"
-    mistake(f"the node appends a chunk {where}", where, boxes)(node_writes(0))
-    mistake(f"the node writes a run and a superblock {where}", where, more)(node_writes(1))

@@ -1,6 +1,6 @@
 """Walks the checklist of docs/RECLAIMING.md on a made-up disk. The code plays the node and the person: it copies chunks, writes runs
-and superblocks, and does what each box says with what the commands print. A mistake may be made on the way; then a box should
-stop the walk.
+and superblocks, and does what each box says with what the commands print. A mistake may be made on the way, or something may happen to the
+disk; then a box should stop the walk.
 """
 import collections
 import functools
@@ -13,6 +13,9 @@ from lib.drive import (Engine, Full, acceptable, all_accepted, bindings_of, doub
 from lib.node import DRIVES, WRITTEN_AFTER, Node, worn
 from lib.reference import SEALED, choose, frame_at, write_locator
 
+FIELDS = ("generation", "pointers", "retired", "runs")
+GREATEST = 2 ** 64 - 1
+
 
 class Stop(Exception):
     """A box stops the walk: its number, and why."""
@@ -23,7 +26,7 @@ class Stop(Exception):
 
 
 class Again(Exception):
-    """Something was written, and the walk begins anew."""
+    """The node wrote something, and the walk begins anew."""
 
 
 class Part:
@@ -33,20 +36,9 @@ class Part:
         self.place, self.count, self.target = place, count, None
 
 
-def with_spare_given_up(text, given_up):
-    """The manifest without the last words of the locators whose spare was given up."""
-    lines = []
-    for line in text.splitlines():
-        words = line.split()
-        if words[0] == "shard" and (bytes.fromhex(words[1]), int(words[2])) in given_up:
-            line = " ".join(words[:-1])
-        lines.append(line)
-    return lines
-
-
 class Walk:
     """One walk through the boxes. `slip` is where a mistake changes what is done. By the node's log `known` is the generation of the last
-    superblock, and `written_after` says whether something was written after it."""
+    superblock, and `written_after` says whether something was written after it. `without` has the boxes and looks that are left out."""
 
     def __init__(self, engine, drive, known, choice, mistake=None, without=(), written_after=False):
         self.engine, self.drive, self.known, self.choice = engine, drive, known, choice
@@ -55,7 +47,7 @@ class Walk:
         self.slipped = mistake is not None and bool(mistake.without)
         self.node = None
         self.generation, self.written = None, None
-        self.given_up, self.owed, self.ends, self.places = set(), [], {}, {}
+        self.owed, self.ends, self.places, self.anew = [], {}, {}, set()
 
     def slip(self, point, value):
         """The value, or what a mistake at this point makes of it."""
@@ -66,14 +58,6 @@ class Walk:
                 return other
         return value
 
-    def image_of(self, box):
-        """The image on which a box is done: 1.img up to box 3, and also in box 7 if nothing was copied; else a new one."""
-        is_first = box <= 3 or box == 7 and not self.parts
-        return self.slip(f"image of box {box}", self.first if is_first else self.drive)
-
-    def ask(self, box, command, accepted=(), resets=(), last=None):
-        return self.engine.ask(self.image_of(box), command, accepted, resets, last)
-
     def check(self, box, condition, why, look=None):
         """Stops if the condition doesn't hold, unless the box or this look of it is left out."""
         if not condition and box not in self.without and look not in self.without:
@@ -81,22 +65,16 @@ class Walk:
 
     def go(self):
         """Resets some extents. Returns whether there was anything to do."""
-        self.first = self.drive.copy()
         self.running = Node(self.drive, self.choice)
         if choose(self.drive.image())["page"] is not None:
             self.running.resume()
         self.first_shards = dict(self.running.shards)
+        self.first = self.seventh = self.slip("first image", self.drive).copy()
         self.box_1()
-        self.slip("after box 1", ())
-        self.box_2()
-        self.slip("after box 2", ())
-        self.box_3()
-        self.slip("after box 3", ())
         if not self.choose():
             return False
-        self.slip("before box 4", ())
-        chosen = choose(self.first.image())
-        self.fields = self.first_fields = {key: chosen[key] for key in FIELDS}
+        self.fields = self.first_fields = {key: choose(self.first.image())[key] for key in FIELDS}
+        self.slip("after box 3", ())
         if self.parts:
             self.box_4()
             self.slip("after box 4", ())
@@ -109,46 +87,56 @@ class Walk:
         self.box_8()
         return True
 
-    def superblocks(self, box, generation):
-        text, _ = self.ask(box, "superblocks")
-        counts = [words for words in lines_with(text, "record") if words[-1] == "counts"]
-        self.check(box, len(counts) == 1, "no superblock counts, or there is a tie")
-        found = int(counts[0][3]) if counts else None
-        self.check(box, generation is None or found == generation, f"generation {found} counts")
-        return found
+    # The listing
+
+    def listed_with(self, accepted):
+        """What `reclaimable --last` prints of the first image with these lines accepted, and whether its status is 0."""
+        return self.engine.ask(self.slip("image of box 1", self.first), "reclaimable", accepted, last=self.generation)
 
     def box_1(self):
+        self.generation = self.slip("last generation", self.known)
         self.check(1, not self.slip("written after", self.written_after), "something was written after the last superblock")
-        self.generation = self.slip("last", self.known)
-        text, _ = self.ask(1, "reclaimable", last=self.generation)
-        self.check(1, not lines_with(text, "doubt last"), f"generation {self.generation} doesn't count")
-        self.superblocks(1, self.generation)
-
-    def box_2(self):
-        text, _ = self.ask(2, "reclaimable", last=self.generation)
-        self.doubts, left = doubts_in(text), open_doubts_in(text)
-        self.check(2, acceptable(left) == left, "a doubt that can't be accepted")
-        self.listing, clear = self.ask(2, "reclaimable", left, last=self.generation)
-        self.image_of_2 = self.image_of(2).copy()
-        self.check(2, clear, "status 1")
-        for words in [d.split() for d in self.doubts if d.startswith("spare ")]:
-            self.settle_spare(words, self.choice.choice(["name", "copy", "give up"]))
+        text, _ = self.listed_with(())
+        left = acceptable(open_doubts_in(text))
+        self.listing, clear = self.listed_with(left)
+        self.check(1, clear, "; ".join(open_doubts_in(self.listing)))
+        self.doubts = doubts_in(self.listing)
+        for words in [line.split() for line in left if line.startswith("spare ")]:
+            self.settle_spare(words, self.choice.choice(["name", "copy", "copy", "delete"]))
+        if any(line.startswith("remains ") for line in left):
+            self.settle_remains(self.choice.choice(["give up", "give up", "write", "delete"]))
 
     def settle_spare(self, words, way):
         _, extent, offset, length, uuid, _, identifier, count = words
         identifier, place = bytes.fromhex(identifier), (int(extent), int(offset))
-        way = self.slip("spare", way)
+        if way == "copy":
+            self.owed += [Part(place, int(count))] if place not in [part.place for part in self.owed] else []
+            return
         if way == "name":
             self.name_spare(identifier, place, bytes.fromhex(uuid.replace("-", "")), int(length))
-            raise Again
-        if way == "copy":
-            self.owed.append(Part(place, int(count)))
-        elif way == "give up":
-            entry = bindings_of(self.first)[identifier][0]
-            payload = frame_at(self.first.image(), *place[:1], self.drive.size, place[1])[3]
-            for k, c in enumerate(entry):
-                if c["length"] == len(payload) and c["digest"] == reference.sha(payload):
-                    self.given_up.add((identifier, k))
+        else:
+            self.write_entries({identifier: lambda node: []})
+        raise Again
+
+    def settle_remains(self, way):
+        """The node writes a newer entry for each shard that has lost a payload, or deletes it. Or the remains are given up."""
+        if way == "give up":
+            return
+        lines = [line.split() for line in self.engine.ask(self.first, "manifest")[0].splitlines()]
+        lost = {bytes.fromhex(words[1]) for words in lines if words[0] == "shard" and words[-1] == "none" and words[3] != "0"}
+        self.write_entries({identifier: lambda node: [node.append(node.payload())] if way == "write" else [] for identifier in lost})
+        raise Again
+
+    def write_entries(self, entries):
+        """The node writes newer entries of these shards, and a superblock. Each entry is a function that writes the chunks."""
+        node = Node(self.drive, self.choice)
+        node.resume()
+        for identifier, chunks in sorted(entries.items()):
+            node.bind(identifier, chunks(node))
+        node.flush()
+        if not node.superblock():
+            raise Full
+        self.known, self.anew = node.generation, set(entries)
 
     def name_spare(self, identifier, place, uuid, length):
         """Writes an entry in which the shard's dangling locators of this payload name the spare."""
@@ -172,10 +160,6 @@ class Walk:
         text = self.drive.record(self.generation + 1, pointers, chosen["retired"], runs)
         put_record(self.drive, text, self.choice.choice(pages) * self.drive.page)
         self.known = self.generation + 1
-
-    def box_3(self):
-        self.kept, _ = self.ask(3, "manifest")
-        self.check(3, self.kept.splitlines()[-1:] and self.kept.splitlines()[-1].startswith("total "), "no total line")
 
     # Which extents, and where their chunks go
 
@@ -211,12 +195,10 @@ class Walk:
         moves = [words for e in some for words in self.listed[e]]
         places = {(int(w[1]), int(w[2])): int(w[7]) for w in moves}
         self.parts = [Part(place, count) for place, count in places.items()]
-        self.parts += [Part(part.place, part.count) for part in self.owed if part.place[0] in some]
+        self.parts += [Part(part.place, part.count) for part in self.owed if part.place[0] in some and part.place not in places]
         shards = sorted({bytes.fromhex(w[6]) for w in moves if w[5] == "shard"})
         bindings = bindings_of(self.first)
-        if not bindings.keys() >= set(shards):  # box 2 was done on another image
-            bindings = {**bindings_of(self.image_of_2), **bindings}
-        self.entries = [(i, bindings[i][0]) for i in shards]
+        self.entries = [(i, bindings[i][0]) for i in shards if i in bindings]
         self.form = self.choice.choice([frame, sealed_frame])
         run_part = Part(None, len(self.form(bytes(16), run_of(self.entries))))
         left = {x: list(room) for x, room in rooms.items()}
@@ -227,7 +209,7 @@ class Walk:
             x = self.choice.choice(here)
             part.target = (x, left[x][0])
             left[x][0] += part.count
-        if self.parts or self.entries:
+        if self.parts:
             chosen = choose(self.first.image())
             runs = len(chosen["runs"]) + bool(self.entries)
             size = len(self.drive.record(0, [0] * (self.drive.extents - 1), chosen["retired"],
@@ -237,28 +219,34 @@ class Walk:
         self.run_part, self.chosen = run_part, some
         return True
 
-    # Writing
+    # The copies and their superblock
 
-    def put(self, box, target, text, wanted):
-        """Writes a copy or the run, with the looks before and after it: `wanted` gives the bytes that should be there then."""
+    def ask_compare(self, box, before, resets, *generations):
+        """Stops unless `compare` ends with these generations, on a new image."""
+        now = self.drive.copy()
+        first, second = self.slip(f"images of box {box}", [before, now])
+        text, _ = self.engine.compare(first, second, self.slip(f"resets of box {box}", resets))
+        self.check(box, text == "safe {} {}\n".format(*generations), text.replace("\n", "; "), f"compare of box {box}")
+        return now
+
+    def put(self, box, target, text):
+        """Writes a copy or the run. The place is looked at before, on the image of box 4."""
         x, at = target
-        here = self.drive.read(x, at, len(text))
+        here = self.fourth.read(x, at, len(text))
         first = next((at + k for k, byte in enumerate(here) if byte), None)
         tails = [int(line.split()[2]) for line in self.doubts if line.startswith(f"tail {x} ")]
-        is_tail = tails and tails[0] <= at + len(text) <= self.drive.size and tails[0] <= (first or 0)
-        self.check(box, first is None or is_tail, "the place holds something", "look")
+        self.check(box, first is None or tails and tails[0] <= first, "the place holds something", "look")
         self.drive.write(*self.slip("place", target), text)
         self.ends[x] = max(self.ends.get(x, 0), at + len(text))
-        self.check(box, self.drive.read(x, at, len(wanted())) == wanted(), "cmp differs", "cmp")
 
     def box_4(self):
-        self.superblocks(4, self.generation)
+        self.fourth = self.ask_compare(4, self.first, (), self.generation, self.generation)
+        self.slip("copying", ())
         self.places = {part.place: part.target for part in self.parts}
         for self.current, part in enumerate(self.slip("copies", self.parts)):
             source = self.slip("source", part.place)
             part.target = self.places[part.place] = self.slip("target", part.target)
-            text = self.slip("copy", self.drive.read(*source, part.count))
-            self.put(4, part.target, text, lambda: self.drive.read(*source, part.count))
+            self.put(4, part.target, self.slip("copy", self.drive.read(*source, part.count)))
 
     def moved(self, c):
         """The locator with the place of the copy."""
@@ -271,17 +259,22 @@ class Walk:
             entries = self.slip("entries", [(i, [self.moved(c) for c in locators]) for i, locators in self.entries])
             payload, name = self.slip("run", run_of(entries)), self.choice.randbytes(16)
             target = self.slip("target of the run", self.run_part.target)
-            text = self.form(name, payload)
-            self.put(5, target, self.slip("frame of the run", text), lambda: text)
+            self.put(5, target, self.slip("frame of the run", self.form(name, payload)))
             self.runs.insert(0, locator_of(*target, name, payload))
 
     def box_6(self):
-        self.superblocks(6, self.generation)
+        now = self.slip("image of box 6", self.drive)
+        kept, found = (self.engine.ask(drive, "superblocks")[0] for drive in (self.first, now))
+        self.check(6, kept == found, "other superblocks", "superblocks")
         if not self.slip("box 6", True):
             return
         pointers = [self.ends.get(e, w) for e, w in enumerate(self.fields["pointers"], 1)]
-        fields = {**self.fields, "generation": self.generation + 1, "pointers": pointers, "runs": self.runs}
-        self.write_superblock("6", fields)
+        self.write_superblock(6, {**self.fields, "generation": self.next_of(self.generation), "pointers": pointers, "runs": self.runs})
+
+    def next_of(self, generation):
+        if generation == GREATEST:
+            raise Full
+        return generation + 1
 
     def write_superblock(self, box, fields):
         """Writes one with these fields, as a mistake may change them."""
@@ -295,71 +288,46 @@ class Walk:
             raise Full
         put_record(self.drive, text, at, self.slip(f"zeros of box {box}", True))
 
-    # The checks before and after the reset
-
-    def is_kept(self, text):
-        return with_spare_given_up(text, self.given_up) == with_spare_given_up(self.kept, self.given_up)
+    # The answers before and after the reset
 
     def box_7(self):
-        self.raw_of_7 = bytes((self.drive if self.parts else self.first).raw)
-        self.superblocks(7, self.generation + bool(self.parts))
-        text, _ = self.ask(7, "manifest", resets=self.slip("resets", self.chosen))
-        self.check(7, self.is_kept(text), "the manifest differs", "manifest of box 7")
-        generation = self.generation + bool(self.parts)
-        text, _ = self.ask(7, "reclaimable", last=generation)
-        doubts = doubts_in(text)
-        for line in doubts:
-            words = line.split()
-            tail = words[0] == "tail" and int(words[1]) in self.ends and any(d.startswith(f"tail {words[1]} ") for d in self.doubts)
-            self.check(7, line in self.doubts or tail or words[0] == "spare", f"a new doubt: {line}", "doubts of box 7")
-        text, clear = self.ask(7, "reclaimable", acceptable(open_doubts_in(text)), last=generation)
-        self.check(7, clear, "status 1", "doubts of box 7")
-        listed, moves = ({int(words[1]) for words in lines_with(text, word)} for word in ("reclaim", "move"))
-        self.check(7, set(self.chosen) <= listed - moves, "an extent isn't listed without moves", "listing of box 7")
-        self.doubts_7 = doubts
+        now = self.next_of(self.generation) if self.parts else self.generation
+        self.seventh = self.ask_compare(7, self.first, self.chosen, self.generation, now)
 
     def box_8(self):
-        self.superblocks(8, self.fields["generation"])
-        self.slip("after box 8a", ())
         pointers = [0 if e in self.slip("extents of box 8", self.chosen) else w for e, w in enumerate(self.fields["pointers"], 1)]
-        self.slip("before box 8", ())
-        generation = self.fields["generation"] + 1
-        self.write_superblock("8", {**self.fields, "generation": generation, "pointers": pointers})
+        before = self.generation + bool(self.parts)
+        self.write_superblock(8, {**self.fields, "generation": self.next_of(before), "pointers": pointers})
         self.slip("after writing of box 8", ())
-        size = self.drive.size
-        self.check(8, self.raw_of_7[size:] == self.drive.raw[size:], "more than extent 0 has changed", "cmp of box 8")
-        self.superblocks(8, generation)
-        text, _ = self.ask(8, "manifest")
-        self.check(8, self.is_kept(text), "the manifest differs", "manifest of box 8")
-        text, _ = self.ask(8, "reclaimable", last=generation)
-        doubts = doubts_in(text)
-        for line in doubts:
-            words = line.split()
-            tail = words[0] == "tail" and int(words[1]) in self.chosen
-            remains = words[0] == "remains" and self.given_up
-            self.check(8, line in self.doubts_7 or tail or remains or words[0] == "spare", f"a new doubt: {line}", "doubts of box 8")
-        text, clear = self.ask(8, "reclaimable", acceptable(open_doubts_in(text)), last=generation)
-        self.check(8, clear, "status 1", "doubts of box 8")
-        listed = {int(words[1]) for words in lines_with(text, "reclaim")}
-        self.check(8, not listed & set(self.chosen), "an extent is still listed", "listing of box 8")
+        self.ask_compare(8, self.seventh, self.chosen, before, before + 1)
+        lines = "".join(f"pointer {e} {self.first_fields['pointers'][e - 1]} 0\n" for e in sorted(self.chosen)) + "unsafe\n"
+        text, _ = self.engine.compare(self.first, self.drive)
+        self.check(8, text == lines, text.replace("\n", "; "), "reset of box 8")
+
+    # The way back
 
     def put_back(self, box):
-        """Writes the superblock of box 1 again; if the manifest isn't the kept one after box 8, that of box 7."""
-        if self.written is not None:
-            self.write_again(self.first_fields)
-            if box == 8 and not self.is_kept(self.engine.ask(self.drive, "manifest")[0]):
-                self.write_again(self.fields_before)
+        """On a copy of the disk the superblock of the first image is written, or else that of box 7. The one by which the manifest is that
+        of the first image is written on the disk. What a node wrote isn't overwritten."""
+        kept, _ = self.engine.ask(self.first, "manifest")
+        if self.node is not None or self.written is None and self.engine.ask(self.drive, "manifest")[0] == kept:
+            return
+        for fields in [self.first_fields] if box < 8 else [self.first_fields, self.fields_before]:
+            trial = self.drive.copy()
+            if self.write_on(trial, fields) and self.engine.ask(trial, "manifest")[0] == kept:
+                self.drive.raw[:] = trial.raw
+                return
 
-    def write_again(self, fields):
-        """Writes a superblock with a generation greater than any on the disk."""
-        newest = max([self.fields["generation"], *(r.generation for r in reference.records_of(self.drive.image()).values())])
-        text = self.drive.record(*({**fields, "generation": min(newest + 1, 2 ** 64 - 1)}[key] for key in FIELDS))
-        pages = record_pages(self.drive, len(text))
+    def write_on(self, drive, fields):
+        """Writes a superblock with a generation greater than any on the disk. False if there is none, or no place."""
+        newest = max([self.fields["generation"], *(r.generation for r in reference.records_of(drive.image()).values())])
+        if newest == GREATEST:
+            return False
+        text = drive.record(*({**fields, "generation": newest + 1}[key] for key in FIELDS))
+        pages = record_pages(drive, len(text))
         if pages:
-            put_record(self.drive, text, self.choice.choice(pages) * self.drive.page)
-
-
-FIELDS = ("generation", "pointers", "retired", "runs")
+            put_record(drive, text, self.choice.choice(pages) * drive.page)
+        return choose(drive.image())["generation"] == newest + 1
 
 
 def erased(drive, extents, choice):
@@ -370,11 +338,27 @@ def erased(drive, extents, choice):
     return after
 
 
+# Without a mistake
+
+def count_seen(walk, drive, seen):
+    """Counts what came up on a walk that ended."""
+    moves = [words for lines in walk.listed.values() for words in lines]
+    seen["walk: extents reset"] += len(walk.chosen)
+    seen["walk: several at once"] += len(walk.chosen) > 1
+    seen["walk: copies"] += len(walk.parts)
+    seen["walk: chunks shared"] += len(moves) - len({tuple(words[1:3]) for words in moves})
+    seen["walk: sealed chunks copied"] += sum(drive.read(*part.place, 2) == SEALED.magic for part in walk.parts)
+    seen["walk: runs moved"] += sum(words[5] == "run" for e in walk.chosen for words in walk.listed[e])
+    seen["walk: copies into last rooms"] += sum(part.target[0] in walk.last_rooms for part in walk.parts)
+    seen["walk: spares copied"] += sum(part.place in [other.place for other in walk.owed] for part in walk.parts)
+    seen["walk: remains given up"] += any(line.startswith("remains ") for line in walk.doubts)
+    seen["walk: tails that --last accepts"] += any(line.startswith("tail ") for line in walk.doubts)
+
+
 def walk_honestly(engine, seed, seen):
     """Resets what can be reset on one disk, and lets the node go on between the resets."""
-    choice = random.Random(seed)
+    choice = random.Random(f"honest {seed}")
     drive, known = worn(choice)
-    resets = stops = 0
     for _ in range(12):
         before = held(drive)
         walk = Walk(engine, drive, known, choice)
@@ -383,31 +367,22 @@ def walk_honestly(engine, seed, seen):
                 seen["walk: nothing can be reset"] += 1
                 break
         except Stop as stop:
-            require(stop.box in (1, 2) and (stop.box, stop.why) != (1, None), f"disk {seed}: an honest walk stops: {stop}")
-            seen[f"walk: box {stop.box}: {stop.why}"] += 1
+            require(stop.box == 1, f"disk {seed}: an honest walk stops: {stop}")
+            seen[f"walk: box 1: doubt {stop.why.split()[0]}"] += 1
             break
         except Full:
             seen["walk: no place for a run or a superblock"] += 1
             break
         except Again:
-            seen["walk: a spare named by an entry"] += 1
-            require(is_held(before, held(drive)), f"disk {seed}: an entry that names a spare")
+            seen["walk: a shard written anew or deleted" if walk.anew else "walk: a spare named by an entry"] += 1
+            after = held(drive)
+            require(is_held(*({i: parts for i, parts in one.items() if i not in walk.anew} for one in (before, after))),
+                    f"disk {seed}: entries of the node")
             known = walk.known
             continue
-        resets += len(walk.chosen)
-        seen["walk: extents reset"] += len(walk.chosen)
-        seen["walk: several at once"] += len(walk.chosen) > 1
-        seen["walk: copies"] += len(walk.parts)
-        seen["walk: chunks shared"] += sum(len(v) for v in walk.listed.values()) - len({tuple(w[1:3]) for v in walk.listed.values() for w in v})
-        seen["walk: sealed chunks copied"] += sum(drive.read(*part.place, 2) == SEALED.magic for part in walk.parts)
-        seen["walk: runs moved"] += sum(w[5] == "run" for e in walk.chosen for w in walk.listed[e])
-        seen["walk: copies into last rooms"] += sum(part.target[0] in walk.last_rooms for part in walk.parts)
-        seen["walk: spares given up"] += bool(walk.given_up)
-        seen["walk: remains given up"] += any(line.startswith("remains ") for line in walk.doubts)
-        seen["walk: tails that --last accepts"] += any(line.startswith("tail ") for line in walk.doubts)
-        seen["walk: spares copied"] += sum(part.place in [p.place for p in walk.owed] for part in walk.parts)
+        count_seen(walk, drive, seen)
         after = erased(drive, walk.chosen, choice)
-        require(is_held(before, held(after), walk.given_up), f"disk {seed}: after the reset of {walk.chosen} something is lost")
+        require(is_held(before, held(after)), f"disk {seed}: after the reset of {walk.chosen} something is lost")
         drive.raw[:] = after.raw if choice.random() < .5 else drive.raw
         known = walk.fields["generation"]
         if choice.random() < .5:
@@ -415,8 +390,9 @@ def walk_honestly(engine, seed, seen):
             node.resume()
             node.live_on(1)
             known = node.generation
-    return resets
 
+
+# With a mistake
 
 def truth(drive):
     """What a disk holds, also by a run that was written after its last superblock."""
@@ -466,8 +442,7 @@ def trial(engine, one, seed, without=()):
         return None
     (drive, known, before), choice = found, random.Random(f"{seed} {one.name}")
     drive = drive.copy()
-    walk = Walk(engine, drive, known, choice, one, without, one.drive in WRITTEN_AFTER)
-    stopped = None
+    walk, stopped = Walk(engine, drive, known, choice, one, without, one.drive in WRITTEN_AFTER), None
     try:
         if not walk.go():
             return None
@@ -475,9 +450,9 @@ def trial(engine, one, seed, without=()):
         stopped = stop.box
     except (Full, Again):
         return None
-    if not walk.slipped or one.without and stopped in (1, 2) and one.drive is None:
+    if not walk.slipped or one.without and stopped == 1:
         return None
-    if stopped in (7, 8):
+    if stopped is not None and stopped > 3:
         walk.put_back(stopped)
     after = drive
     if walk.node is not None:
@@ -486,7 +461,7 @@ def trial(engine, one, seed, without=()):
         pointers = choose(drive.image())["pointers"]
         reset = {*walk.chosen, *(e for e, w in enumerate(pointers, 1) if w == 0 and e not in walk.fields["retired"])}
         after = erased(after, reset, choice)
-    return stopped, not is_held(expected(walk, before), truth(after), walk.given_up)
+    return stopped, not is_held(expected(walk, before), truth(after))
 
 
 def trials(engine, one, seed, tries, without=()):
@@ -502,7 +477,7 @@ def trials(engine, one, seed, tries, without=()):
 
 
 def words_of(outcome):
-    """What a mistake may be expected to lead to: the box that stops it, or `none`; with `!` where bytes are lost by then."""
+    """The box that stops a mistake, or `none`; with `!` where bytes are lost by then."""
     box, is_lost = outcome
     return ("none" if box is None else str(box)) + "!" * is_lost
 
@@ -510,10 +485,3 @@ def words_of(outcome):
 def row(name, found):
     """A line with the outcomes of a mistake, and how often each came."""
     return name + ": " + (", ".join(f"{words} {count}x" for words, count in sorted((words_of(o), n) for o, n in found.items())) or "never made")
-
-
-def judge_mistake(one, found):
-    """Each outcome of a mistake has to be an expected one."""
-    require(found, f"{one.name}: never made")
-    for outcome in found:
-        require(words_of(outcome) in one.boxes.split(), f"{row(one.name, found)}; expected {one.boxes}")

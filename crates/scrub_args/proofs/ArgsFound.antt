@@ -22,7 +22,7 @@ use Rattle.scrub_args.specs.declared.args.Wanted.TheVariants.{Report, Index, Loc
 use Rattle.scrub_args.specs.declared.args.ArgsFault.{ArgsFault}
 use Rattle.scrub_args.specs.declared.args.ArgsFault.TheVariants.{Refused, Help, OutOfMemory}
 use Rattle.scrub_args.specs.CommandLine.{shardscrub_app}
-use Rattle.scrub_args.specs.steps.Parsed.{ComesOf, HasDated, HasImage, HasImageName, HasItems, HasManifest, HasNumber, HasScan, HasNeeds, HasShard, IsWholeCommand, IsWholeParse, MayHaveLongNumber, is_dated_command, is_disk_command}
+use Rattle.scrub_args.specs.steps.Parsed.{ComesOf, HasCompare, HasDated, HasImage, HasImageName, HasItems, HasManifest, HasNumber, HasScan, HasNeeds, HasShard, IsWholeCommand, IsWholeParse, MayHaveLongNumber, is_dated_command, is_disk_command}
 use Rattle.scrub_args.specs.Accepting.{first_unacceptable, refusal_of}
 use Rattle.scrub_args.specs.Args.{AreSizesGiven, AskForVersion, HasPartOfSizes, IsTextFault, IsNumberOf, IsPartFault, IsRefusal, IsRowsFault, IsArgsFault, IsWorkersOf, RefusesRows, accepted_of, command_of, part_text}
 use Rattle.scrub_args.specs.declared.args.GivenSizes.{GivenSizes}
@@ -190,7 +190,7 @@ module _ (command : Option (Text × List Row)) (name : Text) (found : List Row) 
   last_of_whole dated = go (is_dated_command name) dated met_whole
     where
       go : (b : Bool) → b ≡ true →
-          HasNeeds b (is_disk_command name) (bytes_eq name (codes "manifest")) (bytes_eq name (codes "shard")) (bytes_eq name (codes "superblocks")) (bytes_eq name (codes "sizes")) (bytes_eq name (codes "items")) (bytes_eq name (codes "demo")) found
+          HasNeeds b (is_disk_command name) (bytes_eq name (codes "manifest")) (bytes_eq name (codes "compare")) (bytes_eq name (codes "shard")) (bytes_eq name (codes "superblocks")) (bytes_eq name (codes "sizes")) (bytes_eq name (codes "items")) (bytes_eq name (codes "demo")) found
           → MayHaveLongNumber found (codes "last")
       go true e needs = needs.last
       go false e needs = absurd (false≢true e)
@@ -198,6 +198,10 @@ module _ (command : Option (Text × List Row)) (name : Text) (found : List Row) 
   pub manifest_of_whole : name ≡ codes "manifest" → HasManifest found
   unfolding clap_on_literals
   manifest_of_whole asked = subst (λ (n : Text). IsWholeCommand n found) asked met_whole
+
+  pub compare_of_whole : name ≡ codes "compare" → HasCompare found
+  unfolding clap_on_literals
+  compare_of_whole asked = subst (λ (n : Text). IsWholeCommand n found) asked met_whole
 
   pub shard_of_whole : name ≡ codes "shard" → HasShard found
   unfolding clap_on_literals

@@ -21,17 +21,18 @@ use Rattle.scrub_args.specs.declared.args.ImageArgs.{ImageArgs}
 use Rattle.scrub_args.specs.declared.args.ItemsArgs.{ItemsArgs}
 use Rattle.scrub_args.specs.declared.args.ScanArgs.{ScanArgs}
 use Rattle.scrub_args.specs.declared.args.ManifestArgs.{ManifestArgs}
+use Rattle.scrub_args.specs.declared.args.CompareArgs.{CompareArgs}
 use Rattle.scrub_args.specs.declared.args.ShardArgs.{ShardArgs}
 use Rattle.scrub_args.specs.declared.args.SizesArgs.{SizesArgs}
 use Rattle.scrub_args.specs.declared.args.Request.{Request}
 use Rattle.scrub_args.specs.declared.args.Wanted.{Wanted}
 use Rattle.scrub_args.specs.declared.args.Wanted.TheVariants.{Report, Index, Locators, Summary, Reclaimable}
-use Rattle.scrub_args.specs.declared.args.Request.TheVariants.{Demo, Items, Disk, Manifest, Shard, Superblocks, Sizes}
+use Rattle.scrub_args.specs.declared.args.Request.TheVariants.{Demo, Items, Disk, Manifest, Compare, Shard, Superblocks, Sizes}
 use Rattle.scrub_args.specs.CommandLine.{shardscrub_app}
 use Rattle.scrub_args.specs.Order.{AreExchanged, HasOptions}
-use Rattle.scrub_args.specs.Args.{AreImageArgs, AreItemsArgs, AreManifestArgs, AreScanArgs, AreShardArgs, AreSizesGiven, AreSizesArgs, IsAskedBy, IsLastOf, IsLongNumberOf, IsNumberOf, IsWantedWith, IsWorkersOf, NameCommand, command_of}
+use Rattle.scrub_args.specs.Args.{AreCompareArgs, AreImageArgs, AreItemsArgs, AreManifestArgs, AreScanArgs, AreShardArgs, AreSizesGiven, AreSizesArgs, IsAskedBy, IsLastOf, IsLongNumberOf, IsNumberOf, IsWantedWith, IsWorkersOf, NameCommand, command_of}
 use Rattle.scrub_args.proofs.Numbers.{many_same}
-use Rattle.scrub_args.proofs.Whole.{built_items, built_manifest, built_reclaimable, built_shard, built_sizes, built_summary, built_superblocks, disk, looked}
+use Rattle.scrub_args.proofs.Whole.{built_compare, built_items, built_manifest, built_reclaimable, built_shard, built_sizes, built_summary, built_superblocks, disk, looked}
 
 -- a pair that was found
 pair_names : {A B : Type 0} (a c : A) (b d : B) → ◌≡◌ {A = Option (A × B)} (Some (a, b)) (Some (c, d)) → a ≡ c
@@ -87,6 +88,12 @@ module _ (xs ys : List Row) (same : AreSame xs ys) where
       rising = read.resets.rising;
       same = read.resets.same;
     };
+  }
+
+  compare_same : (args : CompareArgs) → AreCompareArgs xs args → AreCompareArgs ys args
+  compare_same args read = record {
+    before = manifest_same args.before read.before;
+    after = sym (first_same xs ys same (codes "after")) ∙ read.after;
   }
 
   shard_same : (args : ShardArgs) → AreShardArgs xs args → AreShardArgs ys args
@@ -159,6 +166,11 @@ module _ (xs ys : List Row) (same : AreSame xs ys) where
     ys,
     renamed name (codes "manifest") asked.0 asked.1,
     manifest_same args (rw (pair_rows name (codes "manifest") xs asked.0 asked.1) at asked.2),
+  )
+  asked_same name (Compare args) asked = (
+    ys,
+    renamed name (codes "compare") asked.0 asked.1,
+    compare_same args (rw (pair_rows name (codes "compare") xs asked.0 asked.1) at asked.2),
   )
   asked_same name (Shard args) asked = (
     ys,
@@ -261,6 +273,37 @@ reclaimable_by_name = (
             (refl, inr refl, refl, refl),
             (
               (refl, inr refl, refl, refl),
+              (
+                (refl, inl refl, refl, refl),
+                (
+                  (refl, inl refl, refl, refl),
+                  ((refl, inr refl, refl, refl), tt),
+                ),
+              ),
+            ),
+          ),
+        ),
+      ),
+    ),
+  ),
+)
+
+compare_by_name : EachRule IsByName built_compare.rules
+unfolding clap_on_literals
+compare_by_name = (
+  (refl, inr refl, refl, refl),
+  (
+    (refl, inr refl, refl, refl),
+    (
+      (refl, inr refl, refl, refl),
+      (
+        (refl, inr refl, refl, refl),
+        (
+          (refl, inr refl, refl, refl),
+          (
+            (refl, inr refl, refl, refl),
+            (
+              (refl, inl refl, refl, refl),
               (
                 (refl, inl refl, refl, refl),
                 (
@@ -434,6 +477,10 @@ enters_reclaimable : Enters (codes "reclaimable") built_reclaimable
 unfolding clap_on_literals
 enters_reclaimable = record { first = refl; clean = refl; faults = λ args. refl; rows = λ args. refl }
 
+enters_compare : Enters (codes "compare") built_compare
+unfolding clap_on_literals
+enters_compare = record { first = refl; clean = refl; faults = λ args. refl; rows = λ args. refl }
+
 enters_superblocks : Enters (codes "superblocks") built_superblocks
 unfolding clap_on_literals
 enters_superblocks = record { first = refl; clean = refl; faults = λ args. refl; rows = λ args. refl }
@@ -508,5 +555,7 @@ order_is_free args others request x asked = go x.options
         exchanged (codes "superblocks") built_superblocks enters_superblocks (plain superblocks_by_name refl) args others x superblocks request asked
     go (inr (inr (inr (inr (inr (inr (inr (inr (inl sizes))))))))) =
         exchanged (codes "sizes") built_sizes enters_sizes (plain sizes_by_name refl) args others x sizes request asked
-    go (inr (inr (inr (inr (inr (inr (inr (inr (inr items))))))))) =
+    go (inr (inr (inr (inr (inr (inr (inr (inr (inr (inl items)))))))))) =
         exchanged (codes "items") built_items enters_items (plain items_by_name refl) args others x items request asked
+    go (inr (inr (inr (inr (inr (inr (inr (inr (inr (inr compare)))))))))) =
+        exchanged (codes "compare") built_compare enters_compare (plain compare_by_name refl) args others x compare request asked

@@ -14,8 +14,8 @@ use Rattle.clap_walk.specs.Rows.{EachRow, IsSound}
 use Rattle.clap_walk.specs.Rules.{AreUsual}
 use Rattle.clap_walk.proofs.Walks.{IsNoHelp, parts, walk_stops}
 use Rattle.clap_walk.proofs.Given.{IsNumberRule, IsTextRule, are_given, has_number, has_text, may_have_number, rows_sound}
-use Rattle.scrub_args.specs.CommandLine.{demo_shape, free_shape, image_shape, items_shape, manifest_shape, reclaimable_shape, shard_shape, shardscrub_app, sizes_shape, summary_shape, superblocks_shape, workers_rule}
-use Rattle.scrub_args.specs.steps.Parsed.{HasDated, HasImage, HasImageName, HasItems, HasManifest, HasScan, HasShard, IsWholeParse}
+use Rattle.scrub_args.specs.CommandLine.{compare_shape, demo_shape, free_shape, image_shape, items_shape, manifest_shape, reclaimable_shape, shard_shape, shardscrub_app, sizes_shape, summary_shape, superblocks_shape, workers_rule}
+use Rattle.scrub_args.specs.steps.Parsed.{HasCompare, HasDated, HasImage, HasImageName, HasItems, HasManifest, HasScan, HasShard, IsWholeParse}
 use Rattle.scrub_args.proofs.LongNumbers.{may_have_long}
 use Rattle.scrub_args.proofs.Numbers.{has_numbers}
 
@@ -37,6 +37,9 @@ built_shard = leaf shard_shape
 
 abbrev pub built_summary : Shape
 built_summary = leaf summary_shape
+
+abbrev pub built_compare : Shape
+built_compare = leaf compare_shape
 
 abbrev pub built_reclaimable : Shape
 built_reclaimable = leaf reclaimable_shape
@@ -239,6 +242,40 @@ reclaimable_usual = (
   (refl, (refl, (refl, (refl, (refl, (refl, (refl, (refl, (refl, (refl, tt)))))))))),
 )
 
+compare_usual : AreUsual built_compare.rules
+unfolding clap_on_literals
+compare_usual = (
+  (
+    (refl, inr (inl refl, refl, refl)),
+    (
+      (refl, inr (inl refl, refl, refl)),
+      (
+        (refl, inr (inl refl, refl, refl)),
+        (
+          (refl, inr (inl refl, refl, refl)),
+          (
+            (refl, inr (inr refl, refl, refl)),
+            (
+              (refl, inr (inl refl, refl, refl)),
+              (
+                (refl, inr (inl refl, refl, refl)),
+                (
+                  (refl, inr (inl refl, refl, refl)),
+                  (
+                    (refl, inr (inr refl, refl, refl)),
+                    ((refl, inl refl), tt),
+                  ),
+                ),
+              ),
+            ),
+          ),
+        ),
+      ),
+    ),
+  ),
+  (refl, (refl, (refl, (refl, (refl, (refl, (refl, (refl, (refl, (refl, tt)))))))))),
+)
+
 superblocks_usual : AreUsual built_superblocks.rules
 unfolding clap_on_literals
 superblocks_usual = (
@@ -380,6 +417,26 @@ manifest_whole args clean =
       resets = has_numbers c rows known.0 (codes "reset") _ refl refl refl;
     }
 
+compare_whole : (args : List Text) → level_fault built_compare [] nothing_held args false [] ≡ [] →
+    HasCompare (rows_at built_compare args).1
+unfolding clap_on_literals
+compare_whole args clean =
+    let c = built_compare.rules in
+    let rows = (rows_at built_compare args).1 in
+    let known = rows_sound built_compare compare_usual args clean in
+    let given = are_given rows (codes "page" ∷ codes "pages" ∷ codes "extents" ∷ codes "image" ∷ codes "after" ∷ []) known.1 in
+    let rules : AreImageRules c = image_rules (_, refl, refl, refl) (_, refl, refl, refl) (_, refl, refl, refl) (_, refl) in
+    record {
+      before = record {
+        scan = record {
+          disk = image_given c rows known.0 rules given.0 given.1.0 given.1.1.0 given.1.1.1.0;
+          workers = may_have_number c rows known.0 (codes "workers") _ refl 64 refl refl;
+        };
+        resets = has_numbers c rows known.0 (codes "reset") _ refl refl refl;
+      };
+      after = has_text c rows known.0 (codes "after") _ refl given.1.1.1.1.0;
+    }
+
 summary_whole : (args : List Text) → level_fault built_summary [] nothing_held args false [] ≡ [] →
     HasDated (rows_at built_summary args).1
 unfolding clap_on_literals
@@ -467,16 +524,16 @@ items_whole args clean =
     }
 
 -- the command that an argument names, by the test of each name
-abbrev stopped_at : (summary scan shard index locators manifest reclaimable superblocks sizes items demo help : Bool) → Option Shape
-stopped_at summary scan shard index locators manifest reclaimable superblocks sizes items demo help =
-    if summary then Some built_summary else (if scan then Some (looked (codes "scan")) else (if shard then Some built_shard else (if index then Some (disk (codes "index")) else (if locators then Some (looked (codes "locators")) else (if manifest then Some built_manifest else (if reclaimable then Some built_reclaimable else (if superblocks then Some built_superblocks else (if sizes then Some built_sizes else (if items then Some built_items else (if demo then Some built_demo else (if help || false then Some built_help else None)))))))))))
+abbrev stopped_at : (summary scan shard index locators manifest reclaimable compare superblocks sizes items demo help : Bool) → Option Shape
+stopped_at summary scan shard index locators manifest reclaimable compare superblocks sizes items demo help =
+    if summary then Some built_summary else (if scan then Some (looked (codes "scan")) else (if shard then Some built_shard else (if index then Some (disk (codes "index")) else (if locators then Some (looked (codes "locators")) else (if manifest then Some built_manifest else (if reclaimable then Some built_reclaimable else (if compare then Some built_compare else (if superblocks then Some built_superblocks else (if sizes then Some built_sizes else (if items then Some built_items else (if demo then Some built_demo else (if help || false then Some built_help else None))))))))))))
 
 stop_whole : (stop : Option (Text × List Text)) → IsNoHelp stop → entered_fault (built shardscrub_app) stop ≡ [] →
     IsWholeParse (entered (built shardscrub_app) stop)
 unfolding clap_on_literals
 stop_whole None other clean = tt
 stop_whole (Some p) other clean =
-    go (answers_to p.0 (codes "summary", [])) (answers_to p.0 (codes "scan", [])) (answers_to p.0 (codes "shard", [])) (answers_to p.0 (codes "index", [])) (answers_to p.0 (codes "locators", [])) (answers_to p.0 (codes "manifest", [])) (answers_to p.0 (codes "reclaimable", [])) (answers_to p.0 (codes "superblocks", [])) (answers_to p.0 (codes "sizes", [])) (answers_to p.0 (codes "items", [])) (answers_to p.0 (codes "demo", []))
+    go (answers_to p.0 (codes "summary", [])) (answers_to p.0 (codes "scan", [])) (answers_to p.0 (codes "shard", [])) (answers_to p.0 (codes "index", [])) (answers_to p.0 (codes "locators", [])) (answers_to p.0 (codes "manifest", [])) (answers_to p.0 (codes "reclaimable", [])) (answers_to p.0 (codes "compare", [])) (answers_to p.0 (codes "superblocks", [])) (answers_to p.0 (codes "sizes", [])) (answers_to p.0 (codes "items", [])) (answers_to p.0 (codes "demo", []))
     (bytes_eq (codes "help") p.0) refl clean
   where
     no_help : bytes_eq (codes "help") p.0 ≡ true → ⊥
@@ -484,22 +541,23 @@ stop_whole (Some p) other clean =
         let back = (bytes_eq-Decides p.0 (codes "help")).1 (sym ((bytes_eq-Decides (codes "help") p.0).0 is)) in
         cc (back, other)
 
-    go : (u s c x l m r b z i d h : Bool) → bytes_eq (codes "help") p.0 ≡ h →
-        option_map_or (λ s. level_fault s [] nothing_held p.1 false []) (stopped_at u s c x l m r b z i d h) [] ≡ []
-        → IsWholeParse (option_map (λ s. rows_at s p.1) (stopped_at u s c x l m r b z i d h))
-    go true s c x l m r b z i d h is clean = summary_whole p.1 clean
-    go false true c x l m r b z i d h is clean = looked_whole (codes "scan") p.1 clean
-    go false false true x l m r b z i d h is clean = shard_whole p.1 clean
-    go false false false true l m r b z i d h is clean = disk_whole (codes "index") p.1 clean
-    go false false false false true m r b z i d h is clean = looked_whole (codes "locators") p.1 clean
-    go false false false false false true r b z i d h is clean = manifest_whole p.1 clean
-    go false false false false false false true b z i d h is clean = reclaimable_whole p.1 clean
-    go false false false false false false false true z i d h is clean = superblocks_whole p.1 clean
-    go false false false false false false false false true i d h is clean = sizes_whole p.1 clean
-    go false false false false false false false false false true d h is clean = items_whole p.1 clean
-    go false false false false false false false false false false true h is clean = tt
-    go false false false false false false false false false false false true is clean = absurd (no_help is)
-    go false false false false false false false false false false false false is clean = tt
+    go : (u s c x l m r k b z i d h : Bool) → bytes_eq (codes "help") p.0 ≡ h →
+        option_map_or (λ s. level_fault s [] nothing_held p.1 false []) (stopped_at u s c x l m r k b z i d h) [] ≡ []
+        → IsWholeParse (option_map (λ s. rows_at s p.1) (stopped_at u s c x l m r k b z i d h))
+    go true s c x l m r k b z i d h is clean = summary_whole p.1 clean
+    go false true c x l m r k b z i d h is clean = looked_whole (codes "scan") p.1 clean
+    go false false true x l m r k b z i d h is clean = shard_whole p.1 clean
+    go false false false true l m r k b z i d h is clean = disk_whole (codes "index") p.1 clean
+    go false false false false true m r k b z i d h is clean = looked_whole (codes "locators") p.1 clean
+    go false false false false false true r k b z i d h is clean = manifest_whole p.1 clean
+    go false false false false false false true k b z i d h is clean = reclaimable_whole p.1 clean
+    go false false false false false false false true b z i d h is clean = compare_whole p.1 clean
+    go false false false false false false false false true z i d h is clean = superblocks_whole p.1 clean
+    go false false false false false false false false false true i d h is clean = sizes_whole p.1 clean
+    go false false false false false false false false false false true d h is clean = items_whole p.1 clean
+    go false false false false false false false false false false false true h is clean = tt
+    go false false false false false false false false false false false false true is clean = absurd (no_help is)
+    go false false false false false false false false false false false false false is clean = tt
 
 pub whole : (args : List Text) → fault_of shardscrub_app args ≡ [] → IsWholeParse (subcommand_of shardscrub_app args)
 unfolding clap_on_literals

@@ -12,10 +12,11 @@ use Rattle.scrub_args.specs.declared.args.ImageArgs.{ImageArgs}
 use Rattle.scrub_args.specs.declared.args.ItemsArgs.{ItemsArgs}
 use Rattle.scrub_args.specs.declared.args.ScanArgs.{ScanArgs}
 use Rattle.scrub_args.specs.declared.args.ManifestArgs.{ManifestArgs}
+use Rattle.scrub_args.specs.declared.args.CompareArgs.{CompareArgs}
 use Rattle.scrub_args.specs.declared.args.ShardArgs.{ShardArgs}
 use Rattle.scrub_args.specs.declared.args.SizesArgs.{SizesArgs}
 use Rattle.scrub_args.specs.declared.args.Request.{Request}
-use Rattle.scrub_args.specs.declared.args.Request.TheVariants.{Demo, Items, Disk, Manifest, Shard, Superblocks, Sizes}
+use Rattle.scrub_args.specs.declared.args.Request.TheVariants.{Demo, Items, Disk, Manifest, Compare, Shard, Superblocks, Sizes}
 use Rattle.scrub_args.specs.declared.args.Wanted.{Wanted}
 use Rattle.scrub_args.specs.declared.args.Wanted.TheVariants.{Report, Index, Locators, Summary, Reclaimable}
 use Rattle.scrub_args.specs.declared.args.ArgsFault.{ArgsFault}
@@ -88,6 +89,11 @@ pub record AreManifestArgs (found : List Row) (args : ManifestArgs) : Type 0 whe
   pub scan : AreScanArgs found args.scan
   pub resets : AreResetsOf found args.resets.items
 
+-- the values found for `compare`: those for `manifest` on the earlier image, and the later image
+pub record AreCompareArgs (found : List Row) (args : CompareArgs) : Type 0 where
+  pub before : AreManifestArgs found args.before
+  pub after : first_of (codes "after") found ≡ Some args.after.now
+
 -- the values found for `shard`
 pub record AreShardArgs (found : List Row) (args : ShardArgs) : Type 0 where
   pub scan : AreScanArgs found args.scan
@@ -139,6 +145,7 @@ IsAskedBy command (Disk wanted args) =
     (found : List Row) × (command ≡ Some (command_of wanted, found)) × IsWantedWith found wanted × AreScanArgs found args
 IsAskedBy command (Manifest args) =
     (found : List Row) × (command ≡ Some (codes "manifest", found)) × AreManifestArgs found args
+IsAskedBy command (Compare args) = (found : List Row) × (command ≡ Some (codes "compare", found)) × AreCompareArgs found args
 IsAskedBy command (Shard args) = (found : List Row) × (command ≡ Some (codes "shard", found)) × AreShardArgs found args
 IsAskedBy command (Superblocks args) =
     (found : List Row) × (command ≡ Some (codes "superblocks", found)) × AreImageArgs found args

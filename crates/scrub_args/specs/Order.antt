@@ -8,7 +8,7 @@ abbrev pub HasOptions : Text → Type 0
 HasOptions command =
     (command ≡ codes "scan") ⊎ (command ≡ codes "index") ⊎ (command ≡ codes "locators")
     ⊎ (command ≡ codes "manifest") ⊎ (command ≡ codes "shard") ⊎ (command ≡ codes "summary") ⊎ (command ≡ codes "reclaimable")
-    ⊎ (command ≡ codes "superblocks") ⊎ (command ≡ codes "sizes") ⊎ (command ≡ codes "items")
+    ⊎ (command ≡ codes "superblocks") ⊎ (command ≡ codes "sizes") ⊎ (command ≡ codes "items") ⊎ (command ≡ codes "compare")
 
 -- the same arguments of a command, but for two neighbouring options that are exchanged
 pub record AreExchanged (args others : List Text) : Type 0 where

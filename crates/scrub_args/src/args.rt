@@ -5,11 +5,13 @@ ghost use Rattle.std.specs.Prelude.{None, Some, codes, is_none, is_some};
 ghost use Rattle.clap.specs.Words.{Text, first_of, found_of, kind_of, one_of, rows_of, subcommand_rows_of};
 ghost use Rattle.scrub_args.specs.Accepting.{refusal_of};
 ghost use Rattle.scrub_args.specs.Order.{AreExchanged};
-ghost use Rattle.scrub_args.specs.steps.Parsed.{ComesOf, HasImage, HasImageName, HasItems, HasManifest};
+ghost use Rattle.scrub_args.specs.steps.Parsed.{ComesOf, HasCompare, HasImage, HasImageName, HasItems};
+ghost use Rattle.scrub_args.specs.steps.Parsed.{HasManifest};
 ghost use Rattle.scrub_args.specs.steps.Parsed.{HasNumber, HasNumbers, HasScan, HasShard, HasText};
 ghost use Rattle.scrub_args.specs.steps.Parsed.{IsWantedBy, IsWholeParse, MayHaveLongNumber, MayHaveNumber};
 ghost use Rattle.scrub_args.specs.steps.Parsed.{is_dated_command, is_disk_command};
-ghost use Rattle.scrub_args.specs.Args.{AreAccepted, AreImageArgs, AreItemsArgs, AreManifestArgs};
+ghost use Rattle.scrub_args.specs.Args.{AreAccepted, AreCompareArgs, AreImageArgs, AreItemsArgs};
+ghost use Rattle.scrub_args.specs.Args.{AreManifestArgs};
 ghost use Rattle.scrub_args.specs.Args.{AreNumbersOf, AreResetsOf, AreScanArgs, AreShardArgs};
 ghost use Rattle.scrub_args.specs.Args.{AreSizesArgs, AreSizesGiven};
 ghost use Rattle.scrub_args.specs.Args.{AskForVersion, IsArgsFault, IsAskedBy, IsLastOf, IsNumberOf};
@@ -36,6 +38,8 @@ pub enum Request<'a> {
     Disk(Wanted<'a>, ScanArgs<'a>),
     /// List what a disk holds, wherever it lies.
     Manifest(ManifestArgs<'a>),
+    /// Say whether what was written to a disk between two images lost anything.
+    Compare(CompareArgs<'a>),
     /// Write the bytes of one shard.
     Shard(ShardArgs<'a>),
     /// List the superblock records of extent 0, and its pages that may have held one.
@@ -44,7 +48,7 @@ pub enum Request<'a> {
     Sizes(SizesArgs<'a>),
 }
 
-/// What a command on the whole disk prints, other than `manifest` and `shard`.
+/// What a command on the whole disk prints, other than `manifest`, `compare` and `shard`.
 #[derive(Debug, Drop)]
 pub enum Wanted<'a> {
     /// The report.
@@ -87,6 +91,15 @@ pub struct ManifestArgs<'a> {
     pub scan: ScanArgs<'a>,
     /// The extents to be taken as reset, ascending, each once. It isn't checked that the disk has them.
     pub resets: Vec<u32>,
+}
+
+/// The arguments of `compare`.
+#[derive(Debug, Drop)]
+pub struct CompareArgs<'a> {
+    /// The disk, its earlier image, the number of workers, and the extents that are to be reset, or were.
+    pub before: ManifestArgs<'a>,
+    /// The name of the later image file.
+    pub after: &'a str,
 }
 
 /// The arguments of `shard`.
@@ -213,6 +226,7 @@ fn request_of<'a>(alloc: Global, matches: &ArgMatches<'a>) -> Result<Request<'a>
         None | Some((command::DEMO, _)) => Ok(Request::Demo),
         Some((command::ITEMS, matches)) => Ok(Request::Items(items_args(alloc, matches)?)),
         Some((command::MANIFEST, matches)) => Ok(Request::Manifest(manifest_args(alloc, matches)?)),
+        Some((command::COMPARE, matches)) => Ok(Request::Compare(compare_args(alloc, matches)?)),
         Some((command::SHARD, matches)) => Ok(Request::Shard(shard_args(alloc, matches)?)),
         Some((command::SUPERBLOCKS, matches)) => {
             Ok(Request::Superblocks(image_args(alloc, matches)?))
@@ -285,6 +299,18 @@ fn manifest_args<'a>(alloc: Global, matches: &ArgMatches<'a>) -> Result<Manifest
     Ok(ManifestArgs {
         scan: scan_args(alloc, matches)?,
         resets: resets(alloc, matches)?,
+    })
+}
+
+fn compare_args<'a>(alloc: Global, matches: &ArgMatches<'a>) -> Result<CompareArgs<'a>, ArgsFault>
+    requires { HasCompare (rows_of (found_of matches.now)) }
+    ensures { MatchResult result
+        (AreCompareArgs (rows_of (found_of matches.now)))
+        (IsPartFault (rows_of (found_of matches.now))) }
+{
+    Ok(CompareArgs {
+        before: manifest_args(alloc, matches)?,
+        after: text(matches, command::AFTER),
     })
 }
 

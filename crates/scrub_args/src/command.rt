@@ -2,8 +2,9 @@
 //! for what the arguments ask for `args`.
 ghost use Rattle.std.specs.Prelude.{◌≡◌, ◌∷◌, IfOk, [], false};
 ghost use Rattle.clap.specs.Words.{app_of, rule_of, shape_of};
-ghost use Rattle.scrub_args.specs.CommandLine.{accept_rule, bad_pages_rule, bare_app, demo_shape, free_shape};
-ghost use Rattle.scrub_args.specs.CommandLine.{free_size_rules, image_rule, image_rules, image_shape};
+ghost use Rattle.scrub_args.specs.CommandLine.{accept_rule, arg, bad_pages_rule, bare_app, compare_shape};
+ghost use Rattle.scrub_args.specs.CommandLine.{demo_shape, free_shape, free_size_rules, image_rule};
+ghost use Rattle.scrub_args.specs.CommandLine.{image_rules, image_shape, images_rules, required};
 ghost use Rattle.scrub_args.specs.CommandLine.{items_shape, last_rule, map_rule, manifest_shape, option};
 ghost use Rattle.scrub_args.specs.CommandLine.{reclaimable_shape, reset_rule, shard_shape, shardscrub_app};
 ghost use Rattle.scrub_args.specs.CommandLine.{size_rules, sizes_shape, summary_shape, superblocks_shape};
@@ -11,13 +12,13 @@ ghost use Rattle.scrub_args.specs.CommandLine.{with_rules};
 ghost use Rattle.scrub_args.specs.CommandLine.{id_rule, workers_rule};
 
 use crate::help_texts::{
-    ABOUT, ACCEPT_HELP, AFTER_HELP, BAD_PAGES_HELP, DEMO_ABOUT, DEMO_AFTER_HELP, EXTENT_HELP,
-    EXTENTS_HELP, FREE_PAGE_HELP, ID_HELP, IMAGE_HELP, INDEX_ABOUT, INDEX_AFTER_HELP, ITEMS_ABOUT,
-    ITEMS_AFTER_HELP, LAST_HELP, LOCATORS_ABOUT, LOCATORS_AFTER_HELP, MANIFEST_ABOUT,
-    MANIFEST_AFTER_HELP, MAP_HELP, PAGE_HELP, PAGES_HELP, POINTER_HELP, RECLAIMABLE_ABOUT,
-    RECLAIMABLE_AFTER_HELP, RESET_HELP, SCAN_ABOUT, SCAN_AFTER_HELP, SHARD_ABOUT, SHARD_AFTER_HELP,
-    SIZES_ABOUT, SIZES_AFTER_HELP, SUMMARY_ABOUT, SUMMARY_AFTER_HELP, SUPERBLOCKS_ABOUT,
-    SUPERBLOCKS_AFTER_HELP, WORKERS_HELP,
+    ABOUT, ACCEPT_HELP, AFTER_HELP, AFTER_IMAGE_HELP, BAD_PAGES_HELP, BEFORE_HELP, COMPARE_ABOUT,
+    COMPARE_AFTER_HELP, DEMO_ABOUT, DEMO_AFTER_HELP, EXTENT_HELP, EXTENTS_HELP, FREE_PAGE_HELP,
+    ID_HELP, IMAGE_HELP, INDEX_ABOUT, INDEX_AFTER_HELP, ITEMS_ABOUT, ITEMS_AFTER_HELP, LAST_HELP,
+    LOCATORS_ABOUT, LOCATORS_AFTER_HELP, MANIFEST_ABOUT, MANIFEST_AFTER_HELP, MAP_HELP, PAGE_HELP,
+    PAGES_HELP, POINTER_HELP, RECLAIMABLE_ABOUT, RECLAIMABLE_AFTER_HELP, RESET_HELP, SCAN_ABOUT,
+    SCAN_AFTER_HELP, SHARD_ABOUT, SHARD_AFTER_HELP, SIZES_ABOUT, SIZES_AFTER_HELP, SUMMARY_ABOUT,
+    SUMMARY_AFTER_HELP, SUPERBLOCKS_ABOUT, SUPERBLOCKS_AFTER_HELP, WORKERS_HELP,
 };
 use clap::{Arg, ArgAction, Command, value_parser};
 use std::alloc::{AllocError, Global};
@@ -25,7 +26,7 @@ use std::alloc::{AllocError, Global};
 const PROGRAM: &str = "shardscrub";
 
 /// The program's name and version, as a line.
-pub const VERSION: &str = "shardscrub 3.0.0\n";
+pub const VERSION: &str = "shardscrub 3.1.0\n";
 
 /// The command that prints the report of a disk.
 pub const SCAN: &str = "scan";
@@ -47,6 +48,9 @@ pub const SUMMARY: &str = "summary";
 
 /// The command that lists what may be reclaimed on a disk.
 pub const RECLAIMABLE: &str = "reclaimable";
+
+/// The command that compares two images of a disk.
+pub const COMPARE: &str = "compare";
 
 /// The command that lists the superblock records of extent 0.
 pub const SUPERBLOCKS: &str = "superblocks";
@@ -96,6 +100,9 @@ pub const MAP: &str = "map";
 /// The name of the image file.
 pub const IMAGE: &str = "image";
 
+/// The name of the later one of two image files.
+pub const AFTER: &str = "after";
+
 /// The pages to treat as unreadable.
 pub const BAD_PAGES: &str = "bad-pages";
 
@@ -111,6 +118,7 @@ pub fn command_line<'a>(alloc: Global) -> Result<Command<'a>, AllocError>
         .subcommand(looking_command(alloc, LOCATORS, LOCATORS_ABOUT, LOCATORS_AFTER_HELP)?)?
         .subcommand(manifest_command(alloc)?)?
         .subcommand(reclaimable_command(alloc)?)?
+        .subcommand(compare_command(alloc)?)?
         .subcommand(superblocks_command(alloc)?)?
         .subcommand(sizes_command(alloc)?)?
         .subcommand(items_command(alloc)?)?
@@ -264,6 +272,19 @@ fn accept<'a>(alloc: Global) -> Arg<'a>
         .action(ArgAction::Append)
 }
 
+/// The command `compare`, on two images of a disk.
+fn compare_command<'a>(alloc: Global) -> Result<Command<'a>, AllocError>
+    ensures { IfOk result (λ r. shape_of r ≡ compare_shape) }
+{
+    let command = Command::new(alloc, COMPARE)
+        .about(COMPARE_ABOUT)
+        .after_help(COMPARE_AFTER_HELP);
+    let command = with_geometry(alloc, command)?
+        .arg(workers(alloc))?
+        .arg(reset(alloc))?;
+    with_images(alloc, command)
+}
+
 /// The command `superblocks`.
 fn superblocks_command<'a>(alloc: Global) -> Result<Command<'a>, AllocError>
     ensures { IfOk result (λ r. shape_of r ≡ superblocks_shape) }
@@ -352,6 +373,17 @@ fn with_image<'a>(alloc: Global, command: Command<'a>) -> Result<Command<'a>, Al
         .arg(bad_pages(alloc))
 }
 
+/// Adds the map, both images and their unreadable pages. They come after the command's own options.
+fn with_images<'a>(alloc: Global, command: Command<'a>) -> Result<Command<'a>, AllocError>
+    ensures { IfOk result (λ r. app_of r ≡ with_rules (app_of command.entry) images_rules) }
+{
+    command
+        .arg(map(alloc))?
+        .arg(named_image(alloc, IMAGE, "BEFORE", BEFORE_HELP))?
+        .arg(named_image(alloc, AFTER, "AFTER", AFTER_IMAGE_HELP))?
+        .arg(bad_pages(alloc))
+}
+
 /// The option for the map of the rescue that made the image.
 fn map<'a>(alloc: Global) -> Arg<'a>
     ensures rule { rule_of result ≡ map_rule }
@@ -368,9 +400,17 @@ fn image<'a>(alloc: Global) -> Arg<'a>
     ensures rule { rule_of result ≡ image_rule }
     ensures local { result.global ≡ false }
 {
-    Arg::new(alloc, IMAGE)
-        .value_name("IMAGE")
-        .help(IMAGE_HELP)
+    named_image(alloc, IMAGE, "IMAGE", IMAGE_HELP)
+}
+
+/// An argument for an image, which has to be given.
+fn named_image<'a>(alloc: Global, name: &'a str, value: &'a str, help: &'a str) -> Arg<'a>
+    ensures rule { rule_of result ≡ required (arg name.entry.now) }
+    ensures local { result.global ≡ false }
+{
+    Arg::new(alloc, name)
+        .value_name(value)
+        .help(help)
         .required(true)
 }
 

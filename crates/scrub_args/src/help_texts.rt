@@ -336,6 +336,56 @@ Exit status:
 Example, for a disk with 3 extents of 4 pages of 64 bytes:
   shardscrub reclaimable --page 64 --pages 4 --extents 3 examples/one-shard.img";
 
+pub(crate) const COMPARE_ABOUT: &str =
+    "Compares two images of a disk: whether what was written in between lost anything, and extents may be reset";
+
+pub(crate) const COMPARE_AFTER_HELP: &str =
+    "BEFORE is an image whose doubts were settled, AFTER a later one of the same disk, or the same file. The
+map and the pages hold for both. Each reason why it isn't safe has a line, in this order:
+
+  doubt before D, doubt after D   a doubt of reclaimable that can't be accepted: no-superblock, tie,
+                                  superblock-lost PAGE or run-lost K STATE; if there is no superblock
+                                  in an image, no other reasons follow
+  generation BEFORE AFTER         the superblock that counts has a smaller generation in AFTER
+  pointer EXTENT BEFORE AFTER     the write pointer isn't as it was, nor 0 with --reset, nor at or past
+                                  the OFFSET where BEFORE has room, as reclaimable lists it
+  written EXTENT OFFSET           the first byte that was written where nothing may be: in extent 0
+                                  anything but zeros and valid superblocks; in another extent anything
+                                  before the OFFSET of its room, and what isn't zero past its pointer
+  named OWNER EXTENT OFFSET LENGTH UUID STATUS
+                                  a locator of AFTER, as locators lists it, into an extent of --reset
+  lost LINE, new LINE             a line of the manifest of BEFORE that differs in that of AFTER with
+                                  --reset, and what it is there. Lines of one shard and number belong
+                                  together; one of both may be missing
+  spare LINE                      a line of the manifest of BEFORE that would end in none, not spare
+
+The last line is unsafe, or if there is no other line:
+
+  safe BEFORE AFTER               the generations of the superblocks that count
+
+Before a reset safe says that the extents of --reset may be reset, and after it that nothing was lost by
+it. It doesn't say that the pointer is 0 by then: without --reset each pointer that became 0 has a line.
+Compare the last line with the generations that were written: safe 7 8 says, too, that superblock 8
+counts.
+
+These are no reasons: none that became spare, fewer hidden runs, and zeros that were written over bytes
+behind the OFFSET of a room. Nothing can be accepted here: a spare has to be copied, or the node has to
+delete its shard. What was written before BEFORE or after AFTER isn't seen. docs/RECLAIMING.md has all
+steps.
+
+Exit status:
+  0  the last line is safe
+  1  it is unsafe; the text is whole all the same
+  2  the arguments or the map are invalid
+  3  the image or the map cannot be opened, the image is too long, or the output failed
+  4  out of memory
+
+Example, for a disk with 3 extents of 4 pages of 64 bytes:
+  shardscrub compare --page 64 --pages 4 --extents 3 examples/one-shard.img examples/one-shard.img
+
+It prints:
+  safe 1 1";
+
 pub(crate) const SUPERBLOCKS_ABOUT: &str =
     "Lists the superblock records of extent 0, and its pages that may have held one";
 
@@ -489,6 +539,11 @@ pub(crate) const MAP_HELP: &str =
     "Map of GNU ddrescue: pages that it doesn't list as rescued are unreadable";
 
 pub(crate) const IMAGE_HELP: &str = "Raw image of the disk: its extents, one after another";
+
+pub(crate) const BEFORE_HELP: &str = "Raw image of the disk before, with its doubts settled";
+
+pub(crate) const AFTER_IMAGE_HELP: &str =
+    "Raw image of the same disk after; it may be the same file";
 
 pub(crate) const BAD_PAGES_HELP: &str =
     "More pages to treat as unreadable: 1:3 is page 3 of extent 1";

@@ -12,7 +12,8 @@ use Rattle.scrub_cli.specs.declared.process.fault.Fault.TheVariants.{BadPage, No
 use Rattle.scrub_args.specs.declared.args.ImageArgs.{ImageArgs}
 use Rattle.scrub_cli.specs.KnownFiles.{KnownMaps, KnownRaw}
 use Rattle.scrub_args.specs.Pair.{IsPair}
-use Rattle.scrub_cli.specs.Rescue.{AreBlocksOf, IsMapFault, LosesByMap}
+use Rattle.scrub_cli.specs.Rescue.{AreBlocksOf, IsMapFault, IsMapNamed, LosesByMap}
+use Rattle.scrub_cli.specs.declared.commands.disk_image.Losses.{Losses}
 
 -- the argument is a pair of an extent of a disk of these sizes and a page of that extent
 pub record NamesPage (g : Sizes) (arg : List ℕ) (at : ℕ × ℕ) : Type 0 where
@@ -70,3 +71,29 @@ IsDiskFault known maps args g (MapLine k) = IsMapFaultBehind maps args g (MapLin
 IsDiskFault known maps args g (NoImage name) = AreReadBefore maps args g × (name ≡ args.name)
 IsDiskFault known maps args g TooLong = AreReadBefore maps args g × IfSome known.bytes (λ bytes. disk_bytes g < length bytes)
 IsDiskFault known maps args g fault = IsBadPageFault g args.bad_pages.items fault
+
+-- ---- in two steps
+
+-- what is kept of the pages that the arguments name, and of the map, if one is named
+pub record AreLossesKept (maps : KnownMaps) (args : ImageArgs) (g : Sizes) (losses : Losses) : Type 0 where
+  pub named : NamePages g args.bad_pages.items losses.pages.items
+  pub map : IsMapNamed maps args.map losses.map
+
+-- an image of these sizes, loaded from this raw image, with these pages unreadable, and those with a byte that the map lacks
+pub record IsLoadedBy (known : KnownRaw) (g : Sizes) (pages : List (ℕ × ℕ)) (blocks : Option (List MapBlock)) (image : Image) : Type 0 where
+  pub before : Image
+  pub loaded : IsLoadedWith known.bytes known.most_failures g pages before
+  pub rescued : LosesByMap blocks before image
+
+-- why nothing is known of what is lost: a page argument, then the map; or memory ran out
+abbrev pub IsLossesFault : KnownMaps → ImageArgs → Sizes → Fault → Type 0
+IsLossesFault maps args g (NoMap name) = IsMapFaultBehind maps args g (NoMap name)
+IsLossesFault maps args g (MapLine k) = IsMapFaultBehind maps args g (MapLine k)
+IsLossesFault maps args g fault = IsBadPageFault g args.bad_pages.items fault
+
+-- why the image of this name isn't loaded: it can't be opened, or it is too long; or memory ran out
+abbrev pub IsNamedFault : KnownRaw → Bor (List ℕ) → Sizes → Fault → Type 0
+IsNamedFault known name g (NoImage other) = other ≡ name
+IsNamedFault known name g TooLong = IfSome known.bytes (λ bytes. disk_bytes g < length bytes)
+IsNamedFault known name g OutOfMemory = Unit {0}
+IsNamedFault known name g fault = ⊥

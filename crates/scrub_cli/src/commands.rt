@@ -2,6 +2,7 @@
 //! `rescue` reads the map of a rescue, and `answer` makes the answers.
 
 pub(crate) mod answer;
+pub(crate) mod compare;
 pub(crate) mod demo;
 pub(crate) mod disk_image;
 pub(crate) mod geometry;

@@ -5,6 +5,7 @@ ghost use Rattle.scrub_cli.specs.Answer.{IsAnswerOfRun, IsFault, RunWrites, Writ
 ghost use Rattle.scrub_args.specs.Args.{texts};
 
 use crate::commands::answer::{Answer, version};
+use crate::commands::compare::compare;
 use crate::commands::demo::demo;
 use crate::commands::items::items;
 use crate::commands::manifest::manifest;
@@ -40,6 +41,7 @@ fn answer<'a, R: Threads + Wait + Sync, I: Images>(
         Request::Items(args) => items(rt, alloc, &args, images),
         Request::Disk(wanted, args) => Ok(scan(rt, alloc, &args, images, &wanted)?.0),
         Request::Manifest(args) => Ok(manifest(rt, alloc, &args, images)?.0),
+        Request::Compare(args) => Ok(compare(rt, alloc, &args, images)?.0),
         Request::Shard(args) => Ok(shard(rt, alloc, &args, images)?.0),
         Request::Superblocks(args) => superblocks(rt, alloc, &args, images),
         Request::Sizes(args) => sizes(alloc, &args, images),

@@ -72,6 +72,11 @@ pub record HasManifest (found : List Row) : Type 0 where
   pub scan : HasScan found
   pub resets : HasNumbers found (codes "reset")
 
+-- what `clap` found has all that `compare` needs
+pub record HasCompare (found : List Row) : Type 0 where
+  pub before : HasManifest found
+  pub after : HasText found (codes "after")
+
 -- what `clap` found has all that `shard` needs
 pub record HasShard (found : List Row) : Type 0 where
   pub scan : HasScan found
@@ -83,7 +88,7 @@ pub record HasItems (found : List Row) : Type 0 where
   pub extent : HasNumber found (codes "extent")
   pub pointer : (one_of (codes "pointer") found ≡ None) ⊎ HasNumber found (codes "pointer")
 
--- whether the command is one on the whole disk, other than `manifest` and `shard`
+-- whether the command is one on the whole disk, other than `manifest`, `compare` and `shard`
 abbrev pub is_disk_command : Text → Bool
 is_disk_command name =
     bytes_eq name (codes "scan") || (bytes_eq name (codes "index")
@@ -99,23 +104,25 @@ abbrev pub IsWantedBy : Text → List Row → Wanted → Type 0
 IsWantedBy name found wanted = (name ≡ command_of wanted) × IsWantedWith found wanted
 
 -- what a command needs, by the first of these that it is: one to which the generation of the last superblock can be given, another one on
--- the whole disk, `manifest`, `shard`, `superblocks`, `sizes`, `items`, `demo`
-abbrev pub HasNeeds : (dated disk manifest shard superblocks sizes items demo : Bool) → List Row → Type 0
-HasNeeds true disk manifest shard superblocks sizes items demo found = HasDated found
-HasNeeds false true manifest shard superblocks sizes items demo found = HasScan found
-HasNeeds false false true shard superblocks sizes items demo found = HasManifest found
-HasNeeds false false false true superblocks sizes items demo found = HasShard found
-HasNeeds false false false false true sizes items demo found = HasImage found
-HasNeeds false false false false false true items demo found = HasImageName found
-HasNeeds false false false false false false true demo found = HasItems found
-HasNeeds false false false false false false false true found = Unit {0}
-HasNeeds false false false false false false false false found = ⊥
+-- the whole disk, `manifest`, `compare`, `shard`, `superblocks`, `sizes`, `items`, `demo`
+abbrev pub HasNeeds : (dated disk manifest compare shard superblocks sizes items demo : Bool) → List Row → Type 0
+HasNeeds true disk manifest compare shard superblocks sizes items demo found = HasDated found
+HasNeeds false true manifest compare shard superblocks sizes items demo found = HasScan found
+HasNeeds false false true compare shard superblocks sizes items demo found = HasManifest found
+HasNeeds false false false true shard superblocks sizes items demo found = HasCompare found
+HasNeeds false false false false true superblocks sizes items demo found = HasShard found
+HasNeeds false false false false false true sizes items demo found = HasImage found
+HasNeeds false false false false false false true items demo found = HasImageName found
+HasNeeds false false false false false false false true demo found = HasItems found
+HasNeeds false false false false false false false false true found = Unit {0}
+HasNeeds false false false false false false false false false found = ⊥
 
 -- the command is one of the program's, and has all that it needs
 abbrev pub IsWholeCommand : Text → List Row → Type 0
 IsWholeCommand name found =
-    HasNeeds (is_dated_command name) (is_disk_command name) (bytes_eq name (codes "manifest")) (bytes_eq name (codes "shard"))
-    (bytes_eq name (codes "superblocks")) (bytes_eq name (codes "sizes")) (bytes_eq name (codes "items")) (bytes_eq name (codes "demo")) found
+    HasNeeds (is_dated_command name) (is_disk_command name) (bytes_eq name (codes "manifest")) (bytes_eq name (codes "compare"))
+    (bytes_eq name (codes "shard")) (bytes_eq name (codes "superblocks")) (bytes_eq name (codes "sizes")) (bytes_eq name (codes "items"))
+    (bytes_eq name (codes "demo")) found
 
 -- if a command was found, it is one of the program's, and has all that it needs
 abbrev pub IsWholeParse : Option (Text × List Row) → Type 0

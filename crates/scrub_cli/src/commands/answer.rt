@@ -37,7 +37,7 @@ pub struct Answer {
 
 impl Answer {
     /// The answer with this text, which is clean or has findings.
-    fn new(text: Vec<u8>, is_clean: bool) -> Answer
+    pub fn new(text: Vec<u8>, is_clean: bool) -> Answer
         ensures text { result.text.items ≡ text.items }
         ensures outcome { result.outcome ≡ outcome_of is_clean }
     {

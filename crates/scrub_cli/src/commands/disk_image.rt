@@ -1,15 +1,19 @@
 //! Loading the disk in an image file, with the unreadable pages that the arguments name. The commands check
 //! the sizes; for the map of a rescue see `rescue`.
 
-ghost use Rattle.std.specs.Prelude.{ℕ, ◌<◌, ◌≤◌, MatchOption, MatchResult};
+ghost use Rattle.std.specs.Prelude.{ℕ, ◌≡◌, ◌<◌, ◌≤◌, All, List, MatchOption, MatchResult, Option};
 ghost use Rattle.scrub_disk.specs.Parted.{image_of};
+ghost use Rattle.scrub_map.specs.declared.block.MapBlock.{MapBlock};
+ghost use Rattle.scrub_cli.specs.Rescue.{KeepsMap};
 ghost use Rattle.scrub_cli.specs.DiskImage.{NamesPage, NamePages, IsBadPageFault, IsLoadedDisk, IsDiskFault};
+ghost use Rattle.scrub_cli.specs.DiskImage.{AreLossesKept, IsLoadedBy, IsLossesFault, IsNamedFault};
 
 use crate::commands::rescue::{apply_map, rescue_map};
 use crate::process::fault::Fault;
 use crate::process::images::Images;
 use scrub_args::{ImageArgs, bad_page};
 use scrub_disk::{Geometry, PartedDisk, load_in_parts};
+use scrub_map::RescueMap;
 use std::alloc::Global;
 use std::thread::{Threads, available_parallelism};
 
@@ -66,6 +70,35 @@ fn bad_pages<'a>(
     Ok(pages)
 }
 
+/// What is lost of an image: the pages that arguments name as unreadable, and what the map of the rescue
+/// lacks, if one is named.
+#[derive(Drop)]
+pub struct Losses {
+    /// The extents and numbers of the pages.
+    pub pages: Vec<(u32, u32)>,
+    /// The map.
+    pub map: Option<RescueMap>,
+}
+
+/// What is lost of the images that the arguments name. Faults, in this order: the first argument for an
+/// unreadable page that names none, a map that can't be opened, and its first line that breaks the rules.
+pub fn losses_of<'a, I: Images>(
+    alloc: Global,
+    geometry: Geometry,
+    args: &ImageArgs<'a>,
+    images: &mut I,
+) -> Result<Losses, Fault<'a>>
+    ensures losses { MatchResult result
+        (λ l. AreLossesKept (I.known_map images.old) args.now geometry l)
+        (IsLossesFault (I.known_map images.old) args.now geometry) }
+    ensures same_images { I.known images.new ≡ I.known images.old }
+    ensures same_maps { I.known_map images.new ≡ I.known_map images.old }
+{
+    let pages = bad_pages(alloc, geometry, &args.bad_pages)?;
+    let map = rescue_map(alloc, args.map, images)?;
+    Ok(Losses { pages, map })
+}
+
 /// The disk of these sizes that the arguments name. Faults, in this order: the first argument for an
 /// unreadable page that names none, a map that can't be opened, the map's first line that breaks the rules,
 /// an image that can't be opened, and an image that is too long. Each reader of the image has a thread of its
@@ -82,11 +115,32 @@ pub fn load_disk<'a, R: Threads + Sync, I: Images>(
         geometry (image_of disk))
         (IsDiskFault (I.known images.old args.now.name.now) (I.known_map images.old) args.now geometry) }
 {
-    let bad = bad_pages(alloc, geometry, &args.bad_pages)?;
-    let map = rescue_map(alloc, args.map, images)?;
-    let Some(readers) = images.readers(alloc, args.name, reader_count(rt, geometry))? else {
-        return Err(Fault::NoImage(args.name));
+    let losses = losses_of(alloc, geometry, args, images)?;
+    load_named(rt, alloc, geometry, args.name, &losses, images)
+}
+
+/// The disk of these sizes in the image of this name, without what is lost. Faults, in this order: an image
+/// that can't be opened, and one that is too long. Each reader of the image has a thread of its own.
+pub fn load_named<'a, R: Threads + Sync, I: Images>(
+    rt: &R,
+    alloc: Global,
+    geometry: Geometry,
+    name: &'a str,
+    losses: &Losses,
+    images: &mut I,
+) -> Result<PartedDisk, Fault<'a>>
+    requires pages { All (λ at. (at.0 < geometry.extents) × (at.1 < geometry.pages)) losses.now.pages.items }
+    requires map { (blocks : Option (List MapBlock)) × KeepsMap losses.now.map blocks }
+    ensures disk { MatchResult result
+        (λ disk. (blocks : Option (List MapBlock)) → KeepsMap losses.now.map blocks →
+        IsLoadedBy (I.known images.old name.entry.now) geometry losses.now.pages.items blocks (image_of disk))
+        (IsNamedFault (I.known images.old name.entry.now) name.entry geometry) }
+    ensures same_images { I.known images.new ≡ I.known images.old }
+    ensures same_maps { I.known_map images.new ≡ I.known_map images.old }
+{
+    let Some(readers) = images.readers(alloc, name, reader_count(rt, geometry))? else {
+        return Err(Fault::NoImage(name));
     };
-    let disk = load_in_parts(rt, alloc, readers, geometry, &bad)?;
-    Ok(apply_map(alloc, disk, &map)?)
+    let disk = load_in_parts(rt, alloc, readers, geometry, &losses.pages)?;
+    Ok(apply_map(alloc, disk, &losses.map)?)
 }

@@ -19,7 +19,7 @@ use std::thread::Threads;
 
 /// Whether a disk of these sizes has each of these extents, and extent 0, which has the superblocks, is none
 /// of them.
-fn may_all_be_reset(geometry: Geometry, extents: &[u32]) -> bool
+pub fn may_all_be_reset(geometry: Geometry, extents: &[u32]) -> bool
     ensures { result ≡ may_all_be_reset geometry extents.now }
 {
     extents

@@ -52,6 +52,8 @@ pub trait Images {
         ensures bounded { IfOk result (λ r. IfSome r (λ readers.
             sum_by (λ image. Self.Image.most_failures image) readers.items ≤
             (known self.old name.now).most_failures)) }
+        ensures same_images { known self.new ≡ known self.old }
+        ensures same_maps { known_map self.new ≡ known_map self.old }
         ensures unread { IfOk result (λ r. IfSome r
             (λ readers. All (λ image. Self.Image.reads image ≡ 0) readers.items)) };
 

@@ -2,7 +2,7 @@
 use Rattle.std.proofs.Common.{◌∙◌}
 use Rattle.std.proofs.lemmas.Result.{err_from_is_err_and}
 use Rattle.clap.specs.Words.{found_of, rows_of, subcommand_rows_of}
-use Rattle.scrub_args.proofs.ArgsFound.{disk_of_whole, found_command, image_of_whole, items_of_whole, last_of_whole, manifest_of_whole, name_of_whole, part_fault_of_rows, shard_of_whole, twice}
+use Rattle.scrub_args.proofs.ArgsFound.{compare_of_whole, disk_of_whole, found_command, image_of_whole, items_of_whole, last_of_whole, manifest_of_whole, name_of_whole, part_fault_of_rows, shard_of_whole, twice}
 use Rattle.scrub_args.proofs.args.request_of.Goals as goal
 
 pub items_args-requires : goal.items_args-requires
@@ -18,6 +18,13 @@ manifest_args-requires c =
     manifest_of_whole (subcommand_rows_of c.args.matches.now) met.field-0-0.now (rows_of (found_of met.matches.now)) c.requires
     (met.ensures.name ∙ twice (λ p. p.0) _ _)
     met.ensures.rows met.is-manifest
+
+pub compare_args-requires : goal.compare_args-requires
+compare_args-requires c =
+    let met = c.in-Some-compare-default in
+    compare_of_whole (subcommand_rows_of c.args.matches.now) met.field-0-0.now (rows_of (found_of met.matches.now)) c.requires
+    (met.ensures.name ∙ twice (λ p. p.0) _ _)
+    met.ensures.rows met.is-compare
 
 pub shard_args-requires : goal.shard_args-requires
 shard_args-requires c =

@@ -1,7 +1,7 @@
 -- The answer or the fault of a request is that of the arguments that ask for it.
 use Rattle.std.proofs.Common.{rules}
 use Rattle.scrub_args.specs.Args.{NameCommand, texts}
-use Rattle.scrub_args.specs.declared.args.Request.TheVariants.{Items, Disk, Manifest, Shard, Superblocks, Sizes}
+use Rattle.scrub_args.specs.declared.args.Request.TheVariants.{Items, Disk, Manifest, Compare, Shard, Superblocks, Sizes}
 use Rattle.scrub_cli.proofs.RunAnswers.{answered}
 use Rattle.scrub_args.proofs.ArgsFound.{few_workers}
 use Rattle.scrub_cli.proofs.running.answer.Goals as goal
@@ -31,6 +31,13 @@ manifest-requires g c =
     let asked : NameCommand (texts c.args.args.now) (Manifest c.in-Manifest.args) = rw (c.in-Some.is, c.in-Manifest.is) at c.in_ok-request.ensures in (
       search rules,
       (search rules, (few_workers asked.1.0 c.in-Manifest.args.scan.workers asked.1.2.scan.workers, asked.1.2.resets.rising)),
+    )
+
+pub compare-requires : goal.compare-requires
+compare-requires g c =
+    let asked : NameCommand (texts c.args.args.now) (Compare c.in-Compare.args) = rw (c.in-Some.is, c.in-Compare.is) at c.in_ok-request.ensures in (
+      search rules,
+      (search rules, (few_workers asked.1.0 c.in-Compare.args.before.scan.workers asked.1.2.before.scan.workers, asked.1.2.before.resets.rising)),
     )
 
 pub shard-requires : goal.shard-requires

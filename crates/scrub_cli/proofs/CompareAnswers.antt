@@ -1,0 +1,41 @@
+-- Why `compare` gives no answer, from what its parts give.
+use Rattle.std.proofs.Common.{ℕ, List, inl, inr}
+use Rattle.scrub_disk.specs.declared.geometry.Geometry.{Geometry as Sizes}
+use Rattle.scrub_cli.specs.declared.process.fault.Fault.{Fault}
+use Rattle.scrub_args.specs.declared.args.CompareArgs.{CompareArgs}
+use Rattle.scrub_cli.specs.Compare.{IsCompareFault, IsEarlierLoaded}
+use Rattle.scrub_cli.specs.DiskImage.{AreReadBefore, IsLossesFault, IsNamedFault}
+use Rattle.scrub_cli.specs.DiskGeometry.{IsGeometryFault}
+use Rattle.scrub_cli.specs.KnownFiles.{KnownMaps, KnownRaw}
+use Rattle.scrub_cli.specs.Manifest.{MayBeReset}
+use Rattle.scrub_cli.proofs.DiskAnswers.{of_losses_fault, of_named_fault}
+use Rattle.scrub_cli.proofs.ScanAnswers.{of_geometry_fault}
+
+module _ (known : List ℕ → KnownRaw) (maps : KnownMaps) (args : CompareArgs) where
+  -- a fault of the sizes is one of `compare`
+  pub compare_geometry_fault : (fault : Fault) →
+      IsGeometryFault (known args.before.scan.image.name.now) maps args.before.scan.image fault → IsCompareFault known maps args fault
+  compare_geometry_fault fault =
+      of_geometry_fault (IsCompareFault known maps args) (known args.before.scan.image.name.now) maps args.before.scan.image
+      (λ limit is. is) (λ is. is) (λ name is. inl is) (λ k is. inl is) (λ name is. inl (inl is)) tt fault
+
+  module _ (g : Sizes) (places : MayBeReset (known args.before.scan.image.name.now) maps args.before g) where
+    -- so is one of what is lost
+    pub compare_losses_fault : (fault : Fault) → IsLossesFault maps args.before.scan.image g fault → IsCompareFault known maps args fault
+    compare_losses_fault fault =
+        of_losses_fault (IsCompareFault known maps args) maps args.before.scan.image g (λ arg is. (g, places, is))
+        (λ name is. inr (g, places, is)) (λ k is. inr (g, places, is)) tt fault
+
+    -- one of the earlier image
+    pub compare_before_fault : (fault : Fault) → AreReadBefore maps args.before.scan.image g →
+        IsNamedFault (known args.before.scan.image.name.now) args.before.scan.image.name g fault → IsCompareFault known maps args fault
+    compare_before_fault fault before =
+        of_named_fault (IsCompareFault known maps args) (known args.before.scan.image.name.now) args.before.scan.image.name g
+        (λ other same. inl (inr (g, places, (before, same)))) (λ long. inl (g, places, (before, long))) tt fault
+
+    -- and one of the later image, if the earlier one was loaded
+    pub compare_after_fault : (fault : Fault) → IsEarlierLoaded known maps args g →
+        IsNamedFault (known args.after.now) args.after g fault → IsCompareFault known maps args fault
+    compare_after_fault fault earlier =
+        of_named_fault (IsCompareFault known maps args) (known args.after.now) args.after g (λ other same. inr (g, earlier, same))
+        (λ long. inr (g, earlier, long)) tt fault

@@ -1,0 +1,304 @@
+-- The manifest that a reset leaves is that of the earlier image, but that fewer runs may be hidden and `none` may be `spare`.
+use Rattle.std.proofs.Common.{◌≡◌, ◌<◌, ◌≤◌, ◌+◌, ◌==◌, ◌&&◌, ◌++◌, ◌∷◌, [], ℕ, suc, Bool, true, false, not, nat_lt, List, Option, Some, None, MatchOption, codes, length, get_or, map, arith, refl, sym, ◌∙◌, ap, subst, inl, inr, option_map}
+use Rattle.std.specs.List.{All, AllPairs, AllZip, Contains, enumerate_from, filter, flat_map, slice_get}
+use Rattle.std.proofs.lemmas.Bool.{and_parts, eqb-true, false≢true, ltb-false}
+use Rattle.std.proofs.lemmas.Grind.{flat_map-append}
+use Rattle.std.proofs.lemmas.List.{get_or-map, length-append, length-map}
+use Rattle.std.proofs.lemmas.List.Elements.{All-contains, All-contains_itself}
+use Rattle.std.proofs.lemmas.List.Folds.{flat_map-map}
+use Rattle.std.proofs.Math.Path.{fun_ext}
+use Rattle.std.proofs.lemmas.Option.{none-some, same_Some}
+use Rattle.scrub_disk.specs.Image.{Image}
+use Rattle.scrub_super.specs.Chosen.{Choice}
+use Rattle.scrub_super.specs.Contents.{Contents}
+use Rattle.scrub_super.specs.Plan.{IsPlanBy, IsPlanOf, IsPlanWithout, PlanValue}
+use Rattle.scrub_super.proofs.Laws.{one_choice_lem}
+use Rattle.scrub_run.specs.declared.shard_id.ShardId.{ShardId}
+use Rattle.scrub_run.specs.Entry.{IsBelow}
+use Rattle.scrub_merge.specs.Binding.{BindingValue}
+use Rattle.scrub_merge.proofs.Elements.{Contains-behind, Contains-cases}
+use Rattle.scrub_check.specs.declared.statuses.checked.Checked.{Checked}
+use Rattle.scrub_check.specs.Checked.{named_of}
+use Rattle.scrub_check.specs.Named.{named_by_shard}
+use Rattle.scrub_report.specs.Scrubbed.{Scrubbed, IsScrubbedBut}
+use Rattle.scrub_report.proofs.OneReport.{one_scrub}
+use Rattle.scrub_report.proofs.ResetPlans.{plan_before}
+use Rattle.scrub_listings.specs.Manifest.{IsManifest, after_status_in, hidden_runs, lost_runs, manifest_text, numbered_line, of_shards, retired_line, runs_line, shard_lines, text_by, total_line}
+use Rattle.scrub_listings.proofs.ShardLines.{along_runs, shards_part}
+use Rattle.scrub_reclaim.specs.Copy.{IsSameOrSpared}
+use Rattle.scrub_reclaim.specs.Reset.{IsForeseen}
+use Rattle.scrub_reclaim.proofs.Reset.{as_foreseen}
+use Rattle.scrub_compare.specs.Compare.{AreCompared, Compared, IsBound, are_alike, both_of, generation_of, lost_line, new_line, owned_by, retired_change, row_in, runs_change, shard_change, shard_changes}
+use Rattle.scrub_compare.specs.Laws.{IsSafe, IsSameButMore}
+use Rattle.scrub_compare.proofs.BoundIds.{one_rising}
+use Rattle.scrub_compare.proofs.Kept.{alike_at, lines_of, same_length, zip_lines}
+use Rattle.scrub_compare.proofs.RunsRead.{no_run_lost}
+use Rattle.scrub_compare.proofs.Safe.{HasNoLine, all_none, both_none, no_line, passed, same_retired}
+use Rattle.scrub_compare.proofs.Totals.{each_size, owned_size, owner_bound, owns, shards_size, totals_alike}
+
+-- ---- lists of parts
+
+zip_append : {X Y : Type 0} (R : X → Y → Type 0) (xs us : List X) (ys vs : List Y) → AllZip R xs ys → AllZip R us vs → AllZip R (xs ++ us) (ys ++ vs)
+zip_append R [] us [] vs one other = other
+zip_append R [] us (y ∷ ys) vs one other = absurd one
+zip_append R (x ∷ xs) us [] vs one other = absurd one
+zip_append R (x ∷ xs) us (y ∷ ys) vs one other = (one.0, zip_append R xs us ys vs one.1 other)
+
+zip_parts : {X Y I : Type 0} (R : X → Y → Type 0) (f : I → List X) (g : I → List Y) (is : List I) → All (λ (i : I). AllZip R (f i) (g i)) is →
+    AllZip R (flat_map f is) (flat_map g is)
+zip_parts R f g [] all = tt
+zip_parts {I = I} R f g (i ∷ is) all =
+    zip_append R (f i) (flat_map f is) (g i) (flat_map g is) (all 0 i (omega arith))
+    (zip_parts R f g is (λ k d below. all (suc k) d (omega (arith, below))))
+
+flat_flat : {X I : Type 0} (f : I → List (List X)) (is : List I) → flat_map (λ part. part) (flat_map f is) ≡ flat_map (λ i. flat_map (λ part. part) (f i)) is
+flat_flat f [] = refl
+flat_flat {X} f (i ∷ is) =
+    flat_map-append (λ (part : List X). part) (f i) (flat_map f is)
+    ∙ ap (λ (u : List X). flat_map (λ (part : List X). part) (f i) ++ u) (flat_flat f is)
+
+-- ---- one disk
+
+module _ (resets : List ℕ) (image : Image) (s : Scrubbed) (x : IsScrubbedBut resets image s) where
+  along : map named_of (of_shards s.checked) ≡ flat_map named_by_shard s.bindings
+  along =
+      ap (map named_of) (shards_part s.plan.runs s.bindings s.checked x.checked.same)
+      ∙ along_runs s.plan.runs s.bindings s.checked x.checked.same
+
+  rising : AllPairs (λ b c. IsBelow b.id c.id) s.bindings
+  rising = x.bindings.bindings_of_map.rising
+
+  abbrev size : ShardId → ℕ
+  size id = length (owned_by id (of_shards s.checked))
+
+  -- a shard is bound exactly if it names a locator
+  bound_some : (id : ShardId) → IsBound s.bindings id → 0 < size id
+  bound_some id there = by (bound_at s.bindings id there)
+    where
+      bound_at : (bs : List BindingValue) (i : ShardId) → IsBound bs i → (b : BindingValue) × Contains bs b × (b.id ≡ i)
+      bound_at [] i at = absurd (omega (arith, at.1))
+      bound_at (b ∷ bs) i at = elim (Contains-cases b.id (map (λ v. v.id) bs) i at) [
+        | inl here ↦ (b, (0, omega arith, refl), here)
+        | inr later ↦ let m = bound_at bs i later in (m.0, Contains-behind b bs m.0 m.1, m.2)
+      ]
+
+      by : (b : BindingValue) × Contains s.bindings b × (b.id ≡ id) → 0 < size id
+      by (b, there, is) =
+          let own : length (owned_by b.id (of_shards s.checked)) ≡ length b.locators =
+          All-contains (λ (v : BindingValue). length (owned_by v.id (of_shards s.checked)) ≡ length v.locators) s.bindings b (each_size (of_shards s.checked) s.bindings along rising) there in
+          let some : 0 < length b.locators = All-contains (λ (v : BindingValue). 0 < length v.locators) s.bindings b x.bindings.bindings_of_map.bound there in
+          let at : size b.id ≡ size id = ap size is in
+          omega (arith, own, some, at)
+
+  some_bound : (id : ShardId) → 0 < size id → IsBound s.bindings id
+  some_bound id some =
+      let same : size id ≡ length (filter (owns id) (flat_map named_by_shard s.bindings)) = owned_size (of_shards s.checked) s.bindings along id in
+      owner_bound s.bindings id (omega (arith, some, same))
+
+  -- the identifiers of the bindings rise
+  ids_rise : AllPairs IsBelow (map (λ b. b.id) s.bindings)
+  ids_rise i j d order below =
+      let long : length (map (λ (b : BindingValue). b.id) s.bindings) ≡ length s.bindings = length-map s.bindings (λ (b : BindingValue). b.id) in
+      let e : BindingValue = record { id = d; locators = []; run = 0; doubtful = false } in
+      subst (λ (a : ShardId). IsBelow a (get_or (map (λ (b : BindingValue). b.id) s.bindings) j d)) (sym (get_or-map (λ (b : BindingValue). b.id) s.bindings i e d (omega (arith, order, below, long))))
+      (subst (λ (a : ShardId). IsBelow (get_or s.bindings i e).id a) (sym (get_or-map (λ (b : BindingValue). b.id) s.bindings j e d (omega (arith, below, long))))
+      (rising i j e order (omega (arith, below, long))))
+
+  -- the lines of all shards by their identifiers
+  lines_by_ids : (ids : List ShardId) → map (λ b. b.id) s.bindings ≡ ids →
+      flat_map (λ b. shard_lines (after_status_in s.all) (of_shards s.checked) b.id) s.bindings
+      ≡ flat_map (λ part. part) (flat_map (λ id. lines_of s 0 (owned_by id (of_shards s.checked))) ids)
+  lines_by_ids ids same =
+      sym (flat_map-map (shard_lines (after_status_in s.all) (of_shards s.checked)) (λ (b : BindingValue). b.id) s.bindings)
+      ∙ ap (flat_map (shard_lines (after_status_in s.all) (of_shards s.checked))) same
+      ∙ ap (λ (lines : ShardId → List ℕ). flat_map lines ids)
+      (fun_ext (λ id. sym (flat_map-map (λ (part : List ℕ). part) (λ (p : ℕ × Checked). numbered_line (after_status_in s.all) p.0 p.1) (enumerate_from 0 (owned_by id (of_shards s.checked))))))
+      ∙ sym (flat_flat (λ (id : ShardId). lines_of s 0 (owned_by id (of_shards s.checked))) ids)
+
+-- a superblock counts where a generation is known
+has_superblock : (choice : Choice) (plan : PlanValue) (n : ℕ) → IsPlanOf choice plan → generation_of choice ≡ Some n → plan.has_superblock ≡ true
+has_superblock choice plan n is some = by choice.superblock is.by some
+  where
+    by : (o : Option Contents) → MatchOption o (IsPlanWithout plan choice.geometry) (IsPlanBy plan) → option_map (λ c. c.generation) o ≡ Some n →
+        plan.has_superblock ≡ true
+    by None without e = absurd (none-some n e)
+    by (Some c) is e = is.has
+
+-- ---- two disks
+
+-- on two disks a superblock counts, the same extents are retired, no run is lost, no more are hidden, and the same shards are
+-- bound, whose lines are the same but for `none` that became `spare`
+pub record AreKept (s t : Scrubbed) : Type 0 where
+  pub has : s.plan.has_superblock ≡ true
+  pub has_now : t.plan.has_superblock ≡ true
+  pub retired : t.plan.retired ≡ s.plan.retired
+  pub read : lost_runs s ≡ 0
+  pub read_now : lost_runs t ≡ 0
+  pub fewer : hidden_runs t ≤ hidden_runs s
+  pub ids : map (λ b. b.id) s.bindings ≡ map (λ b. b.id) t.bindings
+  pub sizes : (id : ShardId) → IsBound s.bindings id →
+      length (owned_by id (of_shards s.checked)) ≡ length (owned_by id (of_shards t.checked))
+  pub alike : (id : ShardId) → IsBound s.bindings id → (n : ℕ) (c d : Checked) → slice_get (owned_by id (of_shards s.checked)) n ≡ Some c →
+      slice_get (owned_by id (of_shards t.checked)) n ≡ Some d → are_alike (row_in s n c) (row_in t n d) ≡ true
+
+-- so their manifests are
+module _ (resets others : List ℕ) (image other : Image) (s t : Scrubbed) (x : IsScrubbedBut resets image s) (y : IsScrubbedBut others other t)
+    (k : AreKept s t) where
+  abbrev ids : List ShardId
+  ids = map (λ b. b.id) s.bindings
+
+  abbrev parts : List (List ℕ)
+  parts = flat_map (λ id. lines_of s 0 (owned_by id (of_shards s.checked))) ids
+
+  abbrev parts_now : List (List ℕ)
+  parts_now = flat_map (λ id. lines_of t 0 (owned_by id (of_shards t.checked))) ids
+
+  zipped : AllZip IsSameOrSpared parts parts_now
+  zipped =
+      zip_parts IsSameOrSpared (λ id. lines_of s 0 (owned_by id (of_shards s.checked))) (λ id. lines_of t 0 (owned_by id (of_shards t.checked))) ids
+      (λ i d below.
+      let id : ShardId = get_or ids i d in
+      let there : Contains ids id = All-contains_itself ids i d below in
+      zip_lines s t 0 (owned_by id (of_shards s.checked)) (owned_by id (of_shards t.checked)) (k.sizes id there)
+      (λ n v w was is. subst (λ (m : ℕ). are_alike (row_in s m v) (row_in t m w) ≡ true) (let e : n ≡ 0 + n = omega arith in e) (k.alike id there n v w was is)))
+
+  bindings_count : length t.bindings ≡ length s.bindings
+  bindings_count =
+      let long : length (map (λ (b : BindingValue). b.id) s.bindings) ≡ length (map (λ (b : BindingValue). b.id) t.bindings) = ap (λ (is : List ShardId). length is) k.ids in
+      omega (arith, long, length-map s.bindings (λ (b : BindingValue). b.id), length-map t.bindings (λ (b : BindingValue). b.id))
+
+  locators_count : length (of_shards t.checked) ≡ length (of_shards s.checked)
+  locators_count =
+      sym
+      (shards_size (of_shards s.checked) s.bindings (along resets image s x)
+      ∙ totals_alike (size resets image s x) s.bindings t.bindings k.ids
+      (each_size (of_shards s.checked) s.bindings (along resets image s x) (rising resets image s x))
+      (λ i d below. k.sizes (get_or t.bindings i d).id (among i d below) ∙ each_size (of_shards t.checked) t.bindings (along others other t y) (rising others other t y) i d below)
+      ∙ sym (shards_size (of_shards t.checked) t.bindings (along others other t y)))
+    where
+      among : (i : ℕ) (d : BindingValue) → i < length t.bindings → IsBound s.bindings (get_or t.bindings i d).id
+      among i d below =
+          subst (λ (is : List ShardId). Contains is (get_or t.bindings i d).id) (sym k.ids)
+          (i, omega (arith, below, length-map t.bindings (λ (b : BindingValue). b.id)), get_or-map (λ (b : BindingValue). b.id) t.bindings i d (get_or t.bindings i d).id below)
+
+  pub kept_text : IsSameButMore (manifest_text s) (manifest_text t)
+  kept_text = record {
+    retired = s.plan.retired;
+    hidden = hidden_runs s;
+    hidden_now = hidden_runs t;
+    shards = length s.bindings;
+    locators = length (of_shards s.checked);
+    parts = parts;
+    others = parts_now;
+    fewer = k.fewer;
+    each = zipped;
+    a_is =
+        ap (λ (b : Bool). text_by (after_status_in s.all) b s.plan.retired (lost_runs s) (hidden_runs s) s.bindings (of_shards s.checked)) k.has
+        ∙ ap (λ (u : List ℕ). retired_line s.plan.retired ++ runs_line (lost_runs s) (hidden_runs s) ++ u ++ total_line (length s.bindings) (length (of_shards s.checked))) (lines_by_ids resets image s x ids refl)
+        ∙ ap (λ (n : ℕ). retired_line s.plan.retired ++ runs_line n (hidden_runs s) ++ flat_map (λ part. part) parts ++ total_line (length s.bindings) (length (of_shards s.checked))) k.read;
+    b_is =
+        ap (λ (b : Bool). text_by (after_status_in t.all) b t.plan.retired (lost_runs t) (hidden_runs t) t.bindings (of_shards t.checked)) k.has_now
+        ∙ ap (λ (u : List ℕ). retired_line t.plan.retired ++ runs_line (lost_runs t) (hidden_runs t) ++ u ++ total_line (length t.bindings) (length (of_shards t.checked))) (lines_by_ids others other t y ids (sym k.ids))
+        ∙ (λ i. retired_line (k.retired i) ++ runs_line (k.read_now i) (hidden_runs t) ++ flat_map (λ part. part) parts_now ++ total_line (bindings_count i) (locators_count i));
+  }
+
+-- ---- what is safe
+
+module _ (resets : List ℕ) (before after : Image) (c : Compared) (are : AreCompared resets before after c) (none : HasNoLine resets c) where
+  abbrev shards : List Checked
+  shards = of_shards c.found.checked
+
+  abbrev shards_now : List Checked
+  shards_now = of_shards c.kept.checked
+
+  no_changes : (runs_change (lost_runs c.found) (hidden_runs c.found) (lost_runs c.kept) (hidden_runs c.kept) ≡ [])
+      × (shard_changes (row_in c.found) (row_in c.kept) shards shards_now c.ids ≡ [])
+  no_changes =
+      let front = both_none (retired_change c.found.plan.retired c.kept.plan.retired ++ runs_change (lost_runs c.found) (hidden_runs c.found) (lost_runs c.kept) (hidden_runs c.kept)) (shard_changes (row_in c.found) (row_in c.kept) shards shards_now c.ids) none.manifest in
+      let first = both_none (retired_change c.found.plan.retired c.kept.plan.retired) (runs_change (lost_runs c.found) (hidden_runs c.found) (lost_runs c.kept) (hidden_runs c.kept)) front.0 in
+      (first.1, front.1)
+
+  not_true : (b : Bool) → not b ≡ true → b ≡ false
+  not_true true e = absurd (false≢true e)
+  not_true false e = refl
+
+  counts : (lost_runs c.kept ≡ lost_runs c.found) × (hidden_runs c.kept ≤ hidden_runs c.found)
+  counts =
+      let word = lost_line (runs_line (lost_runs c.found) (hidden_runs c.found)) in
+      let both = passed ((lost_runs c.kept == lost_runs c.found) && not (nat_lt (hidden_runs c.found) (hidden_runs c.kept))) word (new_line (runs_line (lost_runs c.kept) (hidden_runs c.kept))) (omega (arith, length-append (codes "lost ") (runs_line (lost_runs c.found) (hidden_runs c.found)))) no_changes.0 in
+      let parts = and_parts (lost_runs c.kept == lost_runs c.found) (not (nat_lt (hidden_runs c.found) (hidden_runs c.kept))) both in (
+        eqb-true (lost_runs c.kept) (lost_runs c.found) parts.0,
+        ltb-false (hidden_runs c.found) (hidden_runs c.kept) (not_true (nat_lt (hidden_runs c.found) (hidden_runs c.kept)) parts.1),
+      )
+
+  unchanged : (id : ShardId) → Contains c.ids id → shard_change (row_in c.found) (row_in c.kept) (owned_by id shards) (owned_by id shards_now) ≡ []
+  unchanged id there =
+      All-contains (λ (i : ShardId). shard_change (row_in c.found) (row_in c.kept) (owned_by i shards) (owned_by i shards_now) ≡ []) c.ids id
+      (all_none (λ (i : ShardId). shard_change (row_in c.found) (row_in c.kept) (owned_by i shards) (owned_by i shards_now)) c.ids no_changes.1) there
+
+  sizes_same : (id : ShardId) → Contains c.ids id → size [] before c.found are.found id ≡ size resets after c.kept are.kept id
+  sizes_same id there = same_length (row_in c.found) (row_in c.kept) (owned_by id shards) (owned_by id shards_now) (unchanged id there)
+
+  -- the same shards are bound
+  old_ids : map (λ b. b.id) c.found.bindings ≡ c.ids
+  old_ids =
+      one_rising (map (λ b. b.id) c.found.bindings) c.ids (ids_rise [] before c.found are.found) are.ids.rising
+      (λ id there. (are.ids.exact id).1 (inl there))
+      (λ id there. elim ((are.ids.exact id).0 there) [
+        | inl bound ↦ bound
+        | inr bound ↦ some_bound [] before c.found are.found id (omega (arith, sizes_same id there, bound_some resets after c.kept are.kept id bound))
+      ])
+
+  new_ids : map (λ b. b.id) c.kept.bindings ≡ c.ids
+  new_ids =
+      one_rising (map (λ b. b.id) c.kept.bindings) c.ids (ids_rise resets after c.kept are.kept) are.ids.rising
+      (λ id there. (are.ids.exact id).1 (inr there))
+      (λ id there. elim ((are.ids.exact id).0 there) [
+        | inl bound ↦ some_bound resets after c.kept are.kept id (omega (arith, sizes_same id there, bound_some [] before c.found are.found id bound))
+        | inr bound ↦ bound
+      ])
+
+  -- both have a superblock
+  both_there : (generation_of c.found.choice ≡ Some none.old) × (generation_of c.rest.choice ≡ Some none.new)
+  both_there = by (generation_of c.found.choice) (generation_of c.rest.choice) none.count
+    where
+      by : (o p : Option ℕ) → both_of o p ≡ Some (none.old, none.new) → (o ≡ Some none.old) × (p ≡ Some none.new)
+      by None p e = absurd (none-some (none.old, none.new) e)
+      by (Some a) None e = absurd (none-some (none.old, none.new) e)
+      by (Some a) (Some b) e =
+          let pair : (a, b) ≡ (none.old, none.new) = same_Some (a, b) (none.old, none.new) e in
+          (ap (λ (q : ℕ × ℕ). Some q.0) pair, ap (λ (q : ℕ × ℕ). Some q.1) pair)
+
+  has_before : c.found.plan.has_superblock ≡ true
+  has_before = has_superblock c.found.choice c.found.plan none.old are.found.plan both_there.0
+
+  has_kept : c.kept.plan.has_superblock ≡ true
+  has_kept =
+      let plain = plan_before resets c.kept.choice c.kept.plan are.kept.plan in
+      let choice : c.rest.choice ≡ c.kept.choice = one_choice_lem after c.rest.choice c.kept.choice are.rest.choice are.kept.choice in
+      plain.4 ∙ has_superblock c.kept.choice plain.0 none.new plain.1 (sym (ap generation_of choice) ∙ both_there.1)
+
+  pub kept : AreKept c.found c.kept
+  kept = record {
+    has = has_before;
+    has_now = has_kept;
+    retired = same_retired resets c none;
+    read = no_run_lost resets before after c are none;
+    read_now = counts.0 ∙ no_run_lost resets before after c are none;
+    fewer = counts.1;
+    ids = old_ids ∙ sym new_ids;
+    sizes = λ id bound. sizes_same id (among id bound);
+    alike = λ id bound. alike_at (row_in c.found) (row_in c.kept) (owned_by id shards) (owned_by id shards_now) (unchanged id (among id bound));
+  }
+    where
+      among : (id : ShardId) → IsBound c.found.bindings id → Contains c.ids id
+      among id bound = (are.ids.exact id).1 (inl bound)
+
+pub nothing_lost : (resets : List ℕ) (before after other : Image) (a b : List ℕ) → IsSafe resets before after → IsForeseen resets after other →
+    IsManifest before a → IsManifest other b → IsSameButMore a b
+nothing_lost resets before after other a b s f x y =
+    subst (λ (t : List ℕ). IsSameButMore t b) (ap manifest_text (one_scrub before s.safe.compared.found x.found s.safe.are.found x.scrubbed) ∙ sym x.text_is)
+    (subst (λ (t : List ℕ). IsSameButMore (manifest_text s.safe.compared.found) t)
+    (as_foreseen resets after other (manifest_text s.safe.compared.kept) b f (record { found = s.safe.compared.kept; scrubbed = s.safe.are.kept; text_is = refl }) y)
+    (kept_text [] resets before after s.safe.compared.found s.safe.compared.kept s.safe.are.found s.safe.are.kept
+    (kept resets before after s.safe.compared s.safe.are (no_line resets s.safe.compared (sym s.safe.verdict)))))

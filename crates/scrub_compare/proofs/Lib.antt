@@ -1,0 +1,21 @@
+-- The lemmas of this crate.
+pub mod Least
+pub mod ChangedBytes
+pub mod Reaches
+pub mod BoundIds
+pub mod OwnedBy
+pub mod ExtentLines
+pub mod RoomsFound
+pub mod RowsAlike
+pub mod OneComparison
+pub mod RecordLengths
+pub mod ManifestCounts
+pub mod Safe
+pub mod Totals
+pub mod RunsRead
+pub mod Kept
+pub mod KeptManifest
+pub mod Overwritten
+pub mod Chunks
+pub mod Chained
+pub mod Undone

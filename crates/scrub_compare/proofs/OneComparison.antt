@@ -1,0 +1,72 @@
+-- Two images have one text of what became of them, and one verdict, since each part is determined by them.
+use Rattle.std.proofs.Common.{◌≡◌, ◌+◌, [], ◌∷◌, ℕ, zero, suc, Bool, List, Option, Some, length, arith, refl, sym, subst, ◌∙◌, ap}
+use Rattle.std.specs.List.{slice_get}
+use Rattle.scrub_disk.specs.Image.{Image}
+use Rattle.scrub_super.proofs.PageLaws.{one_list_of_pages}
+use Rattle.scrub_report.specs.Scrubbed.{Scrubbed}
+use Rattle.scrub_report.proofs.OneReport.{one_scrub, one_scrub_but}
+use Rattle.scrub_compare.specs.Written.{AreFirstWritten, IsWrittenIn, IsWrittenInRecords, pointer_in, room_at}
+use Rattle.scrub_compare.specs.Compare.{AreBoundIds, AreCompared, Compared, IsComparison, IsSafety, comparison_text, is_safe}
+use Rattle.scrub_compare.proofs.BoundIds.{one_list_of_ids}
+use Rattle.scrub_compare.proofs.Least.{one_least}
+
+-- two lists of one length with the same elements, one by one
+same_elements : {X : Type 0} (xs ys : List X) → length xs ≡ length ys →
+    ((k : ℕ) (x y : X) → slice_get xs k ≡ Some x → slice_get ys k ≡ Some y → x ≡ y) → xs ≡ ys
+same_elements [] [] long same = refl
+same_elements [] (y ∷ ys) long same = absurd (omega (arith, long))
+same_elements (x ∷ xs) [] long same = absurd (omega (arith, long))
+same_elements (x ∷ xs) (y ∷ ys) long same =
+    let first : x ≡ y = same 0 x y refl refl in
+    let rest : xs ≡ ys = same_elements xs ys (omega (arith, long)) (λ k. same (suc k)) in
+    λ i. first i ∷ rest i
+
+one_list_of_firsts : (before after : Image) (found rest : Scrubbed) (xs ys : List (Option ℕ)) → AreFirstWritten before after found rest xs →
+    AreFirstWritten before after found rest ys → xs ≡ ys
+one_list_of_firsts before after found rest xs ys a b =
+    same_elements xs ys (omega (arith, a.count, b.count))
+    (λ k x y here there.
+    one_least (IsWrittenIn before after (room_at found (k + 1)) (pointer_in rest.plan (k + 1)) (k + 1)) x y (a.each k x here) (b.each k y there))
+
+module _ (resets : List ℕ) (before after : Image) where
+  one_compared : (c d : Compared) → AreCompared resets before after c → AreCompared resets before after d → c ≡ d
+  one_compared c d x y = λ i. record {
+    found = found i;
+    rest = rest i;
+    kept = kept i;
+    pages = one_list_of_pages before c.pages d.pages x.pages y.pages i;
+    pages_now = one_list_of_pages after c.pages_now d.pages_now x.pages_now y.pages_now i;
+    first = one_least (IsWrittenInRecords before after) c.first d.first x.first y.first i;
+    firsts = firsts i;
+    ids = ids i;
+  }
+    where
+      found : c.found ≡ d.found
+      found = one_scrub before c.found d.found x.found y.found
+
+      rest : c.rest ≡ d.rest
+      rest = one_scrub after c.rest d.rest x.rest y.rest
+
+      kept : c.kept ≡ d.kept
+      kept = one_scrub_but resets after c.kept d.kept x.kept y.kept
+
+      firsts : c.firsts ≡ d.firsts
+      firsts =
+          one_list_of_firsts before after d.found d.rest c.firsts d.firsts
+          (subst (λ (r : Scrubbed). AreFirstWritten before after d.found r c.firsts) rest
+          (subst (λ (f : Scrubbed). AreFirstWritten before after f c.rest c.firsts) found x.firsts))
+          y.firsts
+
+      ids : c.ids ≡ d.ids
+      ids =
+          one_list_of_ids d.found.bindings d.kept.bindings c.ids d.ids
+          (subst (λ (k : Scrubbed). AreBoundIds d.found.bindings k.bindings c.ids) kept
+          (subst (λ (f : Scrubbed). AreBoundIds f.bindings c.kept.bindings c.ids) found x.ids))
+          y.ids
+
+  pub one_comparison_lem : (a b : List ℕ) → IsComparison resets before after a → IsComparison resets before after b → a ≡ b
+  one_comparison_lem a b x y =
+      x.text_is ∙ ap (comparison_text resets) (one_compared x.compared y.compared x.are y.are) ∙ sym y.text_is
+
+  pub one_safety : (a b : Bool) → IsSafety resets before after a → IsSafety resets before after b → a ≡ b
+  one_safety a b x y = x.verdict ∙ ap (is_safe resets) (one_compared x.compared y.compared x.are y.are) ∙ sym y.verdict

@@ -1,0 +1,3 @@
+-- Steps of the code.
+pub mod Changes
+pub mod Rows

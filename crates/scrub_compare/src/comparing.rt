@@ -1,0 +1,269 @@
+//! Compares two images of a disk, as lines: why what was written between them isn't safe, and at the end
+//! whether it is.
+
+ghost use Rattle.std.specs.Prelude.{◌≡◌, ◌++◌, ◌==◌, ◌≤◌, [], Bool, List, ℕ, Option, IfOk, OnOk, codes};
+ghost use Rattle.std.specs.Prelude.{nat_lt, string_bytes, if◌then◌else◌};
+ghost use Rattle.std.specs.List.Sorted.{IsStrictlyIncreasing};
+ghost use Rattle.scrub_disk.specs.Image.{Image};
+ghost use Rattle.scrub_super.specs.Pages.{AreSuperblockPages};
+ghost use Rattle.scrub_report.specs.Answer.{AreTakingsBy};
+ghost use Rattle.scrub_report.specs.Parts.{ArePartsBut, ArePartsOf, found_in};
+ghost use Rattle.scrub_compare.specs.Written.{AreFirstWritten, IsLeast, IsWrittenInRecords};
+ghost use Rattle.scrub_compare.specs.Compare.{IsComparison, IsSafety, both_of, extent_lines, firm_lines};
+ghost use Rattle.scrub_compare.specs.Compare.{generation_line, generation_of, is_safe_by, named_lines};
+ghost use Rattle.scrub_compare.specs.Compare.{safe_line, text_by, unsafe_line, written_line};
+
+use crate::extents::{append_extents, append_written};
+use crate::firm::append_firm;
+use crate::manifests::append_manifest_changes;
+use crate::named::append_named;
+use crate::records::first_in_records;
+use scrub_disk::{OutOfMemory, PageSource};
+use scrub_listings::Listing;
+use scrub_pool::{Gate, Takings};
+use scrub_report::ScrubFault;
+use scrub_report::parts::Parts;
+use scrub_report::scanning::{scan_chosen, scan_with_resets};
+use scrub_report::scrubbing::parts_of;
+use scrub_super::{Chosen, SuperblockPage, choose, choose_with_pages};
+use std::alloc::Global;
+use std::fmt::Write;
+use std::sync::Wait;
+use std::thread::Threads;
+
+/// What is found on a disk, what the pages of its extent 0 are, and which extents the caller and each worker
+/// took.
+fn parts_with_pages<'d, D: PageSource, G: Gate, R: Threads + Wait + Sync>(
+    rt: &R,
+    alloc: Global,
+    disk: &'d D,
+    workers: u32,
+    gate: &G,
+) -> Result<(Parts<'d, D>, Vec<SuperblockPage>, Takings), ScrubFault>
+    requires { workers ≤ 64 }
+    ensures parts { IfOk result (λ r. ArePartsOf (D.image disk.now) r.0) }
+    ensures pages { IfOk result (λ r. AreSuperblockPages (D.image disk.now) r.1.items) }
+    ensures takings { IfOk result (λ r. AreTakingsBy (D.image disk.now) workers r.2) }
+{
+    let (chosen, pages) = choose_with_pages(alloc, disk)?;
+    let (scan, takings) = scan_chosen(rt, alloc, disk, chosen, workers, gate)?;
+    let parts = parts_of(rt, alloc, scan, &[])?;
+    Ok((parts, pages, takings))
+}
+
+/// What is found on a disk as if these extents, which rise, had been reset; `rest` is what is found without
+/// resets.
+fn kept_parts<'d, D: PageSource, G: Gate, R: Threads + Wait + Sync>(
+    rt: &R,
+    alloc: Global,
+    disk: &'d D,
+    rest: Parts<'d, D>,
+    workers: u32,
+    gate: &G,
+    resets: &[u32],
+) -> Result<Parts<'d, D>, ScrubFault>
+    requires workers { workers ≤ 64 }
+    requires rising { IsStrictlyIncreasing resets.now }
+    requires rest { ArePartsOf (D.image disk.now) rest }
+    ensures { IfOk result (ArePartsBut resets.now (D.image disk.now)) }
+{
+    if resets.is_empty() {
+        return Ok(rest);
+    }
+    drop(rest);
+    let chosen = choose(alloc, disk)?;
+    let (scan, _takings) = scan_with_resets(rt, alloc, disk, chosen, workers, gate, resets)?;
+    let kept = parts_of(rt, alloc, scan, resets)?;
+    Ok(kept)
+}
+
+/// The lines of the doubts of both images that can't be accepted.
+fn doubts_of_both<D: PageSource, E: PageSource>(
+    alloc: Global,
+    found: &Parts<'_, D>,
+    rest: &Parts<'_, E>,
+    pages: &[SuperblockPage],
+    pages_now: &[SuperblockPage],
+) -> Result<String, OutOfMemory>
+    ensures { (image other : Image) (p : ArePartsOf image found.now) (q : ArePartsOf other rest.now) →
+        IfOk result (λ text. string_bytes text ≡
+        firm_lines (codes "before") pages.now (found_in found.now p.read) ++
+        firm_lines (codes "after") pages_now.now (found_in rest.now q.read)) }
+{
+    let mut text = String::new(alloc);
+    append_firm(alloc, &mut text, "before", pages, found)?;
+    append_firm(alloc, &mut text, "after", pages_now, rest)?;
+    Ok(text)
+}
+
+/// The lines of bytes, write pointers and named locators.
+fn lines_of_extents<D: PageSource, E: PageSource>(
+    alloc: Global,
+    before: &D,
+    after: &E,
+    resets: &[u32],
+    found: &Parts<'_, D>,
+    rest: &Parts<'_, E>,
+    pages_now: &[SuperblockPage],
+) -> Result<String, OutOfMemory>
+    requires sizes { (E.image after.now).geometry ≡ (D.image before.now).geometry }
+    requires rising { IsStrictlyIncreasing resets.now }
+    requires found { ArePartsOf (D.image before.now) found.now }
+    requires rest { ArePartsOf (E.image after.now) rest.now }
+    requires held { AreSuperblockPages (E.image after.now) pages_now.now }
+    ensures { (p : ArePartsOf (D.image before.now) found.now) (q : ArePartsOf (E.image after.now) rest.now) →
+        IfOk result (λ text. (first : Option ℕ) ×
+        IsLeast (IsWrittenInRecords (D.image before.now) (E.image after.now)) first ×
+        (firsts : List (Option ℕ)) ×
+        AreFirstWritten (D.image before.now) (E.image after.now) (found_in found.now p.read)
+        (found_in rest.now q.read) firsts × (string_bytes text ≡ written_line 0 first ++
+        extent_lines resets.now (found_in found.now p.read) (found_in rest.now q.read) firsts ++
+        named_lines resets.now rest.now.judged.checked.items)) }
+{
+    let mut text = String::new(alloc);
+    let first = first_in_records(alloc, before, after, pages_now)?;
+    append_written(&mut text, 0, first)?;
+    append_extents(alloc, &mut text, before, after, resets, found, rest)?;
+    append_named(alloc, &mut text, resets, &rest.judged.checked)?;
+    Ok(text)
+}
+
+/// The generation of the superblock that counts, if one does.
+fn generation_of(chosen: &Chosen) -> Option<u64>
+    ensures { result ≡ generation_of chosen.now }
+{
+    match chosen.superblock() {
+        Some(superblock) => Some(superblock.generation()),
+        None => None,
+    }
+}
+
+/// Two generations, if both are there.
+fn both_of(old: Option<u64>, new: Option<u64>) -> Option<(u64, u64)>
+    ensures { result ≡ both_of old new }
+{
+    match (old, new) {
+        (Some(old), Some(new)) => Some((old, new)),
+        _ => None,
+    }
+}
+
+/// Whether the later generation is the lower one.
+fn is_lower(old: u64, new: u64) -> bool
+    ensures { result ≡ nat_lt new old }
+{
+    new < old
+}
+
+/// Appends the line of two generations, if the later image has the lower one.
+fn append_generation(text: &mut String, old: u64, new: u64) -> Result<(), OutOfMemory>
+    ensures { OnOk result (string_bytes text.new ≡ string_bytes text.old ++ generation_line old new) }
+{
+    if !is_lower(old, new) {
+        return Ok(());
+    }
+    write!(text, "generation {old}")?;
+    writeln!(text, " {new}")
+}
+
+/// Appends the last line.
+fn append_last(text: &mut String, is_safe: bool, old: u64, new: u64) -> Result<(), OutOfMemory>
+    ensures { OnOk result (string_bytes text.new ≡ string_bytes text.old ++
+        (if is_safe then safe_line old new else unsafe_line)) }
+{
+    if is_safe {
+        writeln!(text, "safe {old} {new}")
+    } else {
+        writeln!(text, "unsafe")
+    }
+}
+
+/// All lines, by those of doubts, the others, and the generations.
+fn listing_by(
+    doubts: String,
+    others: &str,
+    generations: Option<(u64, u64)>,
+) -> Result<Listing, OutOfMemory>
+    ensures text { IfOk result (λ l. l.text.items ≡ text_by (string_bytes doubts) others.now generations) }
+    ensures safe { IfOk result (λ l. l.is_clean ≡ is_safe_by (string_bytes doubts) others.now generations) }
+{
+    let mut text = doubts;
+    let Some((old, new)) = generations else {
+        writeln!(text, "unsafe")?;
+        return Ok(Listing {
+            text: text.into_bytes(),
+            is_clean: false,
+        });
+    };
+    append_generation(&mut text, old, new)?;
+    text.push_str(others)?;
+    let is_clean = text.is_empty();
+    append_last(&mut text, is_clean, old, new)?;
+    Ok(Listing {
+        text: text.into_bytes(),
+        is_clean,
+    })
+}
+
+/// Compares two images of one disk, and lists why what was written between them isn't safe; and returns which
+/// extents the caller and each worker took of each image. It is clean if it is safe: no line is there but the
+/// last one.
+///
+/// First comes `doubt before DOUBT` for each doubt of the earlier image that can't be accepted, and `doubt
+/// after DOUBT` for each of the later one. If a superblock counts in both, these follow:
+///
+/// - `generation OLD NEW`, if the later generation is the lower one;
+/// - `written 0 OFFSET` with the first byte of extent 0 that changed, isn't zero now, and isn't held by a
+///   valid record;
+/// - for each extent from 1 on `pointer EXTENT OLD NEW`, unless its write pointer is the same, or 0 in one of
+///   `resets`, or at or past the place where the extent had room; and `written EXTENT OFFSET` with the first
+///   byte that changed where nothing may be;
+/// - `named LINE` for each named locator, as `list_locators` has it, whose extent is one of `resets`;
+/// - `lost LINE`, `new LINE` and `spare LINE` for each line of the manifest that would be another one if
+///   `resets` were reset.
+///
+/// The last line is `safe OLD NEW` with the generations if none is there, or else `unsafe`. Offsets and
+/// pointers are in bytes.
+///
+/// It scans each image as `scrub` does, with this many workers (0 to 64) beside the caller, and the later one
+/// once more if there are resets. Each extent is read whole from both images, one after another. The only
+/// fault is `OutOfMemory`, returned once every started worker has ended.
+pub fn compare<D: PageSource, E: PageSource, G: Gate, R: Threads + Wait + Sync>(
+    rt: &R,
+    alloc: Global,
+    before: &D,
+    after: &E,
+    workers: u32,
+    gate: &G,
+    resets: &[u32],
+) -> Result<(Listing, Takings, Takings), ScrubFault>
+    requires workers { workers ≤ 64 }
+    requires sizes { (E.image after.now).geometry ≡ (D.image before.now).geometry }
+    requires rising { IsStrictlyIncreasing resets.now }
+    ensures text { IfOk result (λ r.
+        IsComparison resets.now (D.image before.now) (E.image after.now) r.0.text.items) }
+    ensures safe { IfOk result (λ r.
+        IsSafety resets.now (D.image before.now) (E.image after.now) r.0.is_clean) }
+    ensures takings { IfOk result (λ r. AreTakingsBy (D.image before.now) workers r.1) }
+    ensures takings_now { IfOk result (λ r. AreTakingsBy (E.image after.now) workers r.2) }
+{
+    let (found, pages, takings) = parts_with_pages(rt, alloc, before, workers, gate)?;
+    let (rest, pages_now, takings_now) = parts_with_pages(rt, alloc, after, workers, gate)?;
+    let (chosen, chosen_now) = (&found.judged.scan.chosen, &rest.judged.scan.chosen);
+    let generations = both_of(generation_of(chosen), generation_of(chosen_now));
+    let doubts = doubts_of_both(alloc, &found, &rest, &pages, &pages_now)?;
+    let mut others = lines_of_extents(alloc, before, after, resets, &found, &rest, &pages_now)?;
+    let kept = kept_parts(rt, alloc, after, rest, workers, gate, resets)?;
+    append_manifest_changes(alloc, &mut others, &found, &kept)?;
+    let listing = listing_by(doubts, &others, generations)?;
+    Ok((listing, takings, takings_now))
+}
+
+/// A law: for each list of extents to be reset, two images have at most one text of such lines, and at most
+/// one verdict whether it is safe.
+pub fn one_comparison()
+    ensures text { (resets : List ℕ) (before after : Image) (a b : List ℕ) →
+        IsComparison resets before after a → IsComparison resets before after b → a ≡ b }
+    ensures safe { (resets : List ℕ) (before after : Image) (a b : Bool) →
+        IsSafety resets before after a → IsSafety resets before after b → a ≡ b }
+{}

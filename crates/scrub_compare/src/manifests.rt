@@ -1,0 +1,146 @@
+//! The lines of what became of a manifest: its retired extents, its index runs, and the locators of shards.
+
+ghost use Rattle.std.specs.Prelude.{◌≡◌, ◌++◌, ◌&&◌, ℕ, List, OnOk, is_none, string_bytes};
+ghost use Rattle.std.specs.List.{count_by};
+ghost use Rattle.std.specs.Str.{bytes_eq};
+ghost use Rattle.scrub_disk.specs.Image.{Image};
+ghost use Rattle.scrub_run.specs.declared.shard_id.ShardId.{ShardId};
+ghost use Rattle.scrub_merge.specs.Binding.{BindingValue};
+ghost use Rattle.scrub_check.specs.Checked.{is_hidden};
+ghost use Rattle.scrub_check.specs.Spares.{spares_of};
+ghost use Rattle.scrub_report.specs.Parts.{ArePartsBut, found_in};
+ghost use Rattle.scrub_listings.specs.Manifest.{of_shards};
+ghost use Rattle.scrub_listings.specs.steps.Manifest.{is_of_read_row};
+ghost use Rattle.scrub_compare.specs.Compare.{AreBoundIds, manifest_changes, retired_change, row_by};
+ghost use Rattle.scrub_compare.specs.Compare.{runs_change, shard_changes};
+ghost use Rattle.scrub_compare.specs.steps.Rows.{AreByOwner, AreNamedBy};
+
+use crate::ids::bound_ids;
+use crate::rows::{Side, append_shards};
+use scrub_check::{Checked, Spares};
+use scrub_disk::{OutOfMemory, PageSource};
+use scrub_listings::manifest::{append_retired, append_runs, hidden_runs, lost_runs};
+use scrub_report::parts::{Judged, Parts};
+use scrub_run::ShardId;
+use std::alloc::Global;
+use std::fmt::Write;
+
+/// Whether two lists of extents are the same.
+fn are_same(old: &[u32], new: &[u32]) -> bool
+    ensures { result ≡ bytes_eq old.now new.now }
+{
+    old == new
+}
+
+/// Appends the lines of a change of the retired extents.
+fn append_retired_change(text: &mut String, old: &[u32], new: &[u32]) -> Result<(), OutOfMemory>
+    ensures { OnOk result (string_bytes text.new ≡ string_bytes text.old ++ retired_change old.now new.now) }
+{
+    if are_same(old, new) {
+        return Ok(());
+    }
+    write!(text, "lost ")?;
+    append_retired(text, old)?;
+    write!(text, "new ")?;
+    append_retired(text, new)
+}
+
+/// How many index runs are lost, and how many are read though their locator is hidden.
+#[derive(Clone, Copy)]
+struct RunCounts {
+    lost: usize,
+    hidden: usize,
+}
+
+/// The numbers of index runs of a disk.
+fn run_counts<D: PageSource>(judged: &Judged<'_, D>) -> RunCounts
+    ensures lost { result.lost ≡ count_by (λ r. is_none r.entries) judged.now.runs.items }
+    ensures hidden { result.hidden ≡
+        count_by (λ c. is_hidden c.status && is_of_read_row judged.now.runs.items c.owner)
+        judged.now.checked.items }
+{
+    RunCounts {
+        lost: lost_runs(&judged.runs),
+        hidden: hidden_runs(&judged.runs, &judged.checked),
+    }
+}
+
+/// Appends the lines of a change of the numbers of index runs. Fewer hidden ones are none.
+fn append_runs_change(text: &mut String, old: RunCounts, new: RunCounts) -> Result<(), OutOfMemory>
+    ensures { OnOk result (string_bytes text.new ≡ string_bytes text.old ++
+        runs_change old.lost old.hidden new.lost new.hidden) }
+{
+    if new.lost == old.lost && new.hidden <= old.hidden {
+        return Ok(());
+    }
+    write!(text, "lost ")?;
+    append_runs(text, old.lost, old.hidden)?;
+    write!(text, "new ")?;
+    append_runs(text, new.lost, new.hidden)
+}
+
+/// The named locators of shards, which follow those of the index runs.
+fn shards_of<'p, 'd, D: PageSource>(judged: &'p Judged<'d, D>) -> &'p [Checked]
+    requires { (bindings : List BindingValue) ×
+        AreNamedBy judged.now.scan.plan.runs judged.now.checked.items bindings }
+    ensures shards { result.now ≡ of_shards judged.now.checked.items }
+    ensures ordered { AreByOwner result.now }
+{
+    let (_runs, shards) = judged.checked.split_at(judged.scan.plan.runs().len());
+    shards
+}
+
+/// Appends the lines of what became of the lines of these shards.
+fn append_shard_changes<D: PageSource, E: PageSource>(
+    alloc: Global,
+    text: &mut String,
+    old: &Judged<'_, D>,
+    new: &Judged<'_, E>,
+    ids: &[ShardId],
+) -> Result<(), OutOfMemory>
+    requires old { (bindings : List BindingValue) ×
+        AreNamedBy old.now.scan.plan.runs old.now.checked.items bindings }
+    requires new { (bindings : List BindingValue) ×
+        AreNamedBy new.now.scan.plan.runs new.now.checked.items bindings }
+    ensures { OnOk result (string_bytes text.new ≡ string_bytes text.old ++ shard_changes
+        (row_by (spares_of old.now.scan.all.extents) old.now.scan.all.extents)
+        (row_by (spares_of new.now.scan.all.extents) new.now.scan.all.extents)
+        (of_shards old.now.checked.items) (of_shards new.now.checked.items) ids.now) }
+{
+    let spares = Spares::of(alloc, &old.scan.all, &old.checked)?;
+    let spares_now = Spares::of(alloc, &new.scan.all, &new.checked)?;
+    let before = Side {
+        all: &old.scan.all,
+        spares: &spares,
+        shards: shards_of(old),
+    };
+    let after = Side {
+        all: &new.scan.all,
+        spares: &spares_now,
+        shards: shards_of(new),
+    };
+    append_shards(alloc, text, &before, &after, ids)
+}
+
+/// Appends the lines of what became of a manifest but its last line.
+pub(crate) fn append_manifest_changes<D: PageSource, E: PageSource>(
+    alloc: Global,
+    text: &mut String,
+    old: &Parts<'_, D>,
+    new: &Parts<'_, E>,
+) -> Result<(), OutOfMemory>
+    requires old { (resets : List ℕ) × (image : Image) × ArePartsBut resets image old.now }
+    requires new { (resets : List ℕ) × (image : Image) × ArePartsBut resets image new.now }
+    ensures { (resets others : List ℕ) (image other : Image) (p : ArePartsBut resets image old.now)
+        (q : ArePartsBut others other new.now) → OnOk result ((ids : List ShardId) ×
+        AreBoundIds old.now.map new.now.map ids ×
+        (string_bytes text.new ≡ string_bytes text.old ++
+        manifest_changes (found_in old.now p.read) (found_in new.now q.read) ids)) }
+{
+    let (judged, judged_now) = (&old.judged, &new.judged);
+    let (plan, plan_now) = (&judged.scan.plan, &judged_now.scan.plan);
+    let ids = bound_ids(alloc, old.map.bindings(), new.map.bindings())?;
+    append_retired_change(text, plan.retired(), plan_now.retired())?;
+    append_runs_change(text, run_counts(judged), run_counts(judged_now))?;
+    append_shard_changes(alloc, text, judged, judged_now, &ids)
+}
