@@ -17,7 +17,7 @@ from datetime import datetime, timezone
 from pathlib import Path
 
 from lib.program import FASTER, GENERAL, TOP, V3_FLAGS, has_v3, need
-from lib.starting import HUGE_PAGES, V2_FLAGS, processors, with_processor, write
+from lib.starting import TUNABLES, V2_FLAGS, processors, with_processor, write
 
 # Each installed file: its mode, and what it is a copy of.
 INSTALLED = {
@@ -144,9 +144,9 @@ class Install(OfTheRelease):
         for flags, name in ((V2_FLAGS, GENERAL), (V2_FLAGS | V3_FLAGS, FASTER)):
             cpuinfo.write_text(processors(flags))
             for cpu, started in (("", name), ("x86-64-v2", GENERAL), ("x86-64-v3", FASTER)):
-                self.assertEqual(done(link, "a  word", more={"SHARDSCRUB_CPU": cpu}), f"{started} a  word {HUGE_PAGES}\n")
+                self.assertEqual(done(link, "a  word", more={"SHARDSCRUB_CPU": cpu}), f"{started} a  word {TUNABLES}\n")
         (programs / FASTER).unlink()
-        self.assertEqual(done(script), f"{GENERAL} {HUGE_PAGES}\n")
+        self.assertEqual(done(script), f"{GENERAL} {TUNABLES}\n")
         (programs / GENERAL).unlink()
         ended = run(script)
         self.assertEqual((ended.stdout, ended.returncode), ("", 70))

@@ -13,7 +13,7 @@ from pathlib import Path
 from lib import preloaded
 from lib.cases import RoomCase
 from lib.program import FASTER, GENERAL, TOP, V3_FLAGS, find, has_v3, need
-from lib.starting import HUGE_PAGES, V2_FLAGS, processors, with_processor, write
+from lib.starting import TUNABLES, V2_FLAGS, processors, with_processor, write
 
 TOOLCHAIN = "rt of the tests"
 # It notes that it was called. As the command that builds a program, it makes one, and ends as on a processor without x86-64-v3. With
@@ -112,7 +112,7 @@ class Start(unittest.TestCase):
         for set_to in (None, "of the caller", ""):
             more = {} if set_to is None else {"GLIBC_TUNABLES": set_to}
             ended = self.run_in(away, self.top / "shardscrub", *words, **more)
-            self.assertEqual(ended.stdout.splitlines(), [name, *words, str(away), more.get("GLIBC_TUNABLES", HUGE_PAGES)])
+            self.assertEqual(ended.stdout.splitlines(), [name, *words, str(away), more.get("GLIBC_TUNABLES", TUNABLES)])
             self.assertEqual((ended.stderr, ended.returncode), ("", 3))
 
     def starts(self, general, faster, forced=None):
@@ -251,7 +251,7 @@ class Start(unittest.TestCase):
         self.cpuinfo.write_text(processors(V2_FLAGS))
         link = self.folder / "tools/shardscrub"
         link.symlink_to(self.top / "shardscrub")
-        self.assertEqual(self.run_in(self.folder, "shardscrub").stdout, f"built {GENERAL}\n{self.folder}\n{HUGE_PAGES}\n")
+        self.assertEqual(self.run_in(self.folder, "shardscrub").stdout, f"built {GENERAL}\n{self.folder}\n{TUNABLES}\n")
 
     def test_the_program_of_the_tests(self):
         """./build --program, by which the tests choose, takes the names in their order, and the first one without a name."""

@@ -1,7 +1,7 @@
 """What tests of the script ./shardscrub make up: processors, and small programs."""
 
 # What the script sets for the C library.
-HUGE_PAGES = "glibc.malloc.hugetlb=1"
+TUNABLES = "glibc.malloc.hugetlb=1:glibc.malloc.mmap_threshold=4194304"
 # Words of /proc/cpuinfo for an old processor and, with V3_FLAGS, for a new one.
 V2_FLAGS = {"fpu", "cx16", "lahf_lm", "popcnt", "sse4_1", "sse4_2", "ssse3", "avx512f", "avx2x", "xsavec"}
 
