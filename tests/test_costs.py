@@ -1,6 +1,7 @@
 """What comments and documents claim about costs. Allocations and threads are counted; no time is measured.
 
-- Merging the runs copies no list of locators. Each list is allocated once, when its run is read.
+- Merging the runs copies the list of locators of each shard of the shard map, and no other list. Besides that, each list is allocated
+  once, when its run is read.
 - One thread finds the twins, and another makes the index. So a scan without workers starts two threads if there is one run
   and no place to look at. A command that needs neither twins nor index starts none.
 - Several threads look at places. If there are many places, a run has at least as many threads as processors, including the
@@ -75,10 +76,11 @@ class Costs(RoomCase):
 
     def check_merging(self, shards):
         disk = two_runs(self.room, shards)
+        read, bound = 2 * shards, shards + shards // 2
         lists, _ = self.counts(["scan", "--workers", "0", *disk], 1, counted=LOCATORS * LOCATOR_BYTES)
-        self.same("lists of locators", lists, 2 * shards)
+        self.same("lists of locators", lists, read + bound)
         lists, _ = self.counts(["shard", "--workers", "0", "--id", shard(0).hex(), *disk], 0, counted=LOCATORS * LOCATOR_BYTES)
-        self.same("lists of locators for the bytes of a shard", lists, 2 * shards)
+        self.same("lists of locators for the bytes of a shard", lists, read + bound)
 
     def test_merging_16_shards(self):
         self.check_merging(16)

@@ -3,7 +3,7 @@
 For each command line, the program runs with its first allocation refused, then with its second, and so on until a run meets no
 refusal, which has to give the right answer. Every other run has to end out of memory: with status 4, no output and the error message
 for it. The whole right answer is right too, since some refused requests are repeated. Then all later allocations are refused as
-well, and the run has to end out of memory.
+well, and the run has to end out of memory. `STEPS` has the command line with too many allocations to refuse each.
 
 Single calls are those of the crate scrub_refused_memory, if `rt` has built its program here. Each public function of a library that
 takes an allocator, or can answer out of memory, has to be a call there, or to be made by one of the command lines.
@@ -25,10 +25,11 @@ SEVERAL = "--page 64 --pages 16 --extents 5 examples/several-findings.img 3:1"
 RECLAIMED = "--page 64 --pages 8 --extents 5 examples/reclaimed-before.img"
 COPIED = "--page 64 --pages 8 --extents 4 examples/rotted.img examples/copied.img"
 RESCUED = "--page 512 --pages 4 --extents 4 --map examples/rescued.map examples/rescued.img"
-# Disks that the tests make: see `retiring`, `large` and `behind_a_damaged_frame`.
+# Disks that the tests make: see `retiring`, `large`, `many` and `behind_a_damaged_frame`.
 ROOM = "ROOM/"
 RETIRING = f"--page 64 --pages 4 --extents 4 {ROOM}retiring.img"
 LARGE = f"--page 65536 --pages 32 --extents 2 {ROOM}large.img"
+MANY = f"--workers 0 --page 512 --pages 1200 --extents 6 {ROOM}many.img"
 SHARD = "shard --id " + "0" * 31
 COMMAND_LINES = {
     "no words": "",
@@ -66,7 +67,9 @@ COMMAND_LINES = {
     "superblocks with a map": f"superblocks {RESCUED}",
     "reclaimable with a map": f"reclaimable --workers 0 {RESCUED}",
     "items with a map": f"items --extent 3 {RESCUED}",
-    "items by several readers": f"items --extent 1 --pointer 41 {LARGE}",
+    "locators by several readers": f"locators --workers 0 {LARGE}",
+    "scan of many items": f"scan {MANY}",
+    "summary of many items": f"summary {MANY}",
     "shard": f"{SHARD}1 {SMALL}",
     "shard without workers": f"{SHARD}1 --workers 0 {SEVERAL}",
     "shard without sizes": f"{SHARD}2 examples/several-findings.img",
@@ -80,12 +83,15 @@ COMMAND_LINES = {
     "help": "scan --help",
     "refused words": "scan --workers 65",
 }
+# A report has several allocations for each item, so that only each 97th is refused.
+STEPS = {f"scan {MANY}": 97}
 # Those to which lib/reference.py has no answer.
 WITHOUT_REFERENCE = {"", "scan --help", "scan --workers 65"}
 # Those in which a worker that scans, or a reader of the image, takes memory on a thread of its own.
 WITH_THREADS = ["scan", "index with 2 workers", "locators", "locators with 2 workers", "reclaimable",
                 "reclaimable with the last generation", "manifest", "manifest with resets", "summary", "summary with 2 workers",
-                "items by several readers", "shard", "lost payload"]
+                "locators by several readers", "scan of many items", "summary of many items",
+                "shard", "lost payload"]
 OUT_OF_MEMORY = (4, b"", b"shardscrub: out of memory\n")
 
 
@@ -109,6 +115,18 @@ def large():
     return disk
 
 
+def many():
+    """A disk with so many items and entries that threads merge its run, sort its chunks and its locators, and make the report's text.
+    Extents 1 to 4 have 1,024 chunks each. The run in extent 5 has 16,384 shards: each fourth one is a chunk, the others are deleted."""
+    disk = Disk(1200, 6, page=512)
+    entries = [(shard(number), []) for number in range(16384)]
+    for number in range(4096):
+        extent, place, name = number // 1024 + 1, number % 1024 * 41, shard(number + 1)
+        entries[4 * number] = (shard(4 * number), [disk.chunk(extent, place, name, b"abc")])
+    disk.superblock(0, 1, disk.chunk(5, 0, uuid(0x22), run(*entries)))
+    return disk
+
+
 def right(words):
     """The right answer of a run in the repository's folder."""
     return answered([str(TOP / word) if word.startswith("examples/") else word for word in shlex.split(words)])
@@ -129,6 +147,7 @@ class Runs(LibraryCase):
         super().setUpClass()
         (cls.room / "retiring.img").write_bytes(retiring().bytes)
         (cls.room / "large.img").write_bytes(large().bytes)
+        (cls.room / "many.img").write_bytes(many().bytes)
         (cls.room / "behind.img").write_bytes(behind_a_damaged_frame().bytes)
 
     def refusing(self, words, refused, **which):
@@ -138,9 +157,9 @@ class Runs(LibraryCase):
         whole, _ = self.refusing(words, 0)
         if words not in WITHOUT_REFERENCE:
             self.same("the answer", whole, right(words.replace(ROOM, f"{self.room}/")))
-        refused = 0
+        refused, step = 0, STEPS.get(words, 1)
         while True:
-            refused += 1
+            refused += step
             got, met = self.refusing(words, refused)
             if met < refused:
                 self.same("without a refusal", got, whole)
@@ -150,7 +169,7 @@ class Runs(LibraryCase):
             if met > refused or got != OUT_OF_MEMORY:
                 got, _ = self.refusing(words, refused, all_later=True)
                 self.same(f"allocation {refused} and all later ones refused", got, OUT_OF_MEMORY)
-        self.true("there are allocations", refused > 1)
+        self.true("there are allocations", refused > step)
 
     def check_threads(self, words):
         """Each allocation of all threads except the first one is refused. By then that one has scanned all extents, or loaded its part,

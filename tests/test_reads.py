@@ -130,6 +130,31 @@ class Reads(RoomCase):
         self.check(self.small, {300})
         self.check(self.small, {3, 300}, command=("locators",))
 
+    def check_one_extent(self, command, extent):
+        """The answer is right though no byte of the other extents can be read, and none is asked for."""
+        image = self.small
+        size = image.page * image.pages
+        others = [(begin, end) for begin, end in ((0, extent * size), ((extent + 1) * size, image.extents * size)) if begin < end]
+        words = [*command, *image.sizes, image.path]
+        self.same("the answer", self.answer(words, image, others, touched=True), (answered(words), (0, 0, 1)))
+
+    def test_only_extent_0_for_superblocks(self):
+        self.check_one_extent(["superblocks"], 0)
+
+    def test_only_one_extent_for_items(self):
+        for extent in (0, 1, self.small.extents - 1):
+            self.check_one_extent(["items", "--extent", str(extent)], extent)
+
+    def test_pages_of_one_extent(self):
+        """They are lost, in a read of the whole extent and alone."""
+        image, command = self.small, ["items", "--extent", "2"]
+        pages = {2 * image.pages, 2 * image.pages + 5, 3 * image.pages - 1}
+        right = self.named(image, pages, command)
+        for touched in (False, True):
+            got, counts = self.answer([*command, *image.sizes, image.path], image, image.ranges(pages), touched)
+            self.same("the answer", got, right)
+            self.true("each page fails alone", counts and counts.failed_short >= len(pages), counts)
+
     def test_the_last_page(self):
         self.check(self.large, {self.large.all_pages() - 1})
 

@@ -21,9 +21,9 @@ LISTED = TOP / "crates/scrub_refused_memory/stdout"
 # Calls without a growth. Every other call has at least one.
 WITHOUT_GROWTH = {"ExtentQueue::split"}
 # These look as if they took memory, but take none: an empty list, the contents of a list, a fault of another kind.
-TAKING_NONE = {"Batch::new", "Workspace::new", "WorkerCore::new", "Run::take", "Geometry::new", "write_out"}
+TAKING_NONE = {"Batch::new", "Workspace::new", "WorkerCore::new", "Geometry::new", "write_out"}
 # Functions that no command makes, each with the call that makes it.
-WITHIN_CALLS = {"Run::copy": "merge"}
+WITHIN_CALLS = {"Entry::copy": "merge"}
 # Functions that are tried in whole runs alone, each with a command line of tests/test_memory.py that makes it.
 IN_RUNS = {
     "Batch::append": "locators with a spare",
@@ -31,7 +31,8 @@ IN_RUNS = {
     "Batch::digests": "locators with a spare",
     "read_extent": "scan",
     "unreadable_pages": "scan",
-    "load_in_parts": "items by several readers",
+    "load_in_parts": "locators by several readers",
+    "load_extent": "items",
     "read_map": "scan with a map",
     "RescueMap::lost_blocks": "scan with a map",
     "RescueMap::first_lacking": "sizes with a map",
@@ -39,13 +40,15 @@ IN_RUNS = {
     "choose_with_pages": "superblocks",
     "Plan::with_resets": "manifest with resets",
     "find_superblocks": "sizes",
-    "scan_extent_in": "scan",
+    "scan_extents_in": "scan",
     "claimed_frame": "scan",
     "RunWriter::new": "index of several findings",
-    "merge_owned": "scan",
+    "merge_by_threads": "scan",
     "liveness_by": "scan",
     "liveness_of": "locators",
-    "LocatorIndex::of": "scan",
+    "LocatorIndex::of": "locators",
+    "LocatorIndex::by_threads": "scan",
+    "twins_by_threads": "scan",
     "Spares::of": "locators with a spare",
     "Spares::among": "reclaimable",
     "name_shard": "scan",

@@ -34,3 +34,4 @@ pub mod Listed
 pub mod RunsApart
 pub mod NamedLists
 pub mod Examples
+pub mod Rebuilt

@@ -10,7 +10,7 @@ pub mod statuses;
 
 pub use lists::broken::{broken_shards, one_list_of_broken_shards};
 pub use lists::candidate::Candidate;
-pub use lists::chunks::{orphans, twins};
+pub use lists::chunks::{orphans, twins, twins_by_threads};
 pub use lists::kept_chunk::KeptChunk;
 pub use lists::live::live_bytes;
 pub use lists::liveness::{Liveness, liveness_by, liveness_of};

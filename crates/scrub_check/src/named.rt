@@ -29,7 +29,7 @@ pub struct Named {
 }
 
 /// The locators of index runs, numbered from 0.
-fn name_runs(alloc: Global, runs: &[Locator]) -> Result<Vec<Named>, OutOfMemory>
+pub(crate) fn name_runs(alloc: Global, runs: &[Locator]) -> Result<Vec<Named>, OutOfMemory>
     requires { length runs.now < 2 ^ 32 }
     ensures { IfOk result (λ v. v.items ≡ named_by_runs 0 runs.now) }
 {

@@ -3,7 +3,7 @@
 
 use scrub_fakes::payloads::{entry_of, payload_of};
 use scrub_fakes::{abc_at, shard_numbered};
-use scrub_merge::{Binding, ShardMap, merge, merge_owned};
+use scrub_merge::{Binding, ShardMap, merge, merge_by_threads};
 use scrub_run::{Entry, Run, read_run};
 use std::alloc::Global;
 use std::process::Abort;
@@ -199,9 +199,11 @@ fn thirty_two_runs_of_two_thousand_entries_are_merged(rt: HostRuntime) -> Result
         runs.push(Some(numbered(rt.alloc(), 1000 * run)?))?;
     }
     assert!(rt; runs.len() == 32);
-    let map = merge_owned(rt.alloc(), runs)?;
-    assert!(rt; map.bindings().len() == 33_000);
+    let map = merge(rt.alloc(), &runs)?;
+    let by_threads = merge_by_threads(&rt, rt.alloc(), &runs)?;
+    assert!(rt; map.bindings().len() == 33_000 && by_threads.bindings().len() == 33_000);
     check_numbered(&rt, map.bindings());
+    check_numbered(&rt, by_threads.bindings());
     assert!(rt;
         map.get(&shard_numbered(32_999)).is_some() && map.get(&shard_numbered(33_000)).is_none()
     );

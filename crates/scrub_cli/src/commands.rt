@@ -1,9 +1,10 @@
 //! The commands, with the answer of each, and what they share: `disk_image` loads the disk in an image file,
-//! `rescue` reads the map of a rescue, and `answer` makes the answers.
+//! `disk_extent` one extent of it, `rescue` reads the map of a rescue, and `answer` makes the answers.
 
 pub(crate) mod answer;
 pub(crate) mod compare;
 pub(crate) mod demo;
+pub(crate) mod disk_extent;
 pub(crate) mod disk_image;
 pub(crate) mod geometry;
 pub(crate) mod items;

@@ -38,12 +38,12 @@ fn answer<'a, R: Threads + Wait + Sync, I: Images>(
     };
     match request {
         Request::Demo => Ok(demo(rt, alloc)?.0),
-        Request::Items(args) => items(rt, alloc, &args, images),
+        Request::Items(args) => items(alloc, &args, images),
         Request::Disk(wanted, args) => Ok(scan(rt, alloc, &args, images, &wanted)?.0),
         Request::Manifest(args) => Ok(manifest(rt, alloc, &args, images)?.0),
         Request::Compare(args) => Ok(compare(rt, alloc, &args, images)?.0),
         Request::Shard(args) => Ok(shard(rt, alloc, &args, images)?.0),
-        Request::Superblocks(args) => superblocks(rt, alloc, &args, images),
+        Request::Superblocks(args) => superblocks(alloc, &args, images),
         Request::Sizes(args) => sizes(alloc, &args, images),
     }
 }

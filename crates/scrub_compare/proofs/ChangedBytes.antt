@@ -16,7 +16,7 @@ use Rattle.scrub_disk.specs.Image.{Image, byte, extent_bytes}
 use Rattle.scrub_disk.proofs.HeldBytes.{byte-page, byte-unreadable}
 use Rattle.scrub_disk.proofs.PagesRead.{page_fits}
 use Rattle.scrub_super.specs.Pages.{IsHeldByte}
-use Rattle.scrub_compare.specs.Written.{IsChanged, IsLeast, IsWrittenIn, IsWrittenInRecords, IsZeroNow, MayChangeInRecords, MayChangeInRoom}
+use Rattle.scrub_compare.specs.Written.{IsChanged, IsLeastNumber, IsWrittenIn, IsWrittenInRecords, IsZeroNow, MayChangeInRecords, MayChangeInRoom}
 use Rattle.scrub_compare.specs.steps.Changes.{IsFirstWithin, IsLeastWithin, byte_at, is_refused, is_refused_at, is_refused_in, is_same_byte, is_zeroed, may_change}
 use Rattle.scrub_compare.proofs.Least.{least_of_all, tested}
 
@@ -267,7 +267,7 @@ images_least before after sizes x old new was is room to (Some q) (from, below, 
 -- the first byte of an extent that changed and may not
 pub written_least : (before after : Image) (sizes : after.geometry ≡ before.geometry) (x : ℕ) (room : Option ℕ) (to : ℕ) (r : Option ℕ) →
     IsLeastWithin 0 (extent_bytes before.geometry) (λ p. is_refused_in before after room to x p ≡ true) r →
-    IsLeast (IsWrittenIn before after room to x) r
+    IsLeastNumber (IsWrittenIn before after room to x) r
 written_least before after sizes x room to r least =
     least_of_all (IsWrittenIn before after room to x) (extent_bytes before.geometry) r
     (λ p past w. same_past before after x p sizes past w.0) (by r least)

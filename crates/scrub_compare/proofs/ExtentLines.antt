@@ -8,7 +8,7 @@ use Rattle.std.proofs.lemmas.Option.{none-some, same_Some}
 use Rattle.scrub_disk.specs.Image.{Image}
 use Rattle.scrub_super.specs.Plan.{PlanValue, pointer_of}
 use Rattle.scrub_report.specs.Scrubbed.{Scrubbed}
-use Rattle.scrub_compare.specs.Written.{AreFirstWritten, IsLeast, IsWrittenIn, pointer_in, room_at}
+use Rattle.scrub_compare.specs.Written.{AreFirstWritten, IsLeastNumber, IsWrittenIn, pointer_in, room_at}
 use Rattle.scrub_compare.specs.Compare.{extent_lines, lines_in}
 
 -- what follows from a result that is as it should be
@@ -41,13 +41,13 @@ pub record AreLinesTo (before after : Image) (resets : List ℕ) (found rest : S
   pub firsts : List (Option ℕ)
   pub count : length firsts + 1 ≡ n
   pub each : (k : ℕ) (first : Option ℕ) → slice_get firsts k ≡ Some first →
-      IsLeast (IsWrittenIn before after (room_at found (k + 1)) (pointer_in rest.plan (k + 1)) (k + 1)) first
+      IsLeastNumber (IsWrittenIn before after (room_at found (k + 1)) (pointer_in rest.plan (k + 1)) (k + 1)) first
   pub text_is : text ≡ old ++ extent_lines resets found rest firsts
 
 -- one extent more
 pub record HasLinesOf (before after : Image) (resets : List ℕ) (found rest : Scrubbed) (mid text : List ℕ) (n : ℕ) : Type 0 where
   pub first : Option ℕ
-  pub least : IsLeast (IsWrittenIn before after (room_at found n) (pointer_in rest.plan n) n) first
+  pub least : IsLeastNumber (IsWrittenIn before after (room_at found n) (pointer_in rest.plan n) n) first
   pub text_is : text ≡ mid ++ lines_in resets found rest n first
 
 module _ (before after : Image) (resets : List ℕ) (found rest : Scrubbed) (old : List ℕ) where
@@ -68,8 +68,8 @@ module _ (before after : Image) (resets : List ℕ) (found rest : Scrubbed) (old
       | inl before ↦ so_far.each k first before
       | inr (at, same) ↦
           let number : k + 1 ≡ n = omega (arith, at, so_far.count) in
-          subst (λ (o : Option ℕ). IsLeast (IsWrittenIn before after (room_at found (k + 1)) (pointer_in rest.plan (k + 1)) (k + 1)) o) same
-          (subst (λ (m : ℕ). IsLeast (IsWrittenIn before after (room_at found m) (pointer_in rest.plan m) m) one.first) (sym number) one.least)
+          subst (λ (o : Option ℕ). IsLeastNumber (IsWrittenIn before after (room_at found (k + 1)) (pointer_in rest.plan (k + 1)) (k + 1)) o) same
+          (subst (λ (m : ℕ). IsLeastNumber (IsWrittenIn before after (room_at found m) (pointer_in rest.plan m) m) one.first) (sym number) one.least)
     ];
     text_is =
         one.text_is

@@ -28,7 +28,7 @@ use Rattle.scrub_listings.proofs.ShardLines.{along_runs, shards_part}
 use Rattle.scrub_reclaim.specs.Copy.{IsSameOrSpared}
 use Rattle.scrub_reclaim.specs.Reset.{IsForeseen}
 use Rattle.scrub_reclaim.proofs.Reset.{as_foreseen}
-use Rattle.scrub_compare.specs.Compare.{AreCompared, Compared, IsBound, are_alike, both_of, generation_of, lost_line, new_line, owned_by, retired_change, row_in, runs_change, shard_change, shard_changes}
+use Rattle.scrub_compare.specs.Compare.{AreCompared, Compared, HasBinding, are_alike, both_of, generation_of, lost_line, new_line, owned_by, retired_change, row_in, runs_change, shard_change, shard_changes}
 use Rattle.scrub_compare.specs.Laws.{IsSafe, IsSameButMore}
 use Rattle.scrub_compare.proofs.BoundIds.{one_rising}
 use Rattle.scrub_compare.proofs.Kept.{alike_at, lines_of, same_length, zip_lines}
@@ -72,10 +72,10 @@ module _ (resets : List ℕ) (image : Image) (s : Scrubbed) (x : IsScrubbedBut r
   size id = length (owned_by id (of_shards s.checked))
 
   -- a shard is bound exactly if it names a locator
-  bound_some : (id : ShardId) → IsBound s.bindings id → 0 < size id
+  bound_some : (id : ShardId) → HasBinding s.bindings id → 0 < size id
   bound_some id there = by (bound_at s.bindings id there)
     where
-      bound_at : (bs : List BindingValue) (i : ShardId) → IsBound bs i → (b : BindingValue) × Contains bs b × (b.id ≡ i)
+      bound_at : (bs : List BindingValue) (i : ShardId) → HasBinding bs i → (b : BindingValue) × Contains bs b × (b.id ≡ i)
       bound_at [] i at = absurd (omega (arith, at.1))
       bound_at (b ∷ bs) i at = elim (Contains-cases b.id (map (λ v. v.id) bs) i at) [
         | inl here ↦ (b, (0, omega arith, refl), here)
@@ -90,7 +90,7 @@ module _ (resets : List ℕ) (image : Image) (s : Scrubbed) (x : IsScrubbedBut r
           let at : size b.id ≡ size id = ap size is in
           omega (arith, own, some, at)
 
-  some_bound : (id : ShardId) → 0 < size id → IsBound s.bindings id
+  some_bound : (id : ShardId) → 0 < size id → HasBinding s.bindings id
   some_bound id some =
       let same : size id ≡ length (filter (owns id) (flat_map named_by_shard s.bindings)) = owned_size (of_shards s.checked) s.bindings along id in
       owner_bound s.bindings id (omega (arith, some, same))
@@ -136,9 +136,9 @@ pub record AreKept (s t : Scrubbed) : Type 0 where
   pub read_now : lost_runs t ≡ 0
   pub fewer : hidden_runs t ≤ hidden_runs s
   pub ids : map (λ b. b.id) s.bindings ≡ map (λ b. b.id) t.bindings
-  pub sizes : (id : ShardId) → IsBound s.bindings id →
+  pub sizes : (id : ShardId) → HasBinding s.bindings id →
       length (owned_by id (of_shards s.checked)) ≡ length (owned_by id (of_shards t.checked))
-  pub alike : (id : ShardId) → IsBound s.bindings id → (n : ℕ) (c d : Checked) → slice_get (owned_by id (of_shards s.checked)) n ≡ Some c →
+  pub alike : (id : ShardId) → HasBinding s.bindings id → (n : ℕ) (c d : Checked) → slice_get (owned_by id (of_shards s.checked)) n ≡ Some c →
       slice_get (owned_by id (of_shards t.checked)) n ≡ Some d → are_alike (row_in s n c) (row_in t n d) ≡ true
 
 -- so their manifests are
@@ -176,7 +176,7 @@ module _ (resets others : List ℕ) (image other : Image) (s t : Scrubbed) (x : 
       (λ i d below. k.sizes (get_or t.bindings i d).id (among i d below) ∙ each_size (of_shards t.checked) t.bindings (along others other t y) (rising others other t y) i d below)
       ∙ sym (shards_size (of_shards t.checked) t.bindings (along others other t y)))
     where
-      among : (i : ℕ) (d : BindingValue) → i < length t.bindings → IsBound s.bindings (get_or t.bindings i d).id
+      among : (i : ℕ) (d : BindingValue) → i < length t.bindings → HasBinding s.bindings (get_or t.bindings i d).id
       among i d below =
           subst (λ (is : List ShardId). Contains is (get_or t.bindings i d).id) (sym k.ids)
           (i, omega (arith, below, length-map t.bindings (λ (b : BindingValue). b.id)), get_or-map (λ (b : BindingValue). b.id) t.bindings i d (get_or t.bindings i d).id below)
@@ -291,7 +291,7 @@ module _ (resets : List ℕ) (before after : Image) (c : Compared) (are : AreCom
     alike = λ id bound. alike_at (row_in c.found) (row_in c.kept) (owned_by id shards) (owned_by id shards_now) (unchanged id (among id bound));
   }
     where
-      among : (id : ShardId) → IsBound c.found.bindings id → Contains c.ids id
+      among : (id : ShardId) → HasBinding c.found.bindings id → Contains c.ids id
       among id bound = (are.ids.exact id).1 (inl bound)
 
 pub nothing_lost : (resets : List ℕ) (before after other : Image) (a b : List ℕ) → IsSafe resets before after → IsForeseen resets after other →

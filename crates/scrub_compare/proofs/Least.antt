@@ -1,7 +1,7 @@
 -- The least number of which something holds, found part by part.
 use Rattle.std.proofs.Common.{◌≡◌, ◌<◌, ◌≤◌, ℕ, Bool, true, false, is_some, Option, Some, None, MatchOption, arith, refl, sym, ◌∙◌, ap, inl, inr}
 use Rattle.std.proofs.lemmas.Bool.{cases_lt, false≢true}
-use Rattle.scrub_compare.specs.Written.{IsLeast}
+use Rattle.scrub_compare.specs.Written.{IsLeastNumber}
 use Rattle.scrub_compare.specs.steps.Changes.{IsFirstWithin, IsLeastWithin}
 
 -- by a test
@@ -40,7 +40,7 @@ module _ (P : ℕ → Type 0) (low mid high : ℕ) (before : (p : ℕ) → low �
   )
 
 -- where it can hold below a bound alone
-pub least_of_all : (P : ℕ → Type 0) (top : ℕ) (r : Option ℕ) → ((p : ℕ) → top ≤ p → ¬ P p) → IsLeastWithin 0 top P r → IsLeast P r
+pub least_of_all : (P : ℕ → Type 0) (top : ℕ) (r : Option ℕ) → ((p : ℕ) → top ≤ p → ¬ P p) → IsLeastWithin 0 top P r → IsLeastNumber P r
 least_of_all P top None past least = λ p. elim (cases_lt p top) [
   | inl less ↦ least p (omega arith) less
   | inr more ↦ past p more
@@ -48,7 +48,7 @@ least_of_all P top None past least = λ p. elim (cases_lt p top) [
 least_of_all P top (Some q) past (from, to, is, earlier) = (is, λ p below. earlier p (omega arith) below)
 
 -- there is one
-pub one_least : (P : ℕ → Type 0) (a b : Option ℕ) → IsLeast P a → IsLeast P b → a ≡ b
+pub one_least : (P : ℕ → Type 0) (a b : Option ℕ) → IsLeastNumber P a → IsLeastNumber P b → a ≡ b
 one_least P None None x y = refl
 one_least P None (Some q) x y = absurd (x q y.0)
 one_least P (Some p) None x y = absurd (y p x.0)
@@ -61,6 +61,6 @@ one_least P (Some p) (Some q) x y = elim (cases_lt p q) [
 ]
 
 -- what holds of another number in the same way
-pub least_alike : (P Q : ℕ → Type 0) (r : Option ℕ) → ((p : ℕ) → P p → Q p) → ((p : ℕ) → Q p → P p) → IsLeast P r → IsLeast Q r
+pub least_alike : (P Q : ℕ → Type 0) (r : Option ℕ) → ((p : ℕ) → P p → Q p) → ((p : ℕ) → Q p → P p) → IsLeastNumber P r → IsLeastNumber Q r
 least_alike P Q None there back none = λ p q. none p (back p q)
 least_alike P Q (Some p) there back (is, earlier) = (there p is, λ q below held. earlier q below (back q held))

@@ -17,7 +17,7 @@ use Rattle.scrub_reclaim.specs.Reset.{IsPlanIn}
 use Rattle.scrub_reclaim.specs.Room.{has_room, place_in}
 use Rattle.scrub_reclaim.proofs.NextPlaces.{place_above}
 use Rattle.scrub_reclaim.proofs.Reset.{in_disk}
-use Rattle.scrub_compare.specs.Written.{IsLeast, IsWrittenIn, MayChangeInRoom, pointer_in, room_at, room_of}
+use Rattle.scrub_compare.specs.Written.{IsLeastNumber, IsWrittenIn, MayChangeInRoom, pointer_in, room_at, room_of}
 use Rattle.scrub_compare.specs.Compare.{AreCompared, Compared, is_reset, lines_in, may_follow, pointer_line, written_line}
 use Rattle.scrub_compare.specs.Laws.{IsSafe, KeepsBytes}
 use Rattle.scrub_compare.proofs.ChangedBytes.{same_or_other}
@@ -82,7 +82,7 @@ module _ (resets : List ℕ) (before after : Image) (sizes : after.geometry ≡ 
       parts : (pointer_line resets (room_at c.found (k + 1)) (k + 1) (pointer_in c.found.plan (k + 1)) (pointer_in c.rest.plan (k + 1)) ≡ []) × (written_line (k + 1) first ≡ [])
       parts = both_none (pointer_line resets (room_at c.found (k + 1)) (k + 1) (pointer_in c.found.plan (k + 1)) (pointer_in c.rest.plan (k + 1))) (written_line (k + 1) first) lines
 
-      by : (o : Option ℕ) → written_line (k + 1) o ≡ [] → IsLeast (IsWrittenIn before after (room_at c.found (k + 1)) (pointer_in c.rest.plan (k + 1)) (k + 1)) o →
+      by : (o : Option ℕ) → written_line (k + 1) o ≡ [] → IsLeastNumber (IsWrittenIn before after (room_at c.found (k + 1)) (pointer_in c.rest.plan (k + 1)) (k + 1)) o →
           (p : ℕ) → ¬ IsWrittenIn before after (room_at c.found (k + 1)) (pointer_in c.rest.plan (k + 1)) (k + 1) p
       by None empty least = least
       by (Some q) empty least = absurd (some_text (codes "written") _ (omega arith) empty)

@@ -9,7 +9,7 @@ use Rattle.scrub_check.specs.steps.LocatorIndex.{AreBarredExtents}
 use Rattle.scrub_reclaim.specs.Room.{may_grow, place_in, room_fits}
 use Rattle.scrub_reclaim.specs.steps.Room.{may_grow_by}
 use Rattle.scrub_reclaim.proofs.RoomLines.{grows_by}
-use Rattle.scrub_compare.specs.Written.{room_in, room_of}
+use Rattle.scrub_compare.specs.Written.{room_of_extent, room_of}
 
 module _ (g : Geometry) (checked : List Checked) (unsound : List ℕ) (f : Scanned) (are : AreBarredExtents checked unsound) (r : Bool)
     (is : r ≡ may_grow_by unsound f) where
@@ -25,8 +25,8 @@ module _ (g : Geometry) (checked : List Checked) (unsound : List ℕ) (f : Scann
       ∙ ap (λ (t : Bool). if t && room_fits g f then Some (place_in g f) else None) (sym free ∙ is ∙ grows_by checked unsound f are)
 
 module _ (g : Geometry) (all : List Scanned) (checked : List Checked) (x : ℕ) where
-  pub room_found : (f : Scanned) (room : Option ℕ) → entry_of all x ≡ Some f → room ≡ room_of g checked f → room ≡ room_in g all checked x
+  pub room_found : (f : Scanned) (room : Option ℕ) → entry_of all x ≡ Some f → room ≡ room_of g checked f → room ≡ room_of_extent g all checked x
   room_found f room entry is = is ∙ ap (option_and_then (room_of g checked)) (sym entry)
 
-  pub room_lost : entry_of all x ≡ None → None ≡ room_in g all checked x
+  pub room_lost : entry_of all x ≡ None → None ≡ room_of_extent g all checked x
   room_lost entry = ap (option_and_then (room_of g checked)) (sym entry)

@@ -18,7 +18,7 @@ use Rattle.scrub_check.specs.declared.statuses.checked.Checked.{Checked}
 use Rattle.scrub_check.specs.Checked.{is_owned_by, named_of}
 use Rattle.scrub_check.specs.Named.{named_by_shard}
 use Rattle.scrub_check.proofs.Between.{filter_mapped}
-use Rattle.scrub_compare.specs.Compare.{IsBound, owned_by}
+use Rattle.scrub_compare.specs.Compare.{HasBinding, owned_by}
 
 abbrev Rising : List BindingValue → Type 0
 Rising bs = AllPairs (λ b c. IsBelow b.id c.id) bs
@@ -95,15 +95,15 @@ names_owned (b ∷ bs) rising =
     rest sizes i d below = behind (get_or bs i d) (above i d below) (sizes i d below)
 
 -- a shard that owns a name is bound
-pub owner_bound : (bs : List BindingValue) (id : ShardId) → 0 < length (filter (owns id) (flat_map named_by_shard bs)) → IsBound bs id
+pub owner_bound : (bs : List BindingValue) (id : ShardId) → 0 < length (filter (owns id) (flat_map named_by_shard bs)) → HasBinding bs id
 owner_bound [] id some = absurd (omega (arith, some))
 owner_bound (b ∷ bs) id some = by (is_owned_by id (Shard b.id)) refl (owner_bound bs id)
   where
-    behind : IsBound bs id → IsBound (b ∷ bs) id
+    behind : HasBinding bs id → HasBinding (b ∷ bs) id
     behind there = (suc there.0, omega (arith, there.1), there.2)
 
-    by : (t : Bool) → is_owned_by id (Shard b.id) ≡ t → (0 < length (filter (owns id) (flat_map named_by_shard bs)) → IsBound bs id) →
-        IsBound (b ∷ bs) id
+    by : (t : Bool) → is_owned_by id (Shard b.id) ≡ t → (0 < length (filter (owns id) (flat_map named_by_shard bs)) → HasBinding bs id) →
+        HasBinding (b ∷ bs) id
     by true is later = (0, omega arith, λ i. record { 0 = (bytes_eq-Decides b.id.0 id.0).0 is i })
     by false is later =
         let same : filter (owns id) (named_by_shard b ++ flat_map named_by_shard bs) ≡ filter (owns id) (flat_map named_by_shard bs) =

@@ -24,7 +24,7 @@ use Rattle.scrub_listings.specs.Locators.{locator_line}
 use Rattle.scrub_listings.specs.Manifest.{form_text, hidden_runs, looked_for, lost_runs, numbered_text, of_shards, retired_line, runs_line}
 use Rattle.scrub_reclaim.specs.declared.doubts.Doubt.{Doubt}
 use Rattle.scrub_reclaim.specs.Doubts.{choice_doubts, doubt_text, page_doubts, run_doubts, superblock_lost}
-use Rattle.scrub_compare.specs.Written.{AreFirstWritten, IsLeast, IsWrittenInRecords, pointer_in, room_at}
+use Rattle.scrub_compare.specs.Written.{AreFirstWritten, IsLeastNumber, IsWrittenInRecords, pointer_in, room_at}
 
 -- ---- doubts
 
@@ -207,13 +207,13 @@ manifest_changes found kept ids =
     ++ shard_changes (row_in found) (row_in kept) (of_shards found.checked) (of_shards kept.checked) ids
 
 -- one of these bindings has the identifier
-abbrev pub IsBound : List BindingValue → ShardId → Type 0
-IsBound bindings id = Contains (map (λ b. b.id) bindings) id
+abbrev pub HasBinding : List BindingValue → ShardId → Type 0
+HasBinding bindings id = Contains (map (λ b. b.id) bindings) id
 
 -- the identifiers that are bound on one of two disks, ascending, each once
 pub record AreBoundIds (old new : List BindingValue) (ids : List ShardId) : Type 0 where
   pub rising : AllPairs IsBelow ids
-  pub exact : (id : ShardId) → Contains ids id ↔ (IsBound old id ⊎ IsBound new id)
+  pub exact : (id : ShardId) → Contains ids id ↔ (HasBinding old id ⊎ HasBinding new id)
 
 -- ---- the whole text
 
@@ -235,7 +235,7 @@ pub record AreCompared (resets : List ℕ) (before after : Image) (c : Compared)
   pub kept : IsScrubbedBut resets after c.kept
   pub pages : AreSuperblockPages before c.pages
   pub pages_now : AreSuperblockPages after c.pages_now
-  pub first : IsLeast (IsWrittenInRecords before after) c.first
+  pub first : IsLeastNumber (IsWrittenInRecords before after) c.first
   pub firsts : AreFirstWritten before after c.found c.rest c.firsts
   pub ids : AreBoundIds c.found.bindings c.kept.bindings c.ids
 
@@ -273,9 +273,9 @@ abbrev pub with_last : ℕ → ℕ → List ℕ → List ℕ
 with_last old new lines = lines ++ (if len lines == 0 then safe_line old new else unsafe_line)
 
 -- the whole text by the lines of doubts, the other lines, and the generations: without one of them the doubts alone are there
-abbrev pub text_by : List ℕ → List ℕ → Option (ℕ × ℕ) → List ℕ
-text_by doubts others None = doubts ++ unsafe_line
-text_by doubts others (Some both) = with_last both.0 both.1 (doubts ++ generation_line both.0 both.1 ++ others)
+abbrev pub whole_text : List ℕ → List ℕ → Option (ℕ × ℕ) → List ℕ
+whole_text doubts others None = doubts ++ unsafe_line
+whole_text doubts others (Some both) = with_last both.0 both.1 (doubts ++ generation_line both.0 both.1 ++ others)
 
 -- it is safe: both superblocks count, and there is no line
 abbrev pub is_safe_by : List ℕ → List ℕ → Option (ℕ × ℕ) → Bool
@@ -288,7 +288,7 @@ generations_in c = both_of (generation_of c.found.choice) (generation_of c.rest.
 
 -- the whole text
 abbrev pub comparison_text : List ℕ → Compared → List ℕ
-comparison_text resets c = text_by (doubts_of_both c) (changes resets c) (generations_in c)
+comparison_text resets c = whole_text (doubts_of_both c) (changes resets c) (generations_in c)
 
 -- whether it is safe
 abbrev pub is_safe : List ℕ → Compared → Bool

@@ -40,12 +40,12 @@ abbrev pub room_of : Geometry → List Checked → Scanned → Option ℕ
 room_of g checked f = if has_room g checked f then Some (place_in g f) else None
 
 -- the place where extent x has room, if it has, by the sizes, what was scanned and the named locators
-abbrev pub room_in : Geometry → List Scanned → List Checked → ℕ → Option ℕ
-room_in g all checked x = option_and_then (room_of g checked) (entry_of all x)
+abbrev pub room_of_extent : Geometry → List Scanned → List Checked → ℕ → Option ℕ
+room_of_extent g all checked x = option_and_then (room_of g checked) (entry_of all x)
 
 -- the same by what is found on a disk
 abbrev pub room_at : Scrubbed → ℕ → Option ℕ
-room_at found x = room_in found.plan.geometry found.all found.checked x
+room_at found x = room_of_extent found.plan.geometry found.all found.checked x
 
 -- the write pointer of extent x, retired or not, or 0 where there is none
 abbrev pub pointer_in : PlanValue → ℕ → ℕ
@@ -54,8 +54,8 @@ pointer_in plan x = unwrap_or (pointer_of plan x) 0
 -- ---- the first byte
 
 -- this is the least number of which something holds, or it holds of none
-abbrev pub IsLeast : (ℕ → Type 0) → Option ℕ → Type 0
-IsLeast P least = MatchOption least ((p : ℕ) → ¬ P p) (λ p. P p × ((q : ℕ) → q < p → ¬ P q))
+abbrev pub IsLeastNumber : (ℕ → Type 0) → Option ℕ → Type 0
+IsLeastNumber P least = MatchOption least ((p : ℕ) → ¬ P p) (λ p. P p × ((q : ℕ) → q < p → ¬ P q))
 
 -- byte p of extent 0 changed and may not
 abbrev pub IsWrittenInRecords : Image → Image → ℕ → Type 0
@@ -69,4 +69,4 @@ IsWrittenIn before after room pointer x p = IsChanged before after x p × (¬ Ma
 pub record AreFirstWritten (before after : Image) (found rest : Scrubbed) (firsts : List (Option ℕ)) : Type 0 where
   pub count : len firsts + 1 ≡ before.geometry.extents
   pub each : (k : ℕ) (first : Option ℕ) → slice_get firsts k ≡ Some first →
-      IsLeast (IsWrittenIn before after (room_at found (k + 1)) (pointer_in rest.plan (k + 1)) (k + 1)) first
+      IsLeastNumber (IsWrittenIn before after (room_at found (k + 1)) (pointer_in rest.plan (k + 1)) (k + 1)) first

@@ -4,7 +4,7 @@ ghost use Rattle.std.specs.Prelude.{◌≡◌, ◌<◌, ◌≤◌, ◌+◌, ◌*
 ghost use Rattle.std.specs.Str.{bytes_eq};
 ghost use Rattle.scrub_disk.specs.Image.{extent_bytes};
 ghost use Rattle.scrub_disk.specs.Limits.{max_extent_bytes};
-ghost use Rattle.scrub_compare.specs.Written.{IsLeast, IsWrittenIn};
+ghost use Rattle.scrub_compare.specs.Written.{IsLeastNumber, IsWrittenIn};
 ghost use Rattle.scrub_compare.specs.steps.Changes.{may_change};
 ghost use Rattle.scrub_compare.specs.steps.Changes.{IsFirstWithin, IsLeastWithin, byte_at, is_refused};
 ghost use Rattle.scrub_compare.specs.steps.Changes.{is_refused_at, is_refused_in, is_same_byte, is_zeroed};
@@ -205,7 +205,7 @@ pub(crate) fn first_written<D: PageSource, E: PageSource>(
     requires sizes { (E.image after.now).geometry ≡ (D.image before.now).geometry }
     requires extent { extent < (D.image before.now).geometry.extents }
     ensures { IfOk result
-        (IsLeast (IsWrittenIn (D.image before.now) (E.image after.now) room pointer extent)) }
+        (IsLeastNumber (IsWrittenIn (D.image before.now) (E.image after.now) room pointer extent)) }
 {
     let to = pointer as u64;
     first_refused(alloc, before, after, extent, Leave { room, to })

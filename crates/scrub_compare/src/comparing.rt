@@ -8,10 +8,10 @@ ghost use Rattle.scrub_disk.specs.Image.{Image};
 ghost use Rattle.scrub_super.specs.Pages.{AreSuperblockPages};
 ghost use Rattle.scrub_report.specs.Answer.{AreTakingsBy};
 ghost use Rattle.scrub_report.specs.Parts.{ArePartsBut, ArePartsOf, found_in};
-ghost use Rattle.scrub_compare.specs.Written.{AreFirstWritten, IsLeast, IsWrittenInRecords};
+ghost use Rattle.scrub_compare.specs.Written.{AreFirstWritten, IsLeastNumber, IsWrittenInRecords};
 ghost use Rattle.scrub_compare.specs.Compare.{IsComparison, IsSafety, both_of, extent_lines, firm_lines};
 ghost use Rattle.scrub_compare.specs.Compare.{generation_line, generation_of, is_safe_by, named_lines};
-ghost use Rattle.scrub_compare.specs.Compare.{safe_line, text_by, unsafe_line, written_line};
+ghost use Rattle.scrub_compare.specs.Compare.{safe_line, whole_text, unsafe_line, written_line};
 
 use crate::extents::{append_extents, append_written};
 use crate::firm::append_firm;
@@ -113,7 +113,7 @@ fn lines_of_extents<D: PageSource, E: PageSource>(
     requires held { AreSuperblockPages (E.image after.now) pages_now.now }
     ensures { (p : ArePartsOf (D.image before.now) found.now) (q : ArePartsOf (E.image after.now) rest.now) →
         IfOk result (λ text. (first : Option ℕ) ×
-        IsLeast (IsWrittenInRecords (D.image before.now) (E.image after.now)) first ×
+        IsLeastNumber (IsWrittenInRecords (D.image before.now) (E.image after.now)) first ×
         (firsts : List (Option ℕ)) ×
         AreFirstWritten (D.image before.now) (E.image after.now) (found_in found.now p.read)
         (found_in rest.now q.read) firsts × (string_bytes text ≡ written_line 0 first ++
@@ -184,7 +184,7 @@ fn listing_by(
     others: &str,
     generations: Option<(u64, u64)>,
 ) -> Result<Listing, OutOfMemory>
-    ensures text { IfOk result (λ l. l.text.items ≡ text_by (string_bytes doubts) others.now generations) }
+    ensures text { IfOk result (λ l. l.text.items ≡ whole_text (string_bytes doubts) others.now generations) }
     ensures safe { IfOk result (λ l. l.is_clean ≡ is_safe_by (string_bytes doubts) others.now generations) }
 {
     let mut text = doubts;

@@ -7,12 +7,13 @@ ghost use Rattle.std.specs.List.Sorted.{IsSorted, IsStrictlyIncreasing};
 ghost use Rattle.scrub_check.specs.declared.statuses.checked.Checked.{Checked};
 ghost use Rattle.scrub_check.specs.steps.LocatorIndex.{AreBarredExtents};
 ghost use Rattle.scrub_report.specs.Parts.{ArePartsOf, found_in};
-ghost use Rattle.scrub_compare.specs.Written.{AreFirstWritten, IsLeast, IsWrittenIn, pointer_in, room_in};
+ghost use Rattle.scrub_compare.specs.Written.{AreFirstWritten, IsLeastNumber, IsWrittenIn, pointer_in};
+ghost use Rattle.scrub_compare.specs.Written.{room_of_extent};
 ghost use Rattle.scrub_compare.specs.Compare.{extent_lines, is_reset, lines_of_extent, may_follow};
 ghost use Rattle.scrub_compare.specs.Compare.{pointer_line, written_line};
 
 use crate::bytes::first_written;
-use crate::rooms::room_in;
+use crate::rooms::room_of_extent;
 use scrub_disk::{OutOfMemory, PageSource};
 use scrub_reclaim::room::{sorted, unsound_extents};
 use scrub_report::parts::{Judged, Parts};
@@ -112,15 +113,15 @@ fn append_extent<D: PageSource, E: PageSource>(
     requires in_extents { extent < (D.image before.now).geometry.extents }
     ensures { (checked : List Checked) → AreBarredExtents checked unsound.now →
         OnOk result ((first : Option ℕ) ×
-        IsLeast (IsWrittenIn (D.image before.now) (E.image after.now)
-        (room_in found.now.scan.plan.geometry found.now.scan.all.extents checked extent)
+        IsLeastNumber (IsWrittenIn (D.image before.now) (E.image after.now)
+        (room_of_extent found.now.scan.plan.geometry found.now.scan.all.extents checked extent)
         (pointer_in plan.now extent) extent) first ×
         (string_bytes text.new ≡ string_bytes text.old ++ lines_of_extent resets.now
-        (room_in found.now.scan.plan.geometry found.now.scan.all.extents checked extent) extent
+        (room_of_extent found.now.scan.plan.geometry found.now.scan.all.extents checked extent) extent
         (pointer_in found.now.scan.plan extent) (pointer_in plan.now extent) first)) }
 {
     let scan = &found.scan;
-    let room = room_in(scan.plan.geometry(), &scan.all, unsound, extent);
+    let room = room_of_extent(scan.plan.geometry(), &scan.all, unsound, extent);
     let (old, new) = (scan.plan.pointer(extent), plan.pointer(extent));
     let first = first_written(alloc, before, after, extent, room, new)?;
     append_lines(text, resets, room, extent, old, new, first)

@@ -7,7 +7,7 @@ ghost use Rattle.scrub_super.specs.Pages.{AreSuperblockPages};
 ghost use Rattle.scrub_super.specs.Record.{AreContents, BeginsWithRecord, record_bytes};
 ghost use Rattle.scrub_disk.specs.declared.geometry.Geometry.{Geometry};
 ghost use Rattle.scrub_super.specs.steps.RecordRead.{record_head_size};
-ghost use Rattle.scrub_compare.specs.Written.{IsLeast, IsWrittenInRecords};
+ghost use Rattle.scrub_compare.specs.Written.{IsLeastNumber, IsWrittenInRecords};
 ghost use Rattle.scrub_compare.specs.steps.Changes.{BeginsAsSaid, IsReachWith};
 
 use crate::bytes::{Leave, first_in_page};
@@ -87,7 +87,7 @@ pub(crate) fn first_in_records<D: PageSource, E: PageSource>(
 ) -> Result<Option<u32>, OutOfMemory>
     requires sizes { (E.image after.now).geometry ≡ (D.image before.now).geometry }
     requires held { AreSuperblockPages (E.image after.now) pages.now }
-    ensures { IfOk result (IsLeast (IsWrittenInRecords (D.image before.now) (E.image after.now))) }
+    ensures { IfOk result (IsLeastNumber (IsWrittenInRecords (D.image before.now) (E.image after.now))) }
 {
     let geometry = after.geometry();
     let size = geometry.page() as usize;

@@ -7,7 +7,7 @@ ghost use Rattle.scrub_scan.specs.Scanned.{scanned};
 ghost use Rattle.scrub_check.specs.declared.statuses.checked.Checked.{Checked};
 ghost use Rattle.scrub_check.specs.steps.LocatorIndex.{AreBarredExtents};
 ghost use Rattle.scrub_reclaim.specs.Room.{place_in, room_fits};
-ghost use Rattle.scrub_compare.specs.Written.{room_in, room_of};
+ghost use Rattle.scrub_compare.specs.Written.{room_of_extent, room_of};
 
 use scrub_disk::{Geometry, PageSource};
 use scrub_frame::Form;
@@ -45,7 +45,7 @@ fn room_of<D: PageSource>(
 }
 
 /// Where an extent has room; it has none if it wasn't scanned.
-pub(crate) fn room_in<D: PageSource>(
+pub(crate) fn room_of_extent<D: PageSource>(
     geometry: Geometry,
     all: &AllFindings<'_, D>,
     unsound: &[u32],
@@ -53,7 +53,7 @@ pub(crate) fn room_in<D: PageSource>(
 ) -> Option<u64>
     requires { IsSorted nat_cmp unsound.now }
     ensures { (checked : List Checked) → AreBarredExtents checked unsound.now →
-        result ≡ room_in geometry all.now.extents checked extent }
+        result ≡ room_of_extent geometry all.now.extents checked extent }
 {
     match all.result_of(extent) {
         Some(found) => room_of(geometry, unsound, found),

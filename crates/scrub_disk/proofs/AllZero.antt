@@ -1,38 +1,24 @@
--- Bytes that are all zero: they are the same as those one place on.
-use Rattle.std.proofs.Common.{◌≡◌, ◌<◌, ◌-◌, ◌+◌, ◌↔◌, ℕ, zero, suc, List, length, drop, take, get_or, arith, sym, ◌∙◌, ap, Bool, IsTrue, true, replicate}
-use Rattle.std.proofs.lemmas.List.{get_or-drop, get_or-take, get_or-replicate, length-drop, length-take-le, length-replicate, take_all, ext_get_or}
-use Rattle.std.proofs.lemmas.Slice.Eq.{bytes_eq-Decides}
-use Rattle.std.specs.Str.{bytes_eq}
+-- Bytes that are all zero, step by step.
+use Rattle.std.proofs.Common.{◌≡◌, ◌<◌, ◌≤◌, ◌-◌, ◌+◌, ◌↔◌, ℕ, List, length, drop, take, get_or, arith, sym, ◌∙◌, ap, inl, inr, Bool, IsTrue, true, replicate}
+use Rattle.std.proofs.lemmas.Bool.{cases_lt}
+use Rattle.std.proofs.lemmas.List.{get_or-drop, get_or-take, get_or-replicate, length-drop, length-take-le, length-replicate, ext_get_or}
 
 abbrev pub AreZero : List ℕ → Type 0
 AreZero xs = (k : ℕ) → k < length xs → get_or xs k 0 ≡ 0
 
-from_first : (xs : List ℕ) → get_or xs 0 0 ≡ 0 → drop 1 xs ≡ take (length xs - 1) xs → AreZero xs
-from_first xs first same zero here = first
-from_first xs first same (suc k) here =
-    ap (λ j. get_or xs j 0) (let e : suc k ≡ 1 + k = omega arith in e)
-    ∙ sym (get_or-drop 1 xs k 0)
-    ∙ ap (λ ys. get_or ys k 0) same
-    ∙ get_or-take (length xs - 1) xs k 0 (let e : k < length xs - 1 = omega (arith, here) in e)
-    ∙ from_first xs first same k (omega (arith, here))
-
-same_on : (xs : List ℕ) → AreZero xs → drop 1 xs ≡ take (length xs - 1) xs
-same_on xs all =
-    ext_get_or 0 (drop 1 xs) (take (length xs - 1) xs)
-    (length-drop 1 xs ∙ sym (length-take-le (length xs - 1) xs (omega arith))) (λ i here.
-    let within : i < length xs - 1 = omega (arith, here, length-drop 1 xs) in
-    get_or-drop 1 xs i 0 ∙ all (1 + i) (omega (arith, within))
-    ∙ sym (get_or-take (length xs - 1) xs i 0 within ∙ all i (omega (arith, within))))
-
--- bytes whose first is zero are all zero exactly if they equal those one place on
-pub zeros_decided : (xs : List ℕ) (r : Bool) → get_or xs 0 0 ≡ 0 →
-    r ≡ bytes_eq (take (length xs - 1) (drop 1 xs)) (take (length xs - 1) xs) → IsTrue r ↔ AreZero xs
-zeros_decided xs r first says =
-    let decided : r ≡ bytes_eq (drop 1 xs) (take (length xs - 1) xs) =
-    says
-    ∙ ap (λ ys. bytes_eq ys (take (length xs - 1) xs)) (take_all (length xs - 1) (drop 1 xs) (omega (arith, length-drop 1 xs))) in
-    let decides = bytes_eq-Decides (drop 1 xs) (take (length xs - 1) xs) in
-    (λ yes. from_first xs first (decides.0 (sym decided ∙ yes)), λ all. decided ∙ decides.1 (same_on xs all))
+-- those up to a place, and those of a part from there on
+pub zero_on : (xs : List ℕ) (place stop : ℕ) → place ≤ stop → stop ≤ length xs → ((k : ℕ) → k < place → get_or xs k 0 ≡ 0)
+    → AreZero (take (stop - place) (drop place xs)) → (k : ℕ) → k < stop → get_or xs k 0 ≡ 0
+zero_on xs place stop le within before here k lt = elim (cases_lt k place) [
+  | inl front ↦ before k front
+  | inr behind ↦
+      let j = k - place in
+      let size = length-take-le (stop - place) (drop place xs) (omega (arith, length-drop place xs, within)) in
+      let below : j < stop - place = omega (arith, lt, behind) in
+      let same : place + j ≡ k = omega (arith, behind) in
+      ap (λ i. get_or xs i 0) (sym same) ∙ sym (get_or-drop place xs j 0)
+      ∙ sym (get_or-take (stop - place) (drop place xs) j 0 below) ∙ here j (omega (arith, size, below))
+]
 
 -- bytes that are found to be zero are zeros
 pub are_zeros : (xs : List ℕ) (r : Bool) → r ≡ true → IsTrue r ↔ AreZero xs → xs ≡ replicate (length xs) 0

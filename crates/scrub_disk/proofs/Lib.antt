@@ -10,6 +10,8 @@ pub mod StoredPages
 pub mod PartsRead
 pub mod JoinedBlocks
 pub mod LostPages
+pub mod BehindExtent
+pub mod SameExtents
 pub mod PagesRead
 pub mod Filters
 pub mod Zips

@@ -14,7 +14,7 @@ use Rattle.scrub_disk.specs.steps.Ahead.{IsReadFrom}
 use Rattle.scrub_disk.proofs.RawImages.{holds_raw}
 
 -- a page that is whole at its place isn't cut
-uncut : (known : List ℕ) (place size : ℕ) (page : Option (List ℕ)) → 0 < size → length known < place + size →
+pub uncut : (known : List ℕ) (place size : ℕ) (page : Option (List ℕ)) → 0 < size → length known < place + size →
     IfSome page (IsPageAt known place size) → page ≡ None
 uncut known place size None some cut at = refl
 uncut known place size (Some bytes) some cut at =
@@ -24,7 +24,7 @@ uncut known place size (Some bytes) some cut at =
     absurd (omega (arith, within, cut, some))
 
 -- a page is unreadable only if its number is marked
-marked_at : (b : Bool) (page : List ℕ) → cond b None (Some page) ≡ None → b ≡ true
+pub marked_at : (b : Bool) (page : List ℕ) → cond b None (Some page) ≡ None → b ≡ true
 marked_at true page e = refl
 marked_at false page e = absurd (none-some page (sym e))
 

@@ -9,5 +9,6 @@ pub mod Raw
 pub mod Stored
 pub mod Joined
 pub mod Parted
+pub mod OneExtent
 -- Steps of the code, and lemmas that types need.
 pub mod steps

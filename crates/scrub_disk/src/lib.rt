@@ -5,9 +5,11 @@
 
 mod blocks;
 pub mod buffered_extent;
+pub mod extent_loading;
 pub mod geometry;
 pub mod loading;
 pub mod memory;
+pub mod one_extent;
 pub mod parted_loading;
 pub mod parts;
 pub mod raw;
@@ -16,9 +18,11 @@ pub mod source;
 pub mod zeros;
 
 pub use buffered_extent::{BufferedExtent, read_extent, unreadable_pages};
+pub use extent_loading::load_extent;
 pub use geometry::{Geometry, GeometryFault};
 pub use loading::{LoadFault, load};
 pub use memory::MemDisk;
+pub use one_extent::OneExtent;
 pub use parted_loading::load_in_parts;
 pub use parts::PartedDisk;
 pub use raw::{RawFault, RawImage};

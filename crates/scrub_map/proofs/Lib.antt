@@ -2,6 +2,7 @@ pub mod FieldCuts
 pub mod FirstLacking
 pub mod Keeping
 pub mod Lost
+pub mod LostDecided
 pub mod MapLaws
 pub mod MapLines
 pub mod Numerals

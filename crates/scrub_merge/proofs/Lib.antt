@@ -7,3 +7,4 @@ pub mod Left
 pub mod NextBound
 pub mod Moves
 pub mod Heaps
+pub mod Parted

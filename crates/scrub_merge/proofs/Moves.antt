@@ -1,11 +1,10 @@
 -- Moving one cursor past the least identifier.
 use Rattle.std.proofs.Common.{◌≡◌, ◌+◌, ◌<◌, ◌^◌, ℕ, zero, suc, Bool, true, false, Option, Some, None, IfSome, List, [], ◌∷◌, length, drop, get_or, slice_set, arith, refl, sym, ◌∙◌, ap, inl, inr}
 use Rattle.std.specs.Prelude.{slice_get, unwrap_or}
-use Rattle.std.specs.Option.{option_map}
 use Rattle.std.specs.Ordering.{is_eq}
 use Rattle.std.proofs.lemmas.Bool.{cases_eq, cases_lt}
 use Rattle.std.proofs.lemmas.List.{get_or-set_same, get_or-set_other, length-set, length-drop}
-use Rattle.std.proofs.lemmas.Option.{same_Some, slice_get_within, slice_get_read, get_or_from_slice_get}
+use Rattle.std.proofs.lemmas.Option.{slice_get_within, slice_get_read, get_or_from_slice_get}
 use Rattle.scrub_run.specs.declared.shard_id.ShardId.{ShardId}
 use Rattle.scrub_run.specs.Entry.{EntryValue, IsBelow}
 use Rattle.scrub_run.specs.Run.{RisesById, AreEntries}
@@ -13,7 +12,7 @@ use Rattle.scrub_merge.specs.Binding.{Runs}
 use Rattle.scrub_merge.specs.ShardMap.{AreRuns}
 use Rattle.scrub_merge.specs.steps.Cursors.{id_cmp, entry_at, has_id, ahead, first_of, place_past, places_past, AreRising}
 use Rattle.scrub_merge.proofs.Identifiers.{id_cmp_total, same_id, itself, not_below_itself}
-use Rattle.scrub_merge.proofs.Left.{first_left, length-behind, under_first, entries_left}
+use Rattle.scrub_merge.proofs.Left.{first_left, under_first, entries_left}
 
 -- the runs' identifiers rise
 pub rising_runs : (runs : Runs) → AreRuns runs → AreRising runs
@@ -191,36 +190,3 @@ runs_step runs number {run} here is one are k entries before at = elim (cases_lt
       let same : run ≡ Some entries = cc (last, slice_get_read runs (length runs) number run refl here is, at) in
       rw same at one
 ]
-
--- ---- an entry that was taken
-
--- what is ahead of cursors is the same if a run changes before its own cursor
-pub ahead_same : (runs : Runs) (places : List ℕ) (number : ℕ) (old new : Option (List EntryValue)) →
-    length places ≡ length runs → old ≡ get_or runs number old →
-    option_map (drop (get_or places number 0)) new ≡ option_map (drop (get_or places number 0)) old →
-    ahead (slice_set runs number new) places ≡ ahead runs places
-ahead_same [] places number old new count is same = refl
-ahead_same (r ∷ runs) [] number old new count is same = absurd (omega (arith, count))
-ahead_same (r ∷ runs) (place ∷ places) zero old new count is same = rw (same, is)
-ahead_same (r ∷ runs) (place ∷ places) (suc number) old new count is same =
-    λ i. option_map (drop place) r ∷ ahead_same runs places number old new (omega (arith, count)) is same i
-
--- and also if an entry under a cursor with the identifier is taken, and all cursors with that identifier move on
-pub still_ahead : (runs new : Runs) (places : List ℕ) (id : ShardId) (number : ℕ) {place : ℕ} {e : EntryValue} →
-    length places ≡ length runs → place ≡ get_or places number 0 →
-    first_of (ahead runs places) number ≡ Some e → e.id ≡ id →
-    ((ps : List ℕ) → length ps ≡ length runs → place < get_or ps number 0 → ahead new ps ≡ ahead runs ps) →
-    ahead new (places_past id runs places) ≡ ahead runs (places_past id runs places)
-still_ahead runs new places id number count here at own same =
-    same (places_past id runs places) (length-behind id runs places ∙ count)
-    (omega (arith, here, one_past id own runs places number count at))
-
--- runs are still runs if one of them changes into a run
-pub runs_set : (runs : Runs) (number : ℕ) (run : Option (List EntryValue)) → IfSome run AreEntries → AreRuns runs →
-    AreRuns (slice_set runs number run)
-runs_set [] number run one are k entries at = are k entries at
-runs_set (r ∷ runs) zero run one are zero entries at = rw (same_Some run (Some entries) at) at one
-runs_set (r ∷ runs) zero run one are (suc k) entries at = are (suc k) entries at
-runs_set (r ∷ runs) (suc number) run one are zero entries at = are zero entries at
-runs_set (r ∷ runs) (suc number) run one are (suc k) entries at =
-    runs_set runs number run one (λ j. are (suc j)) k entries at

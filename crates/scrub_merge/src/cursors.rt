@@ -1,5 +1,5 @@
-//! Cursors over index runs: one for each run, with the entries under them in a heap. All cursors at the least
-//! identifier move on together. For what that identifier is bound to, see `merging`.
+//! Cursors over parts of index runs: one for each run, with the entries under them in a heap. All cursors at
+//! the least identifier move on together. For what that identifier is bound to, see `merging`.
 
 ghost use Rattle.std.specs.Prelude.{◌≡◌, ◌+◌, ◌<◌, ◌^◌, ◌∷◌, All, Some, IfSome, IfNone, IfOk, OnOk, length};
 ghost use Rattle.std.specs.Prelude.{slice_index, slice_set, IsPermutation};
@@ -12,7 +12,8 @@ ghost use Rattle.scrub_merge.specs.ShardMap.{AreRuns};
 ghost use Rattle.scrub_merge.specs.steps.Cursors.{entry_at, ahead, places_past, under_by, under_cmp, IsLeast};
 ghost use Rattle.scrub_merge.specs.steps.Cursors.{IsHeapOf, IsHeapBut};
 
-use scrub_run::{Entry, OutOfMemory, Run, ShardId};
+use crate::part::Part;
+use scrub_run::{Entry, OutOfMemory, ShardId};
 use std::alloc::Global;
 use std::cmp::Reverse;
 use std::collections::BinaryHeap;
@@ -22,21 +23,21 @@ use std::collections::BinaryHeap;
 type Under = Reverse<(ShardId, usize)>;
 
 /// The entry under the cursor of a run: none if the run is lost, or its cursor is past its end.
-pub(crate) fn entry_under(run: &Option<Run>, place: usize) -> Option<&Entry>
+pub(crate) fn entry_under<'r>(run: &Option<Part<'r>>, place: usize) -> Option<&'r Entry>
     ensures found { IfSome result (λ e. entry_at run.now place ≡ Some e.now) }
     ensures none { IfNone result (entry_at run.now place ≡ None) }
     ensures run { IfSome run.now AreEntries }
 {
     match run {
         None => None,
-        Some(run) => run.entries().get(place),
+        Some(part) => part.entries().get(place),
     }
 }
 
 /// Pushes the entry under the cursor of the run with this number, if there is one.
 fn push_under(
     heap: &mut BinaryHeap<Under>,
-    run: &Option<Run>,
+    run: &Option<Part<'_>>,
     number: usize,
     place: usize,
 ) -> Result<(), OutOfMemory>
@@ -54,7 +55,10 @@ fn push_under(
 
 /// The heap of the first entries of the runs. It reserves its room once: it never has more than one entry of
 /// each run.
-pub(crate) fn heap_of(alloc: Global, runs: &[Option<Run>]) -> Result<BinaryHeap<Under>, OutOfMemory>
+pub(crate) fn heap_of(
+    alloc: Global,
+    runs: &[Option<Part<'_>>],
+) -> Result<BinaryHeap<Under>, OutOfMemory>
     ensures heap { IfOk result (λ heap. IsHeapOf runs.now (heap_items heap)) }
     ensures runs { IfOk result (λ _. AreRuns runs.now) }
 {
@@ -85,7 +89,7 @@ fn pop_with(heap: &mut BinaryHeap<Under>, id: ShardId) -> Option<Under>
 /// Moves on the cursor of the run with this number, which has no entry in the heap, and pushes the entry that
 /// it reaches.
 fn move_one(
-    runs: &[Option<Run>],
+    runs: &[Option<Part<'_>>],
     places: &mut [usize],
     heap: &mut BinaryHeap<Under>,
     number: usize,
@@ -106,7 +110,7 @@ fn move_one(
 
 /// Moves on every cursor at the least identifier.
 pub(crate) fn move_on(
-    runs: &[Option<Run>],
+    runs: &[Option<Part<'_>>],
     places: &mut [usize],
     heap: &mut BinaryHeap<Under>,
     id: ShardId,

@@ -5,9 +5,10 @@
 pub mod binding;
 mod cursors;
 pub mod merging;
+mod part;
 pub mod shard_map;
 
 pub use binding::Binding;
-pub use merging::{merge, merge_owned, one_shard_map};
+pub use merging::{merge, merge_by_threads, one_shard_map};
 pub use scrub_run::OutOfMemory;
 pub use shard_map::ShardMap;

@@ -1,10 +1,10 @@
 //! The shard map. For how it is made, see `merging`.
 
-ghost use Rattle.std.specs.Prelude.{◌≡◌, ◌<◌, List, IfSome, IfNone, Contains, length};
+ghost use Rattle.std.specs.Prelude.{◌≡◌, ◌<◌, ◌++◌, List, IfOk, IfSome, IfNone, Contains, length};
 ghost use Rattle.scrub_merge.specs.Binding.{BindingValue};
 
 use crate::binding::Binding;
-use scrub_run::ShardId;
+use scrub_run::{OutOfMemory, ShardId};
 use std::marker::Model;
 
 /// The newest binding of each shard that has a locator, in strictly ascending order of identifier.
@@ -34,6 +34,17 @@ impl ShardMap {
         ensures { result ≡ bindings.items }
     {
         ShardMap { bindings }
+    }
+
+    /// This map, and after it one of greater identifiers.
+    pub(crate) fn followed_by(self, later: ShardMap) -> Result<ShardMap, OutOfMemory>
+        requires { AreBindings (self ++ later) }
+        ensures { IfOk result (λ whole. whole ≡ self ++ later) }
+    {
+        let mut bindings = self.bindings;
+        let mut others = later.bindings;
+        bindings.append(&mut others)?;
+        Ok(ShardMap::new(bindings))
     }
 
     /// The binding of an identifier. `None` if its newest binding says deleted, or if no readable run has it.

@@ -2,5 +2,6 @@ pub mod Rising
 pub mod Totals
 pub mod Steps
 pub mod Crews
+pub mod Groups
 pub mod Joined
 pub mod Schedules

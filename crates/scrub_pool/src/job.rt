@@ -5,11 +5,13 @@ use crate::gate::Gate;
 use scrub_super::Plan;
 use std::alloc::Global;
 
-/// The allocator, the plan, the queue of its planned extents, and the gate that is called for each.
+/// The allocator, the plan, the queue of its planned extents, the gate that is called for each, and how many
+/// workers there are besides the caller.
 #[derive(Drop)]
 pub(crate) struct Job<'j, G: Gate> {
     pub alloc: Global,
     pub plan: &'j Plan,
     pub queue: &'j ExtentQueue,
     pub gate: &'j G,
+    pub workers: u32,
 }

@@ -6,6 +6,7 @@ mod crew;
 pub mod extent_queue;
 pub mod fault;
 pub mod gate;
+mod group;
 mod job;
 mod rule;
 pub mod scanning;

@@ -207,6 +207,7 @@ pub fn scan_all<'d, D: PageSource, G: Gate, R: Threads + Wait + Sync>(
         plan,
         queue,
         gate,
+        workers,
     };
     let (lists, results, counted) = scan_with_crew::<D, Brand, G, R>(
         rt, disk, &job, first, workers, blank,

@@ -9,15 +9,17 @@ ghost use Rattle.scrub_pool.specs.steps.Working.{IsPassFor, IsSamePart, IsAtWork
 use crate::OutOfMemory;
 use crate::extent_queue::TakePass;
 use crate::gate::Gate;
+use crate::group::{MOST_TOGETHER, scan_taken, take_more};
 use crate::job::Job;
-use crate::tally::{Tally, claim, count};
+use crate::tally::{Tally, claim};
 use scrub_book::WorkerCore;
 use scrub_disk::PageSource;
-use scrub_scan::{Workspace, scan_extent_in};
+use scrub_scan::Workspace;
 use std::sync::ledger::{Ledger, Share};
 use std::sync::{Mutex, Wait};
 
-/// Takes extents until none is left, and scans and counts each. An error means that memory ran out.
+/// Takes extents until none is left, some at a time, and scans and counts each. An error means that memory
+/// ran out.
 pub(crate) fn take_until_empty<'d, D: PageSource, L: Ledger + Send + Sync, G: Gate, R: Wait>(
     rt: &R,
     disk: &'d D,
@@ -44,18 +46,24 @@ pub(crate) fn take_until_empty<'d, D: PageSource, L: Ledger + Send + Sync, G: Ga
 {
     let mut workspace = Workspace::new(job.alloc);
     for _ in rt.forever() {
-        core.reserve(1)?;
+        core.reserve(MOST_TOGETHER)?;
         let Some(extent) = job.queue.take(rt, pass) else {
             return Ok(());
         };
         core.took(extent);
         job.gate.passed(number, extent);
-        let found = scan_extent_in(job.alloc, &mut workspace, disk, job.plan, extent)?;
-        core.done(found);
-        let Some(total) = count(rt, tally, share) else {
-            return Err(OutOfMemory);
-        };
-        job.gate.counted(number, total);
+        let group = take_more(rt, job, number, pass, extent)?;
+        scan_taken(
+            rt,
+            disk,
+            job,
+            tally,
+            core,
+            share,
+            number,
+            &mut workspace,
+            &group,
+        )?;
     }
     unreachable!()
 }

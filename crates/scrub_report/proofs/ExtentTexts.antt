@@ -1,5 +1,6 @@
 -- The text of the report's extents, piece by piece, and the text before and after it.
-use Rattle.std.proofs.Common.{◌≡◌, ◌<◌, ◌≤◌, ◌+◌, ◌*◌, ℕ, zero, suc, List, [], ◌∷◌, ◌++◌, Bool, true, false, codes, fold, length, take, drop, map, nat_lt, arith, refl, sym, ap, ap₂, ◌∙◌, append_assoc, append-nil}
+use Rattle.std.proofs.Common.{◌≡◌, ◌<◌, ◌≤◌, ◌+◌, ◌*◌, ℕ, zero, suc, List, [], ◌∷◌, ◌++◌, Bool, true, false, Result, Ok, Err, codes, fold, length, take, drop, map, nat_lt, arith, refl, sym, ap, ap₂, ◌∙◌, append_assoc, append-nil}
+use Rattle.std.specs.Prelude.{IfOk, IfSome, Vec, slice_get}
 use Rattle.std.specs.Int.{div_ceil}
 use Rattle.std.proofs.Math.Nat.{mul-le-mul_right}
 use Rattle.std.proofs.Math.Seq.{take-add}
@@ -18,7 +19,7 @@ use Rattle.scrub_report.specs.Json.{list, natural, natural_or_null, with_keys}
 use Rattle.scrub_report.specs.Report.{extent_data, items_data, numbers_data}
 use Rattle.scrub_run.specs.declared.shard_id.ShardId.{ShardId}
 use Rattle.scrub_report.specs.declared.listed.Listed.{Listed}
-use Rattle.scrub_report.specs.steps.Tokens.{all_keys, begun_tokens, ended_tokens, extent_keys, extent_pairs, extents_tokens, first_keys, last_keys, members_tokens, piece_text, value_tokens}
+use Rattle.scrub_report.specs.steps.Tokens.{ArePieces, all_keys, begun_tokens, ended_tokens, extent_keys, extent_pairs, extents_tokens, first_keys, last_keys, members_tokens, piece_text, value_tokens}
 use Rattle.scrub_report.proofs.Tokens.{keys_joined, list_tokens, object_tokens}
 
 -- whether the last token ends a value
@@ -120,6 +121,14 @@ with_piece ps n m size t0 t1 piece below some more so_far is =
     ap₂ (λ t p. t ++ p) so_far is
     ∙ append_assoc t0 (print (extents_tokens (take (n * size) ps))) (piece_text ps (n * size) size)
     ∙ ap (λ t. t0 ++ t) (next_piece ps (n * size) size below some ∙ ap (λ k. print (extents_tokens (take k ps))) times)
+
+-- as many pieces as there are, each right
+pub pieces_made : {Z : Type 0} {E : Type 0} {F : Type 0} (ps : List (Scanned × ℕ)) {count : ℕ} (size : ℕ) → length ps ≡ count →
+    {Y : Type 0} (r : Result (Vec (Result (Vec ℕ Z) E) Y) F) → IfOk r (λ v. length v.items ≡ div_ceil count size) →
+    IfOk r (λ v. (n : ℕ) → IfSome (slice_get v.items n) (λ text. IfOk text (λ bytes. bytes.items ≡ piece_text ps (n * size) size))) →
+    IfOk r (λ v. ArePieces ps size v.items)
+pieces_made ps size long (Ok v) many each = record { count = many ∙ ap (λ n. div_ceil n size) (sym long); each = each }
+pieces_made ps size long (Err e) many each = tt
 
 -- ---- the report
 

@@ -117,7 +117,7 @@ fn report_of<R: Threads + Sync, D: PageSource>(
 {
     let listed = listed_of(rt, alloc, judged, shards)?;
     let is_clean = is_clean_listed(&listed);
-    let text = report_text(rt, alloc, &listed, broken, is_clean)?;
+    let text = report_text(rt, alloc, listed, broken, is_clean)?;
     Ok((text, is_clean))
 }
 

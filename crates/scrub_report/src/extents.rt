@@ -1,13 +1,13 @@
 //! The scanned extents, as the report has them.
 
-ghost use Rattle.std.specs.Prelude.{◌≡◌, ◌*◌, ◌<◌, ◌≤◌, ◌++◌, ℕ, IfOk, IfSome, OnOk, length, slice_get};
+ghost use Rattle.std.specs.Prelude.{◌≡◌, ◌*◌, ◌<◌, ◌≤◌, ◌++◌, ℕ, IfOk, IfSome, List, OnOk, length, slice_get};
 ghost use Rattle.std.specs.Int.{div_ceil};
 ghost use Rattle.std.specs.List.{zip};
 ghost use Rattle.json.specs.Print.{print};
 ghost use Rattle.serde_json.specs.Written.{comma_if};
-ghost use Rattle.scrub_scan.specs.Scanned.{scanned};
+ghost use Rattle.scrub_scan.specs.Scanned.{Scanned, scanned};
 ghost use Rattle.scrub_report.specs.Report.{extent_data};
-ghost use Rattle.scrub_report.specs.steps.Tokens.{extents_tokens, piece_text, value_tokens};
+ghost use Rattle.scrub_report.specs.steps.Tokens.{ArePieces, extents_tokens, piece_text, value_tokens};
 
 use crate::json_values::WriteJson;
 use crate::object::{Value, write_object};
@@ -107,7 +107,7 @@ fn nth_text<D: PageSource>(
 }
 
 /// The texts of all pieces of this size, in their order, made by threads.
-fn extents_texts<R: Threads + Sync, D: PageSource>(
+fn nth_texts<R: Threads + Sync, D: PageSource>(
     rt: &R,
     alloc: Global,
     all: &AllFindings<'_, D>,
@@ -134,6 +134,21 @@ fn extents_texts<R: Threads + Sync, D: PageSource>(
     )
 }
 
+/// The same, as the pieces of all extents.
+pub(crate) fn extents_texts<R: Threads + Sync, D: PageSource>(
+    rt: &R,
+    alloc: Global,
+    all: &AllFindings<'_, D>,
+    live: &[u32],
+    size: usize,
+) -> Result<Vec<Result<Vec<u8>, OutOfMemory>>, OutOfMemory>
+    requires count { length live.now ≡ length all.now.extents }
+    requires size { 0 < size }
+    ensures { IfOk result (λ v. ArePieces (zip all.now.extents live.now) size v.items) }
+{
+    nth_texts(rt, alloc, all, live, size)
+}
+
 /// How many items are in all extents.
 fn item_count<D: PageSource>(all: &AllFindings<'_, D>) -> usize {
     all.results()
@@ -143,7 +158,7 @@ fn item_count<D: PageSource>(all: &AllFindings<'_, D>) -> usize {
 
 /// How many extents a piece has: enough for at most two pieces a processor, or all of them if there are few
 /// items.
-fn piece_size<R: Threads, D: PageSource>(rt: &R, all: &AllFindings<'_, D>) -> usize
+pub(crate) fn piece_size<R: Threads, D: PageSource>(rt: &R, all: &AllFindings<'_, D>) -> usize
     ensures { 0 < result }
 {
     let count = all.len().max(1);
@@ -157,20 +172,15 @@ fn piece_size<R: Threads, D: PageSource>(rt: &R, all: &AllFindings<'_, D>) -> us
     count.div_ceil(processors.saturating_mul(2)).max(1)
 }
 
-/// Appends the text of the scanned extents, with their live bytes. Threads make it piece by piece.
-pub(crate) fn append_extents<R: Threads + Sync, D: PageSource>(
-    rt: &R,
-    alloc: Global,
+/// Appends the texts of all pieces.
+pub(crate) fn append_pieces(
     text: &mut Vec<u8>,
-    all: &AllFindings<'_, D>,
-    live: &[u32],
+    pieces: Vec<Result<Vec<u8>, OutOfMemory>>,
 ) -> Result<(), OutOfMemory>
-    requires { length live.now ≡ length all.now.extents }
-    ensures { OnOk result (text.new.items ≡ text.old.items ++
-        print (extents_tokens (zip all.now.extents live.now))) }
+    ensures { (pairs : List (Scanned × ℕ)) (size : ℕ) → 0 < size → ArePieces pairs size pieces.items →
+        OnOk result (text.new.items ≡ text.old.items ++ print (extents_tokens pairs)) }
 {
-    let size = piece_size(rt, all);
-    for piece in extents_texts(rt, alloc, all, live, size)? {
+    for piece in pieces {
         text.extend_from_slice(&piece?)?;
     }
     Ok(())

@@ -46,11 +46,15 @@ pub(crate) struct Drawn {
 }
 
 /// What is drawn from these checked locators, which are freed.
-fn drawn_from(alloc: Global, checked: Vec<Checked>) -> Result<Drawn, OutOfMemory>
+fn drawn_from<R: Threads + Sync>(
+    rt: &R,
+    alloc: Global,
+    checked: Vec<Checked>,
+) -> Result<Drawn, OutOfMemory>
     ensures { IfOk result (AreDrawnFrom checked.items) }
 {
     Ok(Drawn {
-        locators: LocatorIndex::of(alloc, &checked)?,
+        locators: LocatorIndex::by_threads(rt, alloc, &checked)?,
         dangling: dangling(alloc, &checked)?,
         hidden: hidden(alloc, &checked)?,
     })
@@ -71,7 +75,7 @@ pub(crate) fn listed_of<'d, R: Threads + Sync, D: PageSource>(
         runs,
         checked,
     } = judged;
-    let drawn = drawn_from(alloc, checked)?;
+    let drawn = drawn_from(rt, alloc, checked)?;
     let (liveness, twins) = liveness_and_twins(rt, alloc, &scan, &drawn.locators, in_doubt)?;
     Ok(Listed {
         scan,

@@ -3,6 +3,7 @@
 ghost use Rattle.std.specs.Prelude.{◌≡◌, ℕ, IfOk, List, is_none, is_some};
 ghost use Rattle.std.specs.List.{list_all, list_any};
 ghost use Rattle.scrub_disk.specs.Image.{Image};
+ghost use Rattle.scrub_merge.specs.ShardMap.{IsShardMap};
 ghost use Rattle.scrub_check.specs.Checked.{is_sound};
 ghost use Rattle.scrub_check.specs.declared.statuses.checked.Checked.{Checked};
 ghost use Rattle.scrub_check.specs.Chunks.{twins};
@@ -17,10 +18,10 @@ use crate::runs::{RunRow, run_rows};
 use crate::scanning::Scan;
 use scrub_check::{
     Checked, Liveness, LocatorIndex, Place, ReadRuns, SharedPlace, broken_shards, check_named,
-    liveness_by, liveness_of, read_all_runs, twins,
+    liveness_by, liveness_of, read_all_runs, twins_by_threads,
 };
 use scrub_disk::{OutOfMemory, PageSource};
-use scrub_merge::{ShardMap, merge_owned};
+use scrub_merge::{ShardMap, merge_by_threads};
 use scrub_super::Chosen;
 use std::alloc::Global;
 use std::thread::{Threads, join_mut};
@@ -39,6 +40,14 @@ fn is_in_doubt(chosen: &Chosen, read: &ReadRuns) -> bool
     chosen.tie() || !chosen.bad_pages().is_empty() || has_lost_run(read)
 }
 
+/// The shard map of index runs, which are freed.
+fn merged<R: Threads + Sync>(rt: &R, alloc: Global, read: ReadRuns) -> Result<ShardMap, OutOfMemory>
+    ensures { IfOk result (IsShardMap read.runs) }
+{
+    let (runs, _) = read.into_parts();
+    merge_by_threads(rt, alloc, &runs)
+}
+
 /// What is found on a scanned disk, as if these extents had been reset, up to the status of each named
 /// locator, and the shard map. Once the runs are merged their entries are in the map, so only what the report
 /// needs of the runs is kept.
@@ -54,8 +63,7 @@ pub(crate) fn judged_of<'d, R: Threads + Sync, D: PageSource>(
     let (read, statuses) = read_all_runs(rt, alloc, scan.disk, &scan.plan, &scan.all)?;
     let in_doubt = is_in_doubt(&scan.chosen, &read);
     let runs = run_rows(alloc, scan.plan.runs(), &read)?;
-    let (read_runs, _) = read.into_parts();
-    let map = merge_owned(alloc, read_runs)?;
+    let map = merged(rt, alloc, read)?;
     let checked = check_named(rt, alloc, scan.disk, &scan.plan, &scan.all, &statuses, &map)?;
     let judged = Judged {
         scan,
@@ -116,7 +124,7 @@ pub(crate) fn liveness_and_twins<R: Threads + Sync, D: PageSource>(
         { liveness_with(alloc, scan, locators, in_doubt) },
         &mut || -> Result<Vec<Place>, OutOfMemory>
             ensures twins { IfOk result (λ v. v.items ≡ twins scan.entry.now.all.extents) }
-        { twins(alloc, &scan.all) },
+        { twins_by_threads(rt, alloc, &scan.all) },
     );
     Ok((liveness?, twin_chunks?))
 }

@@ -1,6 +1,6 @@
 //! An entry of an index run. For its bytes, see `reading` and `writing`.
 
-ghost use Rattle.std.specs.Prelude.{◌≡◌, [], IfOk};
+ghost use Rattle.std.specs.Prelude.{◌≡◌, IfOk};
 ghost use Rattle.scrub_run.specs.Locators.{listed};
 
 use crate::locators::Locators;
@@ -8,7 +8,6 @@ use crate::shard_id::ShardId;
 use scrub_frame::{Locator, OutOfMemory};
 use std::alloc::Global;
 use std::marker::Model;
-use std::mem;
 
 /// A shard and the locators of its chunks, according to one index run. An entry without locators means that
 /// the shard was deleted.
@@ -61,18 +60,9 @@ impl Entry {
     }
 
     /// A copy.
-    pub(crate) fn copy(&self, alloc: Global) -> Result<Entry, OutOfMemory>
+    pub fn copy(&self, alloc: Global) -> Result<Entry, OutOfMemory>
         ensures { IfOk result (λ e. e ≡ self.now) }
     {
         Ok(Entry::of(self.id, self.locators.copy(alloc)?))
-    }
-
-    /// Hands out the entry, and keeps its identifier without locators. Takes no memory.
-    pub(crate) fn take(&mut self, alloc: Global) -> Entry
-        ensures taken { result ≡ self.old }
-        ensures emptied { self.new ≡ record { id = self.old.id; locators = [] } }
-    {
-        let locators = mem::replace(&mut self.locators, Locators::Many(Vec::new(alloc)));
-        Entry::of(self.id, locators)
     }
 }

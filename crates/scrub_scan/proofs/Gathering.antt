@@ -1,22 +1,22 @@
 -- A payload that is gathered piece by piece, and digests that are put in later.
-use Rattle.std.proofs.Common.{◌≡◌, ◌<◌, ◌≤◌, ◌+◌, ◌-◌, ℕ, zero, suc, List, All, [], ◌++◌, ◌∷◌, refl, subst, slice_set, slice_index_or, Bool, true, false, length, take, drop, min, slice_index, arith, sym, ◌∙◌, ap, inl, inr, Option, Some, length-append, append_assoc, length-drop}
-use Rattle.std.proofs.Math.Seq.{get_or-append_right}
+use Rattle.std.proofs.Common.{◌≡◌, ◌<◌, ◌≤◌, ◌+◌, ◌-◌, ℕ, zero, suc, List, All, [], ◌++◌, ◌∷◌, refl, subst, slice_set, slice_index_or, Bool, true, false, length, take, drop, min, slice_index, arith, sym, ◌∙◌, ap, inl, inr, Option, Some, length-append, append_assoc, append-nil, length-drop, map}
+use Rattle.std.proofs.Math.Seq.{drop-append_seam, get_or-append_right, take-append_seam}
 use Rattle.std.proofs.lemmas.Bool.{cases_lt}
 use Rattle.std.proofs.lemmas.Option.{same_Some}
-use Rattle.std.proofs.lemmas.List.{get_or_append_left, get_or-take, get_or-drop, length-take-le, take_at, take_all}
+use Rattle.std.proofs.lemmas.List.{get_or_append_left, get_or-take, get_or-drop, length-map, length-take-le, map-append, take_at, take_all}
 use Rattle.std.specs.List.{slice_range}
 use Rattle.std.proofs.lemmas.List.Elements.{All-head, All-tail, All-push}
 use Rattle.sha2.specs.Sha256.{sha256}
 use Rattle.sha_lanes.specs.declared.batch.Batch.{Batch}
-use Rattle.sha_lanes.specs.Gathered.{Gathers}
 use Rattle.scrub_disk.specs.Image.{AreBytesAt}
 use Rattle.scrub_frame.specs.declared.form.Form.{Form}
 use Rattle.scrub_frame.specs.declared.form.Form.TheVariants.{Plain, Sealed}
 use Rattle.scrub_frame.specs.Frame.{digest_size, seal, seal_size}
 use Rattle.scrub_scan.specs.declared.item.Item.{Item}
 use Rattle.scrub_scan.specs.declared.item.Item.TheVariants.{Chunk, Pad, Torn, Noise, Lost}
+use Rattle.scrub_scan.specs.declared.payloads.Payloads.{Payloads}
 use Rattle.scrub_scan.specs.Item.{start_of, stop_of}
-use Rattle.scrub_scan.specs.steps.Gathering.{IsAdded, seal_in, with_digest, settled_one, settled}
+use Rattle.scrub_scan.specs.steps.Gathering.{Grows, Has, IsAdded, seal_in, with_digest, settled_one, settled}
 
 -- the payload so far, with the bytes of one more part that belong to it
 pub payload_more : (at : ℕ → Option ℕ) (place stop first last : ℕ) (next part piece : List ℕ)
@@ -128,24 +128,73 @@ settled_one_is [] i item digest lt is = absurd (omega arith)
 settled_one_is (first ∷ items) zero item digest lt is = ap (λ x. with_digest x digest ∷ items) (sym is)
 settled_one_is (first ∷ items) (suc i) item digest lt is = ap (λ rest. first ∷ rest) (settled_one_is items i item digest (omega arith) is)
 
--- one more item, whose digest is in the batch or was known
-pub record SettledMore (items : List Item) (later : List ℕ) (new : Batch) (before : List Item) (item done : Item) : Type 0 where
-  pub payloads : List (List ℕ)
-  pub gathers : Gathers new payloads []
-  pub count : length later ≡ length payloads
-  pub settled_is : settled (items ++ item ∷ []) later payloads ≡ before ++ done ∷ []
+-- ---- payloads that are added
 
-pub settled_next : (items : List Item) (pending later : List ℕ) (payloads : List (List ℕ)) (new : Batch) (item : Item) (gathered : Bool) (digest : List ℕ)
+-- payloads to which one was added, or none
+pub added_to : (p : Payloads) (batch : Batch) (all : List (List ℕ)) (h : Has p all) (gathered : Bool) (known : Type 0) (digest : List ℕ)
+    → IsAdded gathered known digest h.rest batch → (more : List (List ℕ)) × Has (record p { batch = batch }) (all ++ more)
+added_to p batch all h true known digest added =
+    let b = added.0 in (
+      b ∷ [],
+      record {
+        hashed = h.hashed;
+        rest = h.rest ++ b ∷ [];
+        all_are = ap (λ (xs : List (List ℕ)). xs ++ b ∷ []) h.all_are ∙ append_assoc h.hashed h.rest (b ∷ []);
+        digests = h.digests;
+        gathers = added.2;
+      },
+    )
+added_to p batch all h false known digest added = (
+  [],
+  record { hashed = h.hashed; rest = h.rest; all_are = append-nil all ∙ h.all_are; digests = h.digests; gathers = added.1 },
+)
+
+pub grows_none : (p : Payloads) → Grows p p
+grows_none p = λ all h. ([], subst (Has p) (sym (append-nil all)) h)
+
+pub grows_then : (p q r : Payloads) → Grows p q → Grows q r → Grows p r
+grows_then p q r first then = λ all h.
+    let one = first all h in
+    let two = then (all ++ one.0) one.1 in
+    (one.0 ++ two.0, subst (Has r) (append_assoc all one.0 two.0) two.1)
+
+-- the digests of the payloads between others
+pub digests_between : (before payloads after digests : List (List ℕ)) (first count : ℕ)
+    → digests ≡ map sha256 (before ++ (payloads ++ after)) → first ≡ length before → count ≡ length payloads
+    → take count (drop first digests) ≡ map sha256 payloads
+digests_between before payloads after digests first count all start size =
+    let front : first ≡ length (map sha256 before) = start ∙ sym (length-map before sha256) in
+    let long : count ≡ length (map sha256 payloads) = size ∙ sym (length-map payloads sha256) in
+    let parts : digests ≡ map sha256 before ++ (map sha256 payloads ++ map sha256 after) =
+    all ∙ map-append sha256 before (payloads ++ after) ∙ ap (λ (xs : List (List ℕ)). map sha256 before ++ xs) (map-append sha256 payloads after) in
+    let behind : drop first digests ≡ map sha256 payloads ++ map sha256 after =
+    ap (drop first) parts ∙ ap (λ n. drop n (map sha256 before ++ (map sha256 payloads ++ map sha256 after))) front
+    ∙ drop-append_seam (map sha256 before) (map sha256 payloads ++ map sha256 after) in
+    ap (take count) behind ∙ ap (λ n. take n (map sha256 payloads ++ map sha256 after)) long
+    ∙ take-append_seam (map sha256 payloads) (map sha256 after)
+
+-- one more item, whose payload was added or whose digest was known
+pub record SettledMore (items : List Item) (later : List ℕ) (new : Payloads) (before : List (List ℕ)) (so_far : List Item) (item done : Item) : Type 0 where
+  pub payloads : List (List ℕ)
+  pub has : Has new (before ++ payloads)
+  pub count : length later ≡ length payloads
+  pub settled_is : settled (items ++ item ∷ []) later payloads ≡ so_far ++ done ∷ []
+
+pub settled_next : (items : List Item) (pending later : List ℕ) (before payloads : List (List ℕ)) (p : Payloads) (batch : Batch)
+    (has : Has p (before ++ payloads)) (item : Item) (gathered : Bool) (digest : List ℕ)
     → length pending ≡ length payloads → All (λ i. i < length items) pending
     → (gathered ≡ true → later ≡ pending ++ length items ∷ []) → (gathered ≡ false → later ≡ pending)
-    → IsAdded gathered (with_digest item digest ≡ item) digest payloads new
-    → SettledMore items later new (settled items pending payloads) item (with_digest item digest)
-settled_next items pending later ps new item true digest count within more same added =
+    → IsAdded gathered (with_digest item digest ≡ item) digest has.rest batch
+    → SettledMore items later (record p { batch = batch }) before (settled items pending payloads) item (with_digest item digest)
+unfolding added_to
+settled_next items pending later before ps p batch has item true digest count within more same added =
     let b = added.0 in
     let n : length items ≡ length (settled items pending ps) = sym (length-settled items pending ps) in
     record {
       payloads = ps ++ b ∷ [];
-      gathers = added.2;
+      has =
+          subst (Has (record p { batch = batch })) (append_assoc before ps (b ∷ []))
+          (added_to p batch (before ++ ps) has true (with_digest item digest ≡ item) digest added).1;
       count = omega (arith, ap length (more refl), length-append pending (length items ∷ []), length-append ps (b ∷ []), count);
       settled_is =
           ap (λ l. settled (items ++ item ∷ []) l (ps ++ b ∷ [])) (more refl)
@@ -155,10 +204,12 @@ settled_next items pending later ps new item true digest count within more same 
           ∙ settled_one_last (settled items pending ps) item (sha256 b)
           ∙ sym (ap (λ d. settled items pending ps ++ with_digest item d ∷ []) added.1);
     }
-settled_next items pending later ps new item false digest count within more same added =
+settled_next items pending later before ps p batch has item false digest count within more same added =
     record {
       payloads = ps;
-      gathers = added.1;
+      has =
+          subst (Has (record p { batch = batch })) (append-nil (before ++ ps))
+          (added_to p batch (before ++ ps) has false (with_digest item digest ≡ item) digest added).1;
       count = ap length (same refl) ∙ count;
       settled_is =
           ap (λ l. settled (items ++ item ∷ []) l ps) (same refl) ∙ settled_push items item pending ps within

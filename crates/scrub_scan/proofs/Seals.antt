@@ -1,5 +1,5 @@
 -- Items whose seals are compared later: how a tiling grows by them, and what is left of it once they were compared.
-use Rattle.std.proofs.Common.{◌≡◌, ◌<◌, ◌≤◌, ◌+◌, ◌*◌, ◌/◌, ℕ, zero, suc, List, [], ◌∷◌, ◌++◌, All, length, take, drop, get_or, arith, refl, sym, ◌∙◌, ap, subst, inl, inr, Bool, true, false, Option, Some, None, IfSome, is_some, map, slice_set}
+use Rattle.std.proofs.Common.{◌≡◌, ◌<◌, ◌≤◌, ◌+◌, ◌*◌, ◌/◌, ℕ, zero, suc, List, [], ◌∷◌, ◌++◌, All, length, take, drop, get_or, arith, refl, sym, ◌∙◌, ap, subst, inl, inr, Bool, true, false, Option, Some, None, IfSome, is_some, map, slice_set, append_assoc, append-nil}
 use Rattle.std.specs.List.{AllZip}
 use Rattle.std.proofs.Math.Nat.{mul-le-mul_right}
 use Rattle.std.proofs.lemmas.Bool.{cases_lt}
@@ -11,9 +11,10 @@ use Rattle.scrub_disk.specs.Image.{Image}
 use Rattle.scrub_scan.specs.declared.collected.Collected.{Collected}
 use Rattle.scrub_scan.specs.declared.item.Item.{Item}
 use Rattle.scrub_scan.specs.declared.pages.Target.{Target}
+use Rattle.scrub_scan.specs.declared.payloads.Payloads.{Payloads}
 use Rattle.scrub_scan.specs.declared.pages.TwoPages.{TwoPages}
 use Rattle.scrub_scan.specs.Extent.{Extent}
-use Rattle.scrub_scan.specs.steps.Gathering.{AgreesWith, HasReadTo, IsCollected, IsItemIfSealed, IsSettled, IsTrustedAt, IsRightTo, RiseWithin, TiledTo, TilesIfSealed, seal_of, settled, settled_one, with_digest}
+use Rattle.scrub_scan.specs.steps.Gathering.{AgreesWith, Grows, Has, HasReadTo, IsCollected, IsItemIfSealed, IsLeft, IsSettled, IsTrustedAt, IsRightTo, RiseWithin, TiledTo, TilesIfSealed, seal_of, settled, settled_one, with_digest}
 use Rattle.scrub_scan.specs.Item.{start_of, stop_of, IsItem}
 use Rattle.scrub_scan.specs.Tiling.{Joins}
 use Rattle.scrub_scan.proofs.Gathering.{length-settled_one, same_places, settled_one_is}
@@ -304,13 +305,39 @@ not_some None is = refl
 not_some (Some s) is = cc
 
 -- what is settled is collected
-pub settled_collected : (x : Extent) (place : ℕ) (c : Collected) → 0 < x.page → IsSettled x place c → IsCollected x place c
-settled_collected x place c positive h = record {
+pub settled_collected : (x : Extent) (place : ℕ) (p : Payloads) (c : Collected) → 0 < x.page → IsSettled x place p c → IsCollected x place p c
+settled_collected x place p c positive h = record {
+  before = h.before;
   payloads = [];
-  gathers = h.batch;
+  has = subst (Has p) (sym (append-nil h.before)) h.has;
+  first = h.first;
   tiles = rw h.none (tiles_none x place c.trusted_from c.items.items positive h.tiled);
   trusted = if_none c.trusted_from (λ first. first ≤ place) h.untrusted;
 }
+
+-- what is collected is left
+pub collected_left : (x : Extent) (place : ℕ) (p : Payloads) (c : Collected) → IsCollected x place p c → IsLeft x place p c
+collected_left x place p c h = record {
+  before = h.before;
+  payloads = h.payloads;
+  after = [];
+  has = subst (λ (xs : List (List ℕ)). Has p (h.before ++ xs)) (sym (append-nil h.payloads)) h.has;
+  first = h.first;
+  tiles = h.tiles;
+}
+
+-- and so it is when payloads were added
+pub collected_grown : (x : Extent) (place : ℕ) (p q : Payloads) (c : Collected) → IsCollected x place p c → Grows p q → IsLeft x place q c
+collected_grown x place p q c h grows =
+    let more = grows (h.before ++ h.payloads) h.has in
+    record {
+      before = h.before;
+      payloads = h.payloads;
+      after = more.0;
+      has = subst (Has q) (append_assoc h.before h.payloads more.0) more.1;
+      first = h.first;
+      tiles = h.tiles;
+    }
 
 -- where a digest may disagree with a seal, seals are trusted
 pub trusted_at : (from : Option ℕ) (place : ℕ) (trusts : Bool) (A : Type 0) → trusts ≡ is_some from → IfSome from (λ s. s ≤ place)

@@ -11,26 +11,40 @@ ghost use Rattle.scrub_scan.specs.steps.Gathering.{TilesIfSealed, TiledTo, IsRig
 use crate::counted_source::CountedSource;
 use crate::item::{Item, Items};
 use crate::pages::Target;
+use crate::payloads::Payloads;
 use crate::scanner::{LONGEST_GATHERED, Reached, Scanner};
 use scrub_disk::{OutOfMemory, PageSource};
 use scrub_frame::DIGEST_BYTES;
-use sha_lanes::{Batch, LANES};
+use sha_lanes::Batch;
 use std::alloc::Global;
 use std::mem;
 
-/// The most bytes that are gathered before they are hashed: as many as one longest payload for each lane.
-const MOST_GATHERED: usize = LANES * LONGEST_GATHERED as usize;
+/// The most bytes that are gathered before they are hashed: as many as eight longest payloads.
+const MOST_GATHERED: usize = 8 * LONGEST_GATHERED as usize;
 
-/// The items of an extent so far, and the payloads that are hashed together later. The digests of plain
-/// chunks are put in then; those of sealed chunks, which have their seals for digests until then, are
+/// The most bytes that are gathered of many payloads: so few that they stay near the processor.
+const MOST_OF_MANY: usize = 1 << 19;
+
+/// How many payloads are many: so many that all lanes end at about the same time.
+const MANY: usize = 128;
+
+/// Whether a batch is hashed before more is added.
+fn is_full(batch: &Batch) -> bool {
+    let size = batch.size();
+    size >= MOST_GATHERED || (size >= MOST_OF_MANY && batch.count() >= MANY)
+}
+
+/// The items of an extent so far, some of which have payloads that are hashed together later. The digests of
+/// plain chunks are put in then; those of sealed chunks, which have their seals for digests until then, are
 /// compared with them.
 #[derive(Drop)]
 pub(crate) struct Collected {
     pub items: Vec<Item>,
-    /// The numbers of the items whose payloads are in the batch, ascending.
+    /// The numbers of the items whose digests are put in later, ascending. Their payloads follow one another.
     pub pending: Vec<usize>,
-    pub batch: Batch,
-    /// The place from which seals were trusted, if they were since the batch was last hashed: a sealed chunk
+    /// How many payloads are before those.
+    pub first: usize,
+    /// The place from which seals were trusted, if they were since digests were last put in: a sealed chunk
     /// at or past it may turn out to be none.
     pub trusted_from: Option<usize>,
 }
@@ -62,36 +76,37 @@ fn put_digests(
 }
 
 impl Collected {
-    ghost use Rattle.scrub_scan.specs.steps.Gathering.{CanReturn, IsCollected, IsSettled};
+    ghost use Rattle.scrub_scan.specs.steps.Gathering.{CanReturn, Grows, Has, IsCollected, IsLeft, IsSettled};
 
     /// Nothing yet.
     pub fn new(alloc: Global) -> Collected {
         Collected {
             items: Vec::new(alloc),
             pending: Vec::new(alloc),
-            batch: Batch::new(alloc),
+            first: 0,
             trusted_from: None,
         }
     }
 
-    /// Drops all, and keeps the memory.
-    pub fn clear(&mut self)
-        ensures { (x : Extent) → IsSettled x 0 self.new }
+    /// Drops all, and keeps the memory. `first` payloads of other extents come before those of this one.
+    pub fn clear(&mut self, first: usize)
+        ensures { (x : Extent) (payloads : Payloads) (before : List (List ℕ)) → Has payloads before →
+            first ≡ length before → IsSettled x 0 payloads self.new }
     {
         self.items.clear();
         self.pending.clear();
-        self.batch.clear();
+        self.first = first;
         self.trusted_from = None;
     }
 
-    /// Adds an item, and its number to those of items whose payloads are in the batch if its payload is.
+    /// Adds an item, and its number to the pending ones if its payload was gathered.
     pub fn add(&mut self, reached: Reached) -> Result<(), OutOfMemory>
         ensures items { IfOk result (λ _. self.new.items.items ≡ self.old.items.items ++ reached.item ∷ []) }
         ensures gathered { IfOk result (λ _. reached.is_gathered ≡ true →
             self.new.pending.items ≡ self.old.pending.items ++ length self.old.items.items ∷ []) }
         ensures known { IfOk result (λ _.
             reached.is_gathered ≡ false → self.new.pending.items ≡ self.old.pending.items) }
-        ensures batch { self.new.batch ≡ self.old.batch }
+        ensures first { self.new.first ≡ self.old.first }
         ensures trusted { self.new.trusted_from ≡ self.old.trusted_from }
     {
         if reached.is_gathered {
@@ -114,7 +129,8 @@ impl Collected {
         requires below { place < target.now.pointer }
         requires affordable { CanReturn (D.image disk.now) target.now
             scanner.now.pages.asked self.old.trusted_from }
-        ensures collected { (x : Extent) → IsCollected x place self.old → IsCollected x place self.new }
+        ensures collected { (x : Extent) (payloads : Payloads) → IsCollected x place payloads self.old →
+            IsCollected x place payloads self.new }
         ensures affordable { CanReturn (D.image disk.now) target.now
             scanner.now.pages.asked self.new.trusted_from }
         ensures never { trusting ≡ false → self.new.trusted_from ≡ self.old.trusted_from }
@@ -135,26 +151,28 @@ impl Collected {
         disk: &CountedSource<'_, D>,
         target: &Target,
         scanner: &Scanner,
+        payloads: &mut Payloads,
         place: usize,
     ) -> Result<usize, OutOfMemory>
         requires within { All (λ i. i < length self.old.items.items) self.old.pending.items }
         requires trusted { IfSome self.old.trusted_from (λ first. first ≤ target.now.pointer) }
-        ensures collected { (x : Extent) → 0 < x.page → IsCollected x place self.old → IfOk result (λ right.
-            right ≡ place → IsCollected x place self.new) }
-        ensures settled { (x : Extent) → IsCollected x place self.old → IfOk result (λ right.
-            right < place → IsSettled x right self.new) }
-        ensures right { (x : Extent) → IsCollected x place self.old →
+        ensures collected { (x : Extent) → 0 < x.page → IsCollected x place payloads.old self.old →
+            IfOk result (λ right. right ≡ place → IsCollected x place payloads.new self.new) }
+        ensures settled { (x : Extent) → IsCollected x place payloads.old self.old →
+            IfOk result (λ right. right < place → IsSettled x right payloads.new self.new) }
+        ensures right { (x : Extent) → IsCollected x place payloads.old self.old →
             IfOk result (IsRightTo place self.old.trusted_from) }
+        ensures grows { IfOk result (λ _. Grows payloads.old payloads.new) }
         ensures affordable { IfOk result (λ _.
             CanReturn (D.image disk.now) target.now scanner.now.pages.asked self.new.trusted_from) }
         ensures never { self.old.trusted_from ≡ None → IfOk result (λ _. self.new.trusted_from ≡ None) }
         ensures within { IfOk result (λ _.
             All (λ i. i < length self.new.items.items) self.new.pending.items) }
     {
-        if self.batch.size() < MOST_GATHERED && self.can_wait(disk, target, scanner) {
+        if !is_full(&payloads.batch) && self.can_wait(disk, target, scanner) {
             return Ok(place);
         }
-        self.settle(alloc, place)
+        self.settle(alloc, payloads, place)
     }
 
     /// Whether the tiling could still go back after one more item.
@@ -174,22 +192,29 @@ impl Collected {
         }
     }
 
-    /// Hashes the payloads, puts their digests in or compares them, and forgets the payloads. Returns the
-    /// place up to which the items tile the extent then: `place`, or the one of the first sealed chunk that
-    /// is none, which is dropped with all after it.
-    pub fn settle(&mut self, alloc: Global, place: usize) -> Result<usize, OutOfMemory>
+    /// Hashes all payloads, and puts the digests of the pending items in or compares them. Returns the place
+    /// up to which the items tile the extent then: `place`, or the one of the first sealed chunk that is
+    /// none, which is dropped with all after it.
+    pub fn settle(
+        &mut self,
+        alloc: Global,
+        payloads: &mut Payloads,
+        place: usize,
+    ) -> Result<usize, OutOfMemory>
         requires within { All (λ i. i < length self.old.items.items) self.old.pending.items }
-        ensures settled { (x : Extent) → IsCollected x place self.old →
-            IfOk result (λ right. IsSettled x right self.new) }
-        ensures right { (x : Extent) → IsCollected x place self.old →
+        ensures settled { (x : Extent) → IsLeft x place payloads.old self.old →
+            IfOk result (λ right. IsSettled x right payloads.new self.new) }
+        ensures right { (x : Extent) → IsLeft x place payloads.old self.old →
             IfOk result (IsRightTo place self.old.trusted_from) }
         ensures none { IfOk result (λ _. self.new.pending.items ≡ []) }
         ensures untrusted { IfOk result (λ _. self.new.trusted_from ≡ None) }
+        ensures grows { IfOk result (λ _. Grows payloads.old payloads.new) }
     {
-        let digests = self.batch.digests(alloc)?;
-        let right = put_digests(&mut self.items, &self.pending, &digests, place);
+        payloads.hash(alloc)?;
+        let digests = payloads.digests_of(self.first, self.pending.len());
+        let right = put_digests(&mut self.items, &self.pending, digests, place);
         self.pending.clear();
-        self.batch.clear();
+        self.first = payloads.digests.len();
         self.trusted_from = None;
         Ok(right)
     }

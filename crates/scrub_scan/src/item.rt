@@ -1,13 +1,21 @@
 //! The items of an extent, and their lines of text. `tiling` finds where they begin and end.
 
-ghost use Rattle.std.specs.Prelude.{◌≡◌, ◌↔◌, IsTrue, IfOk, length, string_bytes};
+ghost use Rattle.std.specs.Prelude.{◌≡◌, ◌↔◌, ◌++◌, IsTrue, IfOk, OnOk, length, string_bytes};
+ghost use Rattle.std.specs.Fmt.{decimal};
 
+use itoa::Buffer;
 use scrub_disk::OutOfMemory;
 use scrub_frame::{DIGEST_BYTES, Form};
 use std::alloc::Global;
 use std::fmt;
 use std::marker::Model;
 use uuid::Uuid;
+
+/// Room for the longest line: six letters, three numbers of ten digits, a UUID of 36 characters, four spaces.
+const LINE_BYTES: usize = 76;
+
+/// The length of a UUID's text, in bytes.
+const UUID_TEXT_BYTES: usize = 36;
 
 /// A part of an extent, from byte `start` up to but not including byte `stop`. All items except chunks stop
 /// at the next page bound above their start, or at the write pointer if that comes first.
@@ -170,15 +178,71 @@ impl fmt::Display for Item {
     }
 }
 
-ghost use Rattle.scrub_scan.specs.Line.{chunk_word, line_of};
+ghost use Rattle.uuid.specs.Text.{hyphenated_text, lower};
+ghost use Rattle.scrub_scan.specs.Line.{chunk_word, line_of, places, spaced};
+
+/// Appends a space, and a number in decimal.
+fn push_number(line: &mut String, number: u32) -> Result<(), OutOfMemory>
+    ensures { OnOk result (string_bytes line.new ≡ string_bytes line.old ++ spaced (decimal number)) }
+{
+    let mut buffer = Buffer::new();
+    line.push_str(" ")?;
+    line.push_str(buffer.format(number))
+}
+
+/// Appends a space, and a UUID (RFC 9562, lower case).
+fn push_uuid(line: &mut String, uuid: Uuid) -> Result<(), OutOfMemory>
+    ensures { OnOk result (string_bytes line.new ≡
+        string_bytes line.old ++ spaced (hyphenated_text lower uuid)) }
+{
+    let mut buffer = [0; UUID_TEXT_BYTES];
+    line.push_str(" ")?;
+    line.push_str(uuid.hyphenated().encode_lower(&mut buffer))
+}
+
+/// Appends where an item begins and stops.
+fn push_places(line: &mut String, start: u32, stop: u32) -> Result<(), OutOfMemory>
+    ensures { OnOk result (string_bytes line.new ≡ string_bytes line.old ++ places start stop) }
+{
+    push_number(line, start)?;
+    push_number(line, stop)
+}
+
+/// A line with room for the longest one: a word, and where an item begins and stops.
+fn placed_line(alloc: Global, word: &str, start: u32, stop: u32) -> Result<String, OutOfMemory>
+    ensures { IfOk result (λ line. string_bytes line ≡ word.now ++ places start stop) }
+{
+    let mut line = String::with_capacity(alloc, LINE_BYTES)?;
+    line.push_str(word)?;
+    push_places(&mut line, start, stop)?;
+    Ok(line)
+}
 
 /// The line of an item, without a line feed: the word for its kind (`chunk` or `sealed` for a chunk, by its
 /// form), its start and stop in decimal, and for a chunk also its UUID (RFC 9562, lower case) and the length
-/// of its payload.
+/// of its payload. It is put together piece by piece, since a report has one for each item.
 pub fn item_line(alloc: Global, item: &Item) -> Result<String, OutOfMemory>
     ensures { IfOk result (λ line. string_bytes line ≡ line_of item.now) }
 {
-    format!(in alloc; "{item}")
+    match item {
+        Item::Chunk {
+            form,
+            start,
+            stop,
+            uuid,
+            length,
+            ..
+        } => {
+            let mut line = placed_line(alloc, chunk_word(*form), *start, *stop)?;
+            push_uuid(&mut line, *uuid)?;
+            push_number(&mut line, *length)?;
+            Ok(line)
+        }
+        Item::Pad { start, stop } => placed_line(alloc, "pad", *start, *stop),
+        Item::Torn { start, stop } => placed_line(alloc, "torn", *start, *stop),
+        Item::Noise { start, stop } => placed_line(alloc, "noise", *start, *stop),
+        Item::Lost { start, stop } => placed_line(alloc, "lost", *start, *stop),
+    }
 }
 
 impl Items {

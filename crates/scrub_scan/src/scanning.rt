@@ -1,24 +1,60 @@
 //! Scans planned extents page by page, and finds the items, the tail and the unreadable pages of each.
 
-ghost use Rattle.std.specs.Prelude.{◌≡◌, ◌≤◌, ◌<◌, Contains, IfOk, Some};
+ghost use Rattle.std.specs.Prelude.{◌≡◌, ◌≤◌, ◌<◌, ◌+◌, ◌/◌, Contains, IfOk, Some};
 ghost use Rattle.scrub_disk.specs.Image.{extent_bytes};
 ghost use Rattle.scrub_super.specs.Plan.{pointer_of};
+ghost use Rattle.scrub_scan.specs.Findings.{IsFindings};
 ghost use Rattle.scrub_scan.specs.Scanned.{result_image, scanned};
+ghost use Rattle.scrub_scan.specs.Tiling.{IsTiling};
+ghost use Rattle.scrub_scan.specs.steps.Pages.{HasRead, HoldBoth, IsTarget, target_of};
 ghost use Rattle.scrub_scan.specs.AllFindings.{AreAllFindings, IsOfImage};
 
 use crate::all_findings::AllFindings;
-use crate::counted_source::count_reads;
+use crate::counted_source::{CountedSource, count_reads};
 use crate::extent_result::ExtentResult;
 use crate::findings::{Findings, PageNumbers};
-use crate::pages::{PageMemory, Target};
+use crate::item::Items;
+use crate::pages::{Target, TwoPages};
 use crate::scanner::Scanner;
 use crate::tail::{TailAndLostPages, tail_and_lost_pages};
 use crate::tiling::tile_by;
-use crate::workspace::Workspace;
+use crate::workspace::{ExtentMemory, Workspace, memory_of};
 use scrub_disk::{OutOfMemory, PageSource};
 use scrub_super::Plan;
 use std::alloc::Global;
-use std::mem;
+
+/// What was found in an extent that was tiled: its items, and what is at and past the write pointer.
+pub(crate) fn findings_of<D: PageSource>(
+    alloc: Global,
+    disk: &CountedSource<'_, D>,
+    target: &Target,
+    items: Items,
+    pages: &mut TwoPages,
+) -> Result<Findings, OutOfMemory>
+    requires target { IsTarget (D.image disk.now) target.now }
+    requires tiling { IsTiling (target_of (D.image disk.now) target.now) items }
+    requires held { HoldBoth (D.image disk.now) target.now.extent pages.old }
+    requires read { HasRead pages.old (target.now.pointer / target.now.page) }
+    ensures found { IfOk result (IsFindings (D.image disk.now) target.now.extent target.now.pointer) }
+    ensures asked { IfOk result (λ _.
+        pages.new.asked + target.now.pointer / target.now.page ≤
+        pages.old.asked + (D.image disk.now).geometry.pages) }
+    ensures each { IfOk result (λ _. (D.image disk.now).geometry.pages ≤ pages.new.asked) }
+{
+    let TailAndLostPages { tail, bad_pages } = tail_and_lost_pages(
+        alloc,
+        disk,
+        target,
+        items.as_slice(),
+        pages,
+    )?;
+    Ok(Findings {
+        items,
+        tail_count: tail.count,
+        tail_first: tail.first,
+        bad_pages: PageNumbers { pages: bad_pages },
+    })
+}
 
 /// Scans an extent with a write pointer.
 fn scan_under<'d, D: PageSource>(
@@ -37,30 +73,22 @@ fn scan_under<'d, D: PageSource>(
     // The source is lent only here: all reads below go through it, and the result gets its count.
     let (counted, asked) = count_reads(disk);
     let target = Target::new(&counted, extent, pointer);
-    let pages = mem::replace(&mut workspace.pages, PageMemory::new(alloc));
+    let ExtentMemory {
+        pages,
+        mut collected,
+    } = memory_of(alloc, &mut workspace.spare);
     let mut scanner = Scanner::new(pages, target.page, asked)?;
     let items = tile_by(
         alloc,
         &counted,
         &target,
         &mut scanner,
-        &mut workspace.collected,
+        &mut workspace.payloads,
+        &mut collected,
     )?;
-    let TailAndLostPages { tail, bad_pages } = tail_and_lost_pages(
-        alloc,
-        &counted,
-        &target,
-        items.as_slice(),
-        &mut scanner.pages,
-    )?;
-    let findings = Findings {
-        items,
-        tail_count: tail.count,
-        tail_first: tail.first,
-        bad_pages: PageNumbers { pages: bad_pages },
-    };
+    let findings = findings_of(alloc, &counted, &target, items, &mut scanner.pages)?;
     let (pages, asked) = scanner.into_parts();
-    workspace.pages = pages;
+    workspace.spare.push(ExtentMemory { pages, collected })?;
     Ok(ExtentResult::new(disk, extent, pointer, findings, asked))
 }
 
@@ -82,7 +110,7 @@ pub fn scan_extent<'d, D: PageSource>(
 }
 
 /// The same, in the memory of a workspace. The result doesn't depend on what was scanned in it before.
-pub fn scan_extent_in<'d, D: PageSource>(
+pub(crate) fn scan_extent_in<'d, D: PageSource>(
     alloc: Global,
     workspace: &mut Workspace,
     disk: &'d D,

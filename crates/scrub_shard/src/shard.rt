@@ -15,7 +15,7 @@ ghost use Rattle.scrub_shard.specs.declared.shard.ShardAnswer.TheVariants.{Found
 use crate::payloads::{bytes_for, first_lost};
 use scrub_check::{Named, Spares, check_all, name_shard, read_all_runs};
 use scrub_disk::{OutOfMemory, PageSource};
-use scrub_merge::{Binding, merge_owned};
+use scrub_merge::{Binding, merge_by_threads};
 use scrub_pool::{Gate, Takings};
 use scrub_report::ScrubFault;
 use scrub_report::scanning::{Scan, scan_by};
@@ -121,7 +121,7 @@ fn shard_of<R: Threads + Sync, D: PageSource>(
     } = scan;
     let (read, _) = read_all_runs(rt, alloc, disk, &plan, &all)?;
     let (runs, _) = read.into_parts();
-    let map = merge_owned(alloc, runs)?;
+    let map = merge_by_threads(rt, alloc, &runs)?;
     match map.get(&id) {
         Some(binding) => entry_answer(rt, alloc, disk, &plan, &all, binding),
         None => Ok(ShardAnswer::NoSuchShard),

@@ -19,6 +19,7 @@ pub mod Choices
 pub mod Laws
 pub mod NewestRecords
 pub mod PageLaws
+pub mod SameExtentZero
 pub mod PageSteps
 pub mod RisingLists
 pub mod Geometries

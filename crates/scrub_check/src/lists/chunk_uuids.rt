@@ -7,10 +7,11 @@ ghost use Rattle.std.specs.List.Sorted.{IsStrictlySortedBy};
 ghost use Rattle.scrub_check.specs.steps.ChunkUuids.{uuid_cmp, AreUuidsOf, is_twin_by};
 
 use crate::lists::place::Place;
-use crate::places::sorted_list::{count_of, into_sorted, rises_strictly};
+use crate::places::sorted_list::{count_of, into_sorted, into_sorted_by_threads, rises_strictly};
 use scrub_disk::OutOfMemory;
 use std::alloc::Global;
 use std::marker::Model;
+use std::thread::Threads;
 use uuid::Uuid;
 
 /// The UUIDs of chunks, in the order of their bytes; one that several chunks have is there as often.
@@ -39,6 +40,18 @@ fn uuids_of(alloc: Global, chunks: &[Place]) -> Result<Vec<Uuid>, OutOfMemory>
 }
 
 impl ChunkUuids {
+    /// The UUIDs of these chunks, sorted by threads.
+    pub(crate) fn by_threads<R: Threads + Sync>(
+        rt: &R,
+        alloc: Global,
+        chunks: &[Place],
+    ) -> Result<ChunkUuids, OutOfMemory>
+        ensures { IfOk result (AreUuidsOf chunks.now) }
+    {
+        let uuids = into_sorted_by_threads(rt, alloc, uuids_of(alloc, chunks)?)?;
+        Ok(ChunkUuids { uuids })
+    }
+
     /// The UUIDs of these chunks.
     pub(crate) fn of(alloc: Global, chunks: &[Place]) -> Result<ChunkUuids, OutOfMemory>
         ensures { IfOk result (AreUuidsOf chunks.now) }

@@ -1,8 +1,9 @@
 //! The chunks of a disk at their places, which of them no sound locator names, and which have one UUID.
 
-ghost use Rattle.std.specs.Prelude.{◌≡◌, IfOk};
+ghost use Rattle.std.specs.Prelude.{◌≡◌, IfOk, List};
 ghost use Rattle.std.specs.List.{filter, filter_map};
-ghost use Rattle.scrub_check.specs.steps.ChunkUuids.{is_twin_by};
+ghost use Rattle.scrub_scan.specs.Scanned.{Scanned};
+ghost use Rattle.scrub_check.specs.steps.ChunkUuids.{AreUuidsOf, is_twin_by};
 ghost use Rattle.scrub_check.specs.Chunks.{place_of, chunks, orphans, twins};
 
 use crate::lists::chunk_uuids::ChunkUuids;
@@ -14,6 +15,7 @@ use crate::statuses::checked::Checked;
 use scrub_disk::{OutOfMemory, PageSource};
 use scrub_scan::{AllFindings, Item};
 use std::alloc::Global;
+use std::thread::Threads;
 
 /// The place of an item of an extent, if it is a chunk.
 pub(crate) fn place_of(extent: u32, item: &Item) -> Option<Place>
@@ -80,6 +82,18 @@ fn twins_among(
         .collect(alloc)
 }
 
+/// Those of these chunks, which have these UUIDs, whose UUID another of them has too.
+fn twins_by(alloc: Global, places: &[Place], uuids: &ChunkUuids) -> Result<Vec<Place>, OutOfMemory>
+    requires { AreUuidsOf places.now uuids.now }
+    ensures { (extents : List Scanned) → places.now ≡ chunks extents →
+        IfOk result (λ v. v.items ≡ twins extents) }
+{
+    if uuids.are_distinct() {
+        return Ok(Vec::new(alloc));
+    }
+    twins_among(alloc, places, uuids)
+}
+
 /// The chunks whose UUID another chunk has too, by extent and then start.
 pub fn twins<D: PageSource>(
     alloc: Global,
@@ -89,8 +103,18 @@ pub fn twins<D: PageSource>(
 {
     let chunks = all_chunks(alloc, all)?;
     let uuids = ChunkUuids::of(alloc, &chunks)?;
-    if uuids.are_distinct() {
-        return Ok(Vec::new(alloc));
-    }
-    twins_among(alloc, &chunks, &uuids)
+    twins_by(alloc, &chunks, &uuids)
+}
+
+/// The same, by threads.
+pub fn twins_by_threads<R: Threads + Sync, D: PageSource>(
+    rt: &R,
+    alloc: Global,
+    all: &AllFindings<'_, D>,
+) -> Result<Vec<Place>, OutOfMemory>
+    ensures { IfOk result (λ v. v.items ≡ twins all.now.extents) }
+{
+    let chunks = all_chunks(alloc, all)?;
+    let uuids = ChunkUuids::by_threads(rt, alloc, &chunks)?;
+    twins_by(alloc, &chunks, &uuids)
 }

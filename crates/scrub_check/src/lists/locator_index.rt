@@ -14,6 +14,7 @@ use crate::statuses::checked::Checked;
 use scrub_disk::OutOfMemory;
 use std::alloc::Global;
 use std::marker::Model;
+use std::thread::Threads;
 
 /// The extents that locators name which aren't sound, by number; one that several name is there as often.
 #[derive(Drop)]
@@ -85,6 +86,19 @@ impl LocatorIndex {
         ensures { IfOk result (IsLocatorIndex checked.now) }
     {
         let sound = SoundPlaces::of(alloc, checked)?;
+        let barred = BarredExtents::of(alloc, checked)?;
+        Ok(LocatorIndex { sound, barred })
+    }
+
+    /// The same, with the sound ones sorted by threads.
+    pub fn by_threads<R: Threads + Sync>(
+        rt: &R,
+        alloc: Global,
+        checked: &[Checked],
+    ) -> Result<LocatorIndex, OutOfMemory>
+        ensures { IfOk result (IsLocatorIndex checked.now) }
+    {
+        let sound = SoundPlaces::by_threads(rt, alloc, checked)?;
         let barred = BarredExtents::of(alloc, checked)?;
         Ok(LocatorIndex { sound, barred })
     }

@@ -9,11 +9,12 @@ ghost use Rattle.scrub_check.specs.steps.Places.{chunk_at_cmp, is_place};
 ghost use Rattle.scrub_check.specs.steps.SoundPlaces.{sound_places, AreSoundPlaces};
 
 use crate::places::chunk_at::ChunkAt;
-use crate::places::sorted_list::{count_of, into_sorted, rises_strictly};
+use crate::places::sorted_list::{count_of, into_sorted, into_sorted_by_threads, rises_strictly};
 use crate::statuses::checked::Checked;
 use scrub_disk::OutOfMemory;
 use std::alloc::Global;
 use std::marker::Model;
+use std::thread::Threads;
 
 /// The places that sound locators point to, by extent and then byte; one that several point to is there as
 /// often.
@@ -53,6 +54,18 @@ impl SoundPlaces {
         ensures { IfOk result (AreSoundPlaces checked.now) }
     {
         let starts = into_sorted(starts_of(alloc, checked)?)?;
+        Ok(SoundPlaces { starts })
+    }
+
+    /// The same, sorted by threads.
+    pub(crate) fn by_threads<R: Threads + Sync>(
+        rt: &R,
+        alloc: Global,
+        checked: &[Checked],
+    ) -> Result<SoundPlaces, OutOfMemory>
+        ensures { IfOk result (AreSoundPlaces checked.now) }
+    {
+        let starts = into_sorted_by_threads(rt, alloc, starts_of(alloc, checked)?)?;
         Ok(SoundPlaces { starts })
     }
 

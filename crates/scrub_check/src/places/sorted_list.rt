@@ -5,7 +5,10 @@ ghost use Rattle.std.specs.Ordering.{is_eq};
 ghost use Rattle.std.specs.List.{count_by};
 ghost use Rattle.std.specs.List.Sorted.{IsPermutation, IsSorted, IsStrictlySortedBy};
 
+use rayon::prelude::*;
 use scrub_disk::OutOfMemory;
+use std::alloc::Global;
+use std::thread::Threads;
 
 /// How often an element occurs in a sorted list: as often as it lies between those that are less and those
 /// that are greater.
@@ -31,5 +34,18 @@ pub(crate) fn into_sorted<T: Ord + Drop>(mut list: Vec<T>) -> Result<Vec<T>, Out
     ensures same { IfOk result (λ v. IsPermutation list.items v.items) }
 {
     list.sort()?;
+    Ok(list)
+}
+
+/// The same, by two threads and one to join what they sorted.
+pub(crate) fn into_sorted_by_threads<T: Ord + Drop + Send, R: Threads + Sync>(
+    rt: &R,
+    alloc: Global,
+    mut list: Vec<T>,
+) -> Result<Vec<T>, OutOfMemory>
+    ensures sorted { IfOk result (λ v. IsSorted T.cmp v.items) }
+    ensures same { IfOk result (λ v. IsPermutation list.items v.items) }
+{
+    par_sort(rt, alloc, &mut list)?;
     Ok(list)
 }

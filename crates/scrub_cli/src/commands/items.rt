@@ -4,18 +4,16 @@ ghost use Rattle.std.specs.Prelude.{MatchResult};
 ghost use Rattle.scrub_cli.specs.Items.{IsItemsAnswer, IsItemsFault};
 
 use crate::commands::answer::{Answer, listing};
-use crate::commands::disk_image::load_disk;
+use crate::commands::disk_extent::load_disk_extent;
 use crate::commands::geometry::geometry_of;
 use crate::process::fault::Fault;
 use crate::process::images::Images;
 use scrub_args::ItemsArgs;
 use scrub_scan::tile;
 use std::alloc::Global;
-use std::thread::Threads;
 
 /// The items of the extent that the arguments name. Faults are checked in the order of `Fault`.
-pub fn items<'a, R: Threads + Sync, I: Images>(
-    rt: &R,
+pub fn items<'a, I: Images>(
     alloc: Global,
     args: &ItemsArgs<'a>,
     images: &mut I,
@@ -34,7 +32,7 @@ pub fn items<'a, R: Threads + Sync, I: Images>(
     if pointer > geometry.extent_bytes() {
         return Err(Fault::Pointer);
     }
-    let disk = load_disk(rt, alloc, geometry, image, images)?;
+    let disk = load_disk_extent(alloc, geometry, image, images, args.extent)?;
     let tiling = tile(alloc, &disk, args.extent, pointer)?;
     Ok(listing(alloc, tiling.as_slice())?)
 }

@@ -3,16 +3,19 @@
 
 ghost use Rattle.std.specs.Prelude.{◌≤◌, IfOk, MatchResult};
 ghost use Rattle.scrub_disk.specs.Parted.{image_of};
+ghost use Rattle.scrub_disk.specs.OneExtent.{image_of as image_of_extent};
+ghost use Rattle.scrub_cli.specs.DiskExtent.{IsExtentOfDisk};
 ghost use Rattle.scrub_cli.specs.Scan.{AreTakingsOf, IsDiskOf, IsScanAnswer, IsScanFault};
 ghost use Rattle.scrub_cli.specs.Superblock.{IsSuperblocksAnswer};
 
 use crate::commands::answer::{Answer, disk_answer, superblock_listing};
+use crate::commands::disk_extent::load_disk_extent;
 use crate::commands::disk_image::load_disk;
 use crate::commands::geometry::geometry_of;
 use crate::process::fault::Fault;
 use crate::process::images::Images;
 use scrub_args::{ImageArgs, ScanArgs, Wanted};
-use scrub_disk::PartedDisk;
+use scrub_disk::{OneExtent, PartedDisk};
 use scrub_pool::Takings;
 use std::alloc::Global;
 use std::sync::Wait;
@@ -57,10 +60,25 @@ pub fn scan<'a, R: Threads + Wait + Sync, I: Images>(
     Ok(disk_answer(rt, alloc, &disk, args.workers, wanted)?)
 }
 
-/// The lines of the superblocks of the disk that the arguments name. Faults are checked in the order of
-/// `Fault`.
-pub fn superblocks<'a, R: Threads + Sync, I: Images>(
-    rt: &R,
+/// Extent 0 of the disk that the arguments name, with the sizes that they give, or else those that its
+/// records have. Faults are checked in the order of `Fault`.
+fn extent_zero_of<'a, I: Images>(
+    alloc: Global,
+    args: &ImageArgs<'a>,
+    images: &mut I,
+) -> Result<OneExtent, Fault<'a>>
+    ensures { MatchResult result
+        (λ disk. IsExtentOfDisk (I.known images.old args.now.name.now) (I.known_map images.old) args.now 0
+        (image_of_extent disk))
+        (IsScanFault (I.known images.old args.now.name.now) (I.known_map images.old) args.now) }
+{
+    let geometry = geometry_of(alloc, args, images)?;
+    load_disk_extent(alloc, geometry, args, images, 0)
+}
+
+/// The lines of the superblocks of the disk that the arguments name. Only extent 0 is loaded. Faults are
+/// checked in the order of `Fault`.
+pub fn superblocks<'a, I: Images>(
     alloc: Global,
     args: &ImageArgs<'a>,
     images: &mut I,
@@ -70,6 +88,6 @@ pub fn superblocks<'a, R: Threads + Sync, I: Images>(
         a.text.items a.outcome)
         (IsScanFault (I.known images.old args.now.name.now) (I.known_map images.old) args.now) }
 {
-    let disk = disk_of(rt, alloc, args, images)?;
+    let disk = extent_zero_of(alloc, args, images)?;
     Ok(superblock_listing(alloc, &disk)?)
 }

@@ -1,5 +1,5 @@
 -- The pages that a list of bytes holds are whole. Here and not among the proofs, since page sources cite it.
-use Rattle.std.proofs.Common.{◌≡◌, ◌<◌, ◌≤◌, ◌+◌, ◌-◌, ◌*◌, ℕ, List, Bool, true, false, cond, length, get_or, arith, sym, ◌∙◌, ap, Some, None}
+use Rattle.std.proofs.Common.{◌≡◌, ◌<◌, ◌≤◌, ◌+◌, ◌-◌, ◌*◌, ℕ, List, Bool, true, false, cond, length, get_or, arith, sym, ◌∙◌, ap, Some, None, nat_eq}
 use Rattle.std.specs.List.{between}
 use Rattle.std.proofs.Math.Nat.{mul-le-mul_left}
 use Rattle.std.proofs.lemmas.Nat.{row_fits}
@@ -9,6 +9,7 @@ use Rattle.scrub_disk.specs.Image.{HasWholePages}
 use Rattle.scrub_disk.specs.BytesAndMarks.{held}
 use Rattle.scrub_disk.specs.Memory.{image_of}
 use Rattle.scrub_disk.specs.declared.memory.MemDisk.{MemDisk}
+use Rattle.scrub_disk.specs.OneExtent.{alone, page_of_extent}
 
 -- lemma: page q of extent e is among all pages, and its bytes are among all bytes, for P bytes a page, N pages an
 -- extent and E extents
@@ -33,3 +34,22 @@ held_whole g bytes unreadable l e q page he hq is =
 -- lemma: each page of a disk in memory is whole
 pub memory_pages : (d : MemDisk) → HasWholePages (image_of d)
 memory_pages d = held_whole d.geometry d.bytes.items d.unreadable.items d.whole
+
+-- lemma: page q of one extent is among its bytes, for P bytes a page and N pages
+pub extent_room : (P N q : ℕ) → q < N → q * P + P ≤ P * N
+extent_room P N q hq =
+    let next : q + 1 ≤ N = omega (arith, hq) in
+    let t : P * (q + 1) ≤ P * N = mul-le-mul_left P next in
+    omega (arith, t)
+
+-- lemma: each page of the one extent that bytes of that length hold is whole
+pub alone_whole : (g : Geometry) (extent : ℕ) (bytes : List ℕ) (unreadable : List Bool) → length bytes ≡ g.page * g.pages → HasWholePages (alone g extent bytes unreadable)
+alone_whole g extent bytes unreadable l e q page he hq is =
+    own (nat_eq e extent) (get_or unreadable q false) (q * g.page) (omega (arith, extent_room g.page g.pages q hq, l)) is
+  where
+    own : (here b : Bool) (from : ℕ) → from + g.page ≤ length bytes → cond here (cond b None (Some (between from (from + g.page) bytes))) None ≡ Some page → length page ≡ g.page
+    own false b from fits e = let none : None ≡ Some page = e in absurd (let no_such : ⊥ = cc in no_such)
+    own true true from fits e = let none : None ≡ Some page = e in absurd (let no_such : ⊥ = cc in no_such)
+    own true false from fits e =
+        let same : between from (from + g.page) bytes ≡ page = cc in
+        ap length (sym same) ∙ length-between bytes from (from + g.page) fits ∙ (let z : from + g.page - from ≡ g.page = omega arith in z)

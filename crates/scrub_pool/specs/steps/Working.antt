@@ -23,9 +23,9 @@ module _ {D : Type 0} {s : _} where
   abbrev pub AreResults : Image → PlanValue → List (ExtentResult D s) → Type 0
   AreResults image plan results = All (λ r. result_image r ≡ image) results × All (λ r. pointer_of plan r.extent ≡ Some r.pointer) results
 
-  -- the pass took what the worker took, and the worker's results are of this image
+  -- the pass took what the worker took, unless that holds an extent, and the worker's results are of this image
   abbrev pub IsAtWork : TableId → PlanValue → Image → PassValue → WorkerCore D s → Type 0
-  IsAtWork queue plan image pass core = IsPassFor queue plan.planned pass × (pass.own ≡ taken_by core) × AreResults image plan (results_of core)
+  IsAtWork queue plan image pass core = IsPassFor queue plan.planned pass × (held_by core ≡ None → pass.own ≡ taken_by core) × AreResults image plan (results_of core)
 
 -- a worker that has not begun, with a pass that took nothing
 abbrev pub IsNewMember : TableId → List ℕ → NewMember → Type 0

@@ -1,5 +1,6 @@
 -- Steps of the code: the JSON tokens of values, and those of the report's keys, before and after its extents.
-use Rattle.std.specs.Prelude.{ℕ, Bool, List, [], ◌∷◌, ◌++◌, codes, drop, map, nat_lt, take}
+use Rattle.std.specs.Prelude.{◌≡◌, ◌*◌, ℕ, Bool, IfOk, IfSome, List, [], ◌∷◌, ◌++◌, Result, Vec, codes, drop, length, map, nat_lt, slice_get, take}
+use Rattle.std.specs.Int.{div_ceil}
 use Rattle.std.specs.List.{flat_map, zip}
 use Rattle.json.specs.Token.{Token, begin_array, begin_object, end_array, end_object, key}
 use Rattle.json.specs.Tree.{json_tokens}
@@ -36,6 +37,11 @@ extents_tokens ps = flat_map (λ p. value_tokens (extent_data p.1 p.0)) ps
 -- the text of up to this many extents from a number of them on, after a comma if that isn't 0
 abbrev pub piece_text : List (Scanned × ℕ) → ℕ → ℕ → List ℕ
 piece_text ps from size = comma_if (nat_lt 0 from) ++ print (extents_tokens (take size (drop from ps)))
+
+-- the texts of all extents with their live bytes, in pieces of this many extents; a piece that was made is right
+pub record ArePieces {Z : Type 0} {E : Type 0} (ps : List (Scanned × ℕ)) (size : ℕ) (texts : List (Result (Vec ℕ Z) E)) : Type 0 where
+  pub count : length texts ≡ div_ceil (length ps) size
+  pub each : (n : ℕ) → IfSome (slice_get texts n) (λ text. IfOk text (λ bytes. bytes.items ≡ piece_text ps (n * size) size))
 
 module _ {D : Type 0} where
   -- the report's keys before `extents` with their values

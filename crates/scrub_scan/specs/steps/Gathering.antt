@@ -1,5 +1,5 @@
 -- Chunks whose payloads are in a batch: their digests are put in once it is hashed, and compared with their seals.
-use Rattle.std.specs.Prelude.{◌≡◌, ◌<◌, ◌≤◌, ◌+◌, ◌*◌, ◌/◌, ◌++◌, ◌∷◌, [], ℕ, zero, suc, List, All, Bool, true, false, length, ⊤, Option, Some, None, MatchOption, IfSome}
+use Rattle.std.specs.Prelude.{◌≡◌, ◌<◌, ◌≤◌, ◌+◌, ◌*◌, ◌/◌, ◌++◌, ◌∷◌, [], ℕ, zero, suc, List, All, Bool, true, false, length, map, ⊤, Option, Some, None, MatchOption, IfSome}
 use Rattle.std.specs.List.{AllZip}
 use Rattle.sha2.specs.Sha256.{sha256}
 use Rattle.sha_lanes.specs.declared.batch.Batch.{Batch}
@@ -12,6 +12,7 @@ use Rattle.scrub_scan.specs.declared.item.Item.{Item}
 use Rattle.scrub_scan.specs.declared.item.Item.TheVariants.{Chunk, Pad, Torn, Noise, Lost}
 use Rattle.scrub_scan.specs.declared.collected.Collected.{Collected}
 use Rattle.scrub_scan.specs.declared.pages.Target.{Target}
+use Rattle.scrub_scan.specs.declared.payloads.Payloads.{Payloads}
 use Rattle.scrub_scan.specs.declared.pages.TwoPages.{TwoPages}
 use Rattle.scrub_scan.specs.declared.scanner.Met.{Met}
 use Rattle.scrub_scan.specs.declared.scanner.Reached.{Reached}
@@ -119,18 +120,43 @@ pub record TiledTo (x : Extent) (place : ℕ) (items : List Item) : Type 0 where
   pub each : All (IsItem x) items
   pub within : place ≤ x.pointer
 
--- what was collected tiles the extent up to a place, if the digests of the batch's payloads agree with the items' seals
-pub record IsCollected (x : Extent) (place : ℕ) (c : Collected) : Type 0 where
+-- these payloads were added, and the first of them were hashed
+pub record Has (p : Payloads) (all : List (List ℕ)) : Type 0 where
+  pub hashed : List (List ℕ)
+  pub rest : List (List ℕ)
+  pub all_are : all ≡ hashed ++ rest
+  pub digests : p.digests.items ≡ map sha256 hashed
+  pub gathers : Gathers p.batch rest []
+
+-- payloads before and after some more may have been added
+abbrev pub Grows : Payloads → Payloads → Type 0
+Grows old new = (all : List (List ℕ)) → Has old all → (more : List (List ℕ)) × Has new (all ++ more)
+
+-- what was collected tiles the extent up to a place, if the digests of the last payloads agree with the items' seals
+pub record IsCollected (x : Extent) (place : ℕ) (p : Payloads) (c : Collected) : Type 0 where
+  pub before : List (List ℕ)
   pub payloads : List (List ℕ)
-  pub gathers : Gathers c.batch payloads []
+  pub has : Has p (before ++ payloads)
+  pub first : c.first ≡ length before
   pub tiles : TilesIfSealed x place c.trusted_from c.items.items c.pending.items payloads
   pub trusted : IfSome c.trusted_from (λ first. first ≤ place)
 
+-- the same, but other payloads may have been added after them
+pub record IsLeft (x : Extent) (place : ℕ) (p : Payloads) (c : Collected) : Type 0 where
+  pub before : List (List ℕ)
+  pub payloads : List (List ℕ)
+  pub after : List (List ℕ)
+  pub has : Has p (before ++ (payloads ++ after))
+  pub first : c.first ≡ length before
+  pub tiles : TilesIfSealed x place c.trusted_from c.items.items c.pending.items payloads
+
 -- what was collected tiles the extent up to a place, and nothing is left to be put in or compared
-pub record IsSettled (x : Extent) (place : ℕ) (c : Collected) : Type 0 where
+pub record IsSettled (x : Extent) (place : ℕ) (p : Payloads) (c : Collected) : Type 0 where
   pub tiled : TiledTo x place c.items.items
   pub none : c.pending.items ≡ []
-  pub batch : Gathers c.batch [] []
+  pub before : List (List ℕ)
+  pub has : Has p before
+  pub first : c.first ≡ length before
   pub untrusted : c.trusted_from ≡ None
 
 -- a place up to which items tile the extent still, once digests were compared: the one that the tiling had come to, or one

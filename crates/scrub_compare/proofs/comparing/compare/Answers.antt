@@ -3,7 +3,7 @@ use Rattle.std.proofs.Common.{◌≡◌, ◌++◌, [], ℕ, List, ap, codes, ◌
 use Rattle.std.specs.Prelude.{string_bytes}
 use Rattle.scrub_disk.specs.Image.{Image}
 use Rattle.scrub_report.specs.Parts.{ArePartsBut, ArePartsOf, found_in}
-use Rattle.scrub_compare.specs.Compare.{AreCompared, Compared, both_of, changes, doubts_of_both, firm_lines, generations_in, is_safe_by, manifest_changes, text_by}
+use Rattle.scrub_compare.specs.Compare.{AreCompared, Compared, both_of, changes, doubts_of_both, firm_lines, generations_in, is_safe_by, manifest_changes, whole_text}
 use Rattle.scrub_compare.proofs.comparing.compare.Given.{Over}
 use Rattle.scrub_compare.proofs.comparing.compare.Goals as goal
 
@@ -71,7 +71,7 @@ pub returns-clause-text : goal.returns-clause-text
 returns-clause-text g c = record {
   compared = compared g c;
   are = are g c;
-  text_is = c.in_ok-listing.ensures.text ∙ (λ i. text_by (doubts g c i) (others g c i) (generations g c i));
+  text_is = c.in_ok-listing.ensures.text ∙ (λ i. whole_text (doubts g c i) (others g c i) (generations g c i));
 }
 
 pub returns-clause-safe : goal.returns-clause-safe

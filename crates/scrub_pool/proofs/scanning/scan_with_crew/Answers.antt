@@ -14,7 +14,7 @@ returns-clause-lists g c =
     let pass = c.take_until_empty.new.pass in
     let joined : pass.joined ≡ lists_in c.in_ok-lists.lists.items = search rules in
     items_push c.in_ok-lists.lists.items c.push.new.self.items c.in_ok-own.own pass.own c.in_ok-push.ensures.items
-    (c.in_ok-own.ensures.list ∙ sym c.in_ok-take_until_empty.ensures.working.1)
+    (c.in_ok-own.ensures.list ∙ sym (c.in_ok-take_until_empty.ensures.working.1 c.in_ok-take_until_empty.ensures.free))
     ∙ ap (λ l. l ++ pass.own ∷ []) (sym joined)
 
 pub returns-clause-partition : goal.returns-clause-partition
@@ -24,7 +24,7 @@ returns-clause-partition g c =
     let joined : pass.joined ≡ lists_in c.in_ok-lists.lists.items = search rules in
     let pushed =
     items_push c.in_ok-lists.lists.items c.push.new.self.items c.in_ok-own.own pass.own c.in_ok-push.ensures.items
-    (c.in_ok-own.ensures.list ∙ sym ended.working.1) in
+    (c.in_ok-own.ensures.list ∙ sym (ended.working.1 ended.free)) in
     partition_of c.args.job.now.plan.now.planned pass.own pass.joined (lists_in c.push.new.self.items)
     (pushed ∙ ap (λ l. l ++ pass.own ∷ []) (sym joined)) ended.rising.0 ended.rising.1
     (subst (λ (l : List ℕ). IsPermutation (taken_in pass) l) (search rules)
@@ -49,7 +49,7 @@ returns-clause-extents g c =
     (results_of c.take_until_empty.new.core)
     c.args.job.now.plan.now.planned c.in_ok-own.ensures.found
     (c.in_ok-lists.ensures.found ∙ ap one_list (sym joined))
-    (c.in_ok-own.ensures.matched ∙ sym c.in_ok-take_until_empty.ensures.working.1) (search rules)
+    (c.in_ok-own.ensures.matched ∙ sym (c.in_ok-take_until_empty.ensures.working.1 c.in_ok-take_until_empty.ensures.free)) (search rules)
     (c.in_ok-take_until_empty.ensures.all (search rules) (search rules))
 
 pub returns-clause-counted : goal.returns-clause-counted

@@ -10,9 +10,9 @@ pub returns : goal.returns
 returns g c =
     c.into_inner.ensures.items ∙ ap₂ (λ b ts. b ++ print ts) before tokens
   where
-    before : c.end_object.new.self.before ≡ c.args.text.items
+    before : c.end_object.new.self.before ≡ []
     before =
-        c.end_object.ensures.room.0 ∙ c.in_ok-write_last.ensures.before ∙ c.end_array.ensures.room.0 ∙ c.new-out.ensures.before
+        c.end_object.ensures.room.0 ∙ c.in_ok-write_last.ensures.before ∙ c.end_array.ensures.room.0 ∙ c.new-out.ensures.before ∙ c.new.ensures.items
 
     tokens : c.end_object.new.self.tokens ≡ ended_tokens c.args.listed.now
     tokens =

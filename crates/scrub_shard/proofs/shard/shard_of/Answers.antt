@@ -19,7 +19,7 @@ returns-in-Some g c =
       plan = c.requires.planned;
       all = c.requires.scanned;
       read = c.in_ok-read.ensures.runs;
-      bindings = rw c.into_parts-runs.ensures.runs at c.in_ok-map.ensures;
+      bindings = rw (c.deref.ensures.value, c.into_parts-runs.ensures.runs) at c.in_ok-map.ensures;
     } in
     IfOk-weaker c.entry_answer.result (IsAnswerOf image c.args.scan.plan c.args.scan.all.extents c.in-Some.binding.now)
     (IsShardAnswer image c.args.id)
@@ -46,7 +46,7 @@ returns g c = record {
     plan = c.requires.planned;
     all = c.requires.scanned;
     read = c.in_ok-read.ensures.runs;
-    bindings = rw c.into_parts-runs.ensures.runs at c.in_ok-map.ensures;
+    bindings = rw (c.deref.ensures.value, c.into_parts-runs.ensures.runs) at c.in_ok-map.ensures;
   };
   answer = λ b bound. c.in-None.ensures.none b bound.among bound.named;
 }

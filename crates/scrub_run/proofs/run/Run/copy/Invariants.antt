@@ -1,6 +1,0 @@
--- The first entries were copied.
-use Rattle.std.proofs.Common.{◌≡◌, take}
-use Rattle.scrub_run.proofs.run.Run.copy.Given as goal
-
-abbrev pub invariant-loop-entry : goal.invariant-loop-entry
-invariant-loop-entry l = l.entries.items ≡ take l.entry-index l.entry-items
