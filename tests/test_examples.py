@@ -1,6 +1,6 @@
 """Runs the examples of five pages, as lib/examples.py finds them, and compares their output with the pages.
 
-An example needs ddrescue, man, parallel, python3 or sqlite3 if it has that word, and jq if it has the word jq, row or rows; and what the
+An example needs ddrescue, parallel, python3 or sqlite3 if it has that word, and jq if it has the word jq, row or rows; and what the
 example needs that wrote a file which it names.
 """
 import os
@@ -28,7 +28,7 @@ class ExampleCase(Case):
         for tool in sorted(self.transcript.tools(self.number)):
             need(tool)
         found = self.transcript.up_to(self.number)
-        self.same(f"$ {self.example.command}\n", found, self.transcript.placed(self.example.wanted))
+        self.same(f"$ {self.example.command}\n", found, self.example.wanted)
 
 
 class ReportCase(Case):
@@ -68,6 +68,12 @@ class Clone(Case):
             done = subprocess.run(["sh", "-c", example.command], cwd=clone, env={**os.environ, "PATH": path}, timeout=300,
                                   stdin=subprocess.DEVNULL, stdout=subprocess.PIPE, stderr=subprocess.STDOUT, encoding="utf-8")
         self.same(example.command, done.stdout, example.wanted)
+
+
+class Folders(Case):
+    def test_nothing_is_written_under_a_name_that_two_users_share(self):
+        pages = [TOP / name for name in ("README.md", "CONTRIBUTING.md", "examples/README.md")] + sorted((TOP / "docs").glob("*.*"))
+        self.same("pages with /tmp", [path.name for path in pages if "/tmp" in path.read_text(encoding="utf-8")], [])
 
 
 class Manual(Case):

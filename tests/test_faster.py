@@ -5,6 +5,7 @@ program that is missing is a failure.
 With `tests/run --program P` the answers of P are compared too.
 """
 import random
+import shlex
 import subprocess
 import tempfile
 import unittest
@@ -56,8 +57,8 @@ class Examples(FasterCase):
     def test_each_call(self):
         calls = self.room / "calls"
         calls.mkdir()
-        quoted = " ".join(f"'{path}'" for path in self.programs)
-        transcript = Transcript(lambda: SCRIPT.replace("ROOM", f"'{calls}'").replace("PROGRAMS", quoted))
+        quoted = " ".join(shlex.quote(str(path)) for path in self.programs)
+        transcript = Transcript(lambda: SCRIPT.replace("ROOM", shlex.quote(str(calls))).replace("PROGRAMS", quoted))
         self.addCleanup(transcript.close)
         transcript.up_to(len(transcript.examples) - 1)
         folders = sorted(calls.iterdir())

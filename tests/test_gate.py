@@ -14,7 +14,8 @@ from pathlib import Path
 from unittest import mock
 
 from lib import watched
-from lib.program import TOP
+from lib.cases import Case
+from lib.program import PACKAGES, TOP, need, program
 from lib.starting import write
 
 SECONDS = 300
@@ -256,6 +257,18 @@ class Dying(Case):
     def test_c(self):
         pass
 """
+NEEDING = """
+import os
+from lib.cases import Case
+from lib.program import need
+
+class Needing(Case):
+    def test_a_tool_that_is_missing(self):
+        need("ddrescue")
+
+    def test_a_folder_of_the_superuser(self):
+        self.true("/usr/sbin is on the path", "/usr/sbin" in os.get_exec_path())
+"""
 WAITING = """
 class Waiting(Case):
     def test_it(self):
@@ -263,6 +276,36 @@ class Waiting(Case):
             (TOP / "waits").write_text(f"{os.getpid()} {sleep.pid}")
             sleep.wait()
 """
+
+
+class Elsewhere(TreeCase):
+    def test_a_path_with_blanks_quotes_and_letters_beyond_ascii(self):
+        """Tests that give a path to a shell or to a tool with words of its own."""
+        top = self.top / "Füße und 'mehr' für $HOME"
+        for name in ("docs", "examples", "tests", "view"):
+            shutil.copytree(TOP / name, top / name, ignore=shutil.ignore_patterns("__pycache__"))
+        for path in TOP.glob("*.md"):
+            shutil.copy(path, top)
+        shutil.copy(program(), top / "the program")
+        names = ["views.Fleet.test_both", "views.Metrics.test_the_program", "examples.Examples.test_line_0016", "questions"]
+        begun = self.begin(sys.executable, top / "tests/run", "--program", top / "the program", *names)
+        out, error = begun.communicate(timeout=SECONDS)
+        self.assertEqual((begun.returncode, error), (0, ""), out)
+        self.assertRegex(out.splitlines()[-1], r"\A[1-9][0-9]* passed, 0 failed")
+
+
+class Packages(Case):
+    def test_each_tool_is_in_its_package(self):
+        """As dpkg knows the packages that are installed here."""
+        need("dpkg")
+        known = {}
+        for tool, package in PACKAGES.items():
+            done = subprocess.run(["dpkg-query", "--listfiles", package], capture_output=True, text=True)
+            # cc is a link of this machine, and python3 is in a package that python3 depends on.
+            if done.returncode == 0 and not tool.startswith("Python's ") and tool not in ("cc", "python3"):
+                known[tool] = [path for path in done.stdout.splitlines() if re.fullmatch(rf"(/usr)?/s?bin/{re.escape(tool)}", path)]
+        self.true("some of these packages are installed", known)
+        self.same("tools that aren't in their package", [tool for tool, paths in known.items() if paths == []], [])
 
 
 class Run(TreeCase):
@@ -313,6 +356,32 @@ class Run(TreeCase):
         self.assertEqual(failed[1], "Dying.test_c: it wasn't run: its process had ended by SIGSEGV")
         self.assertEqual(len(failed), 6)
         self.assertIn("first: 1 passed, 3 skipped in time", lines)
+
+    def test_a_tool_that_is_missing(self):
+        """The line names the package to install. Tools that only a superuser has on the path are found."""
+        self.module("second", NEEDING)
+        with mock.patch.dict(os.environ, PATH="/nothing/here"):
+            status, lines, error = self.run_tests("second")
+        self.assertEqual((status, error), (0, ""))
+        self.assertEqual(lines[-3:], ["skipped: ddrescue isn't there: install gddrescue (1)", "1 single answers were compared",
+                                      "1 passed, 0 failed, 1 skipped"])
+
+    def test_an_older_python(self):
+        """It gets one sentence. A Python of another version is only told so here; those that are here are tried as they are."""
+        text = "tests/run: Python 3.10 or newer is needed, and this is {}.{}\n"
+        olders = {self.aged(3, 9): (3, 9), self.aged(2, 7): (2, 7)}
+        for major, minor in ((2, 7), (3, 6), (3, 7), (3, 8), (3, 9)):
+            if found := shutil.which(f"python{major}.{minor}"):
+                if subprocess.run([found, "-c", ""], capture_output=True).returncode == 0:
+                    olders[found, "tests/run"] = (major, minor)
+        for words, version in olders.items():
+            done = subprocess.run(words, cwd=self.top, capture_output=True, text=True, timeout=SECONDS)
+            self.assertEqual((done.returncode, done.stdout, done.stderr), (2, "", text.format(*version)), words)
+
+    def aged(self, *version):
+        """tests/run by this Python, which says that it is of an older version."""
+        code = f"import sys; sys.version_info = {version + (0, 'final', 0)}; exec(compile(open('tests/run').read(), 'tests/run', 'exec'))"
+        return sys.executable, "-c", code
 
     def test_names(self):
         self.assertEqual(self.run_tests("second.Good", "-j2")[1][-1], "1 passed, 0 failed, 1 skipped")

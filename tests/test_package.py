@@ -24,24 +24,39 @@ INSTALLED = {
     "bin/shardscrub": (0o755, "shardscrub"),
     "lib/shardscrub/shardscrub": (0o755, "release/shardscrub"),
     "lib/shardscrub/shardscrub-x86-64-v3": (0o755, "release/shardscrub-x86-64-v3"),
+    "share/bash-completion/completions/shardscrub": (0o644, "release/completions/shardscrub.bash"),
     "share/doc/shardscrub/README.md": (0o644, "README.md"),
+    "share/doc/shardscrub/copyright": (0o644, "release/copyright"),
     "share/doc/shardscrub/docs/FORMAT.md": (0o644, "docs/FORMAT.md"),
     "share/doc/shardscrub/docs/READING.md": (0o644, "docs/READING.md"),
     "share/doc/shardscrub/docs/RECLAIMING.md": (0o644, "docs/RECLAIMING.md"),
     "share/doc/shardscrub/docs/REPORT.md": (0o644, "docs/REPORT.md"),
+    "share/doc/shardscrub/docs/report.schema.json": (0o644, "docs/report.schema.json"),
+    **{f"share/doc/shardscrub/examples/{path.name}": (0o644, f"examples/{path.name}") for path in (TOP / "examples").iterdir()},
+    "share/fish/vendor_completions.d/shardscrub.fish": (0o644, "release/completions/shardscrub.fish"),
     "share/man/man1/shardscrub.1": (0o644, "docs/shardscrub.1"),
     "share/shardscrub/view/fleet.sql": (0o644, "view/fleet.sql"),
     "share/shardscrub/view/metrics": (0o755, "view/metrics"),
+    "share/shardscrub/view/monitoring/cron": (0o644, "view/monitoring/cron"),
+    "share/shardscrub/view/monitoring/nightly": (0o755, "view/monitoring/nightly"),
+    "share/shardscrub/view/monitoring/shardscrub.rules.yml": (0o644, "view/monitoring/shardscrub.rules.yml"),
+    "share/shardscrub/view/monitoring/shardscrub@.service": (0o644, "view/monitoring/shardscrub@.service"),
+    "share/shardscrub/view/monitoring/shardscrub@.timer": (0o644, "view/monitoring/shardscrub@.timer"),
     "share/shardscrub/view/questions.jq": (0o644, "view/questions.jq"),
     "share/shardscrub/view/report.html": (0o644, "view/report.html"),
     "share/shardscrub/view/row": (0o755, "view/row"),
+    "share/zsh/site-functions/_shardscrub": (0o644, "release/completions/_shardscrub"),
 }
-# The package has two of them compressed, the man page and the changelog.
+# The package has the man page compressed and the completions for zsh where Debian's zsh looks, and two files more, which aren't copies.
 PACKED = INSTALLED | {
     "share/man/man1/shardscrub.1.gz": INSTALLED["share/man/man1/shardscrub.1"],
-    "share/doc/shardscrub/changelog.gz": (0o644, "CHANGELOG.md"),
+    "share/zsh/vendor-completions/_shardscrub": INSTALLED["share/zsh/site-functions/_shardscrub"],
+    "share/doc/shardscrub/changelog.gz": (0o644, None),
+    "share/lintian/overrides/shardscrub": (0o644, None),
 }
-del PACKED["share/man/man1/shardscrub.1"]
+del PACKED["share/man/man1/shardscrub.1"], PACKED["share/zsh/site-functions/_shardscrub"]
+# A link of a document: its text, and where it leads.
+LINK = re.compile(r"\[([^]]*)\]\(([^)\s]+)\)")
 
 FIELDS = {
     "Package": "shardscrub",
@@ -63,8 +78,6 @@ RUNS = [
 def run(*words, more=None, **options):
     """A run at the top of the repository, with nothing of the caller's environment but where programs and passing files are."""
     environment = {name: os.environ[name] for name in ("PATH", "HOME", "TMPDIR") if name in os.environ}
-    # The folders of ldconfig, which dpkg looks for, are only on the superuser's path.
-    environment["PATH"] += ":/usr/sbin:/sbin"
     environment["LC_ALL"] = "C.UTF-8"
     return subprocess.run([str(word) for word in words], env=environment | (more or {}), capture_output=True,
                           **{"cwd": TOP, "text": True, "timeout": 300, **options})
@@ -86,6 +99,17 @@ def newest():
 
 def unpacked(name, data):
     return gzip.decompress(data) if name.endswith(".gz") else data
+
+
+def without_links(name, data):
+    """The content of a file, of a document without its links."""
+    return LINK.sub(r"\1", data.decode()) if name.endswith(".md") else data
+
+
+def anchors(text):
+    """The names that the headings of a document have, as places to which a link may lead."""
+    titles = [re.sub(r"[^\w -]", "", title.lower()).replace(" ", "-") for title in re.findall(r"^#+ (.*)$", text, re.M)]
+    return set(titles)
 
 
 def tree(folder):
@@ -110,11 +134,16 @@ class OfTheRelease(unittest.TestCase):
         self.addCleanup(folder.cleanup)
         self.folder = Path(folder.name)
 
+    def copied(self, name, data, origin):
+        """Checks that an installed file is a copy, or a document that differs in its links alone."""
+        if origin is not None:
+            self.assertEqual(without_links(name, unpacked(name, data)), without_links(name, (TOP / origin).read_bytes()), name)
+
     def installed(self, folder, files):
         """Checks that these files and nothing else are installed in a folder."""
         self.assertEqual(tree(folder), with_folders(files))
         for name, (_, origin) in files.items():
-            self.assertEqual(unpacked(name, (folder / name).read_bytes()), (TOP / origin).read_bytes(), name)
+            self.copied(name, (folder / name).read_bytes(), origin)
 
     def runs(self, program):
         version = f"shardscrub {newest()[0]}\n"
@@ -131,6 +160,29 @@ class Install(OfTheRelease):
         done("release/install", self.folder / "prefix", umask=0o077)
         self.installed(self.folder / "prefix", INSTALLED)
         self.runs(self.folder / "prefix/bin/shardscrub")
+
+    def test_each_link_leads_to_what_is_installed(self):
+        done("release/install", self.folder / "prefix")
+        count = 0
+        for path in sorted((self.folder / "prefix").rglob("*.md")):
+            for _, target in LINK.findall(path.read_text(encoding="utf-8")):
+                file, _, anchor = target.partition("#")
+                to = (path.parent / file) if file else path
+                with self.subTest(document=path.name, link=target):
+                    self.assertTrue(to.is_file())
+                    if anchor:
+                        self.assertIn(anchor, anchors(to.read_text(encoding="utf-8")))
+                count += 1
+        self.assertGreater(count, 100)
+
+    def test_the_examples_of_the_help(self):
+        """They run in the folder of the documents."""
+        done("release/install", self.folder / "prefix")
+        command = self.folder / "prefix/bin/shardscrub"
+        lines = re.findall(r"^  shardscrub (.*examples/\S+)$", run(command, "--help").stderr, re.M)
+        self.assertGreater(len(lines), 2)
+        for line in lines:
+            done(command, *line.split(), cwd=self.folder / "prefix/share/doc/shardscrub")
 
     def test_which_program_is_started(self):
         """By the processor, by SHARDSCRUB_CPU, and if one of the programs isn't there any more."""
@@ -257,8 +309,44 @@ class Package(OfTheRelease):
         self.assertEqual({member.mtime for member, _ in members}, {newest()[1]})
         for member, data in members:
             if data is not None:
-                origin = TOP / PACKED[member.name.removeprefix("./usr/")][1]
-                self.assertEqual(unpacked(member.name, data), origin.read_bytes(), member.name)
+                origin = PACKED[member.name.removeprefix("./usr/")][1]
+                self.copied(member.name, data, origin)
+
+    def member(self, name):
+        return next(data for member, data in self.members(self.package) if member.name == f"./usr/share/{name}")
+
+    def test_changelog(self):
+        """It has Debian's form, and each entry of CHANGELOG.md from 1.0.0 on with its day and its words."""
+        text = gzip.decompress(self.member("doc/shardscrub/changelog.gz")).decode()
+        form = r"shardscrub \(([0-9.]+)\) unstable; urgency=medium\n\n((?:  .*\n|\n)+?)\n -- (.*)  (.*)\n\n"
+        self.assertRegex(text, rf"\A(?:{form})+\Z")
+        source = LINK.sub(r"\1", (TOP / "CHANGELOG.md").read_text(encoding="utf-8")).partition("## Before")[0]
+        wanted = [(version, re.sub(r"^- ", "* ", body, flags=re.M).split(), FIELDS["Maintainer"],
+                   datetime.fromisoformat(day).strftime("%a, %d %b %Y 00:00:00 +0000"))
+                  for version, day, body in re.findall(r"^## ([0-9.]+), (\S+)\n((?:(?!## ).*\n)*)", source, re.M)]
+        self.assertGreater(len(wanted), 5)
+        self.assertEqual([(version, body.split(), maintainer, day) for version, body, maintainer, day in re.findall(form, text)], wanted)
+        self.assertEqual([line for line in text.splitlines() if len(line) > 80 and not line.startswith(" -- ")], [])
+
+    def test_dpkg_reads_the_changelog(self):
+        need("dpkg-parsechangelog")
+        (self.folder / "changelog").write_bytes(gzip.decompress(self.member("doc/shardscrub/changelog.gz")))
+        ended = run("dpkg-parsechangelog", "-l", self.folder / "changelog", "--all", "--format", "rfc822")
+        self.assertEqual((ended.returncode, ended.stderr), (0, ""))
+        self.assertEqual(re.findall("^Version: (.*)$", ended.stdout, re.M)[0], newest()[0])
+
+    def test_no_licence_has_been_granted(self):
+        """README and the package say the same."""
+        line = "none has been granted yet; all rights are with the owner"
+        self.assertIn(f"**Licence**: {line}.", (TOP / "README.md").read_text(encoding="utf-8"))
+        text = self.member("doc/shardscrub/copyright").decode()
+        self.assertRegex(text, r"(?m)^Copyright \(C\) \d{4} ")
+        self.assertIn(line.replace("none", "No licence"), text)
+
+    def test_overrides(self):
+        """The programs aren't stripped, so that they stay the released ones; nothing else is overridden."""
+        lines = self.member("lintian/overrides/shardscrub").decode().splitlines()
+        self.assertEqual([line for line in lines if not line.startswith("#")], ["shardscrub: unstripped-binary-or-object *"])
 
     def test_checksums(self):
         done("dpkg-deb", "--control", self.package, self.folder)
@@ -336,6 +424,9 @@ class Dpkg(OfTheRelease):
         summary = done(self.root / "usr/bin/shardscrub", "summary", "examples/one-shard.img")
         metrics = done(self.root / "usr/share/shardscrub/view/metrics", "sda", input=summary)
         self.assertIn('\nshardscrub_verdict{disk="sda"} 0\n', metrics)
+        done(self.root / "usr/share/shardscrub/view/monitoring/nightly", "sda", self.folder, "examples/one-shard.img",
+             more={"PATH": f"{self.root}/usr/bin:{os.environ['PATH']}"})
+        self.assertEqual((self.folder / "shardscrub-sda.prom").read_text(), metrics)
 
     def test_removed(self):
         for way in ("--remove", "--purge"):

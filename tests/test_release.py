@@ -1,8 +1,9 @@
 """The released programs match their checksums, are of these sources, and have the same bytes as the programs built here."""
+import shutil
 import subprocess
 
 from lib.cases import Case
-from lib.program import BUILT, FASTER, GENERAL, RELEASED, TOP, find, need
+from lib.program import BUILT, FASTER, GENERAL, RELEASED, TOP, find
 
 RELEASE = TOP / "release"
 
@@ -27,7 +28,8 @@ class Release(Case):
 
     def check_what_is_built(self, name):
         """Another toolchain than that of release/SOURCES may give other bytes, so then they aren't compared."""
-        need("rt")
+        if shutil.which("rt") is None:
+            self.skipTest("rt isn't there: it is the command of the Rattle toolchain")
         _, toolchain = sources()
         ours = subprocess.run(["rt", "version"], capture_output=True, text=True).stdout.strip()
         if ours != toolchain:

@@ -7,6 +7,7 @@ import re
 import shutil
 import subprocess
 import tempfile
+import time
 import unittest
 from pathlib import Path
 
@@ -40,7 +41,9 @@ exit 3
 """
 
 
-class Start(unittest.TestCase):
+class StartCase(unittest.TestCase):
+    """A small tree with the scripts."""
+
     def setUp(self):
         folder = tempfile.TemporaryDirectory()
         self.addCleanup(folder.cleanup)
@@ -68,12 +71,11 @@ class Start(unittest.TestCase):
 
     def build(self, *names):
         """Programs that were built here, after the last change of their sources; both if none is named."""
+        for path in (self.top / "crates.txt", self.top / "HANDLES", self.crate / "src", self.crate / "src/main.rt"):
+            self.age(path, 60)
         for name in names or (GENERAL, FASTER):
             write(self.built(name), PROGRAM.replace("NAME", f"built {name}"), 0o755)
             self.mark(name).touch()
-            self.age(self.mark(name), 0)
-        for path in (self.top / "crates.txt", self.top / "HANDLES", self.crate / "src", self.crate / "src/main.rt"):
-            self.age(path, 60)
 
     def built(self, name):
         return self.crate / "out" / ("scrub_cli" if name == GENERAL else name)
@@ -134,6 +136,8 @@ class Start(unittest.TestCase):
             self.assertRegex(ended.stderr, r"\Ashardscrub: .*\n\Z")
             self.assertIn(f"./build in {self.top}", ended.stderr)
 
+
+class Start(StartCase):
     def test_each_change_for_x86_64_v3_is_eight_in_the_place_of_four(self):
         lines = CHANGES.search((TOP / "build").read_text())[0].splitlines()
         changes = [line.strip().removeprefix("echo '").removesuffix("'").split(" ", 1) for line in lines]
@@ -156,6 +160,12 @@ class Start(unittest.TestCase):
     def test_a_source_taken_away_since_the_build(self):
         self.build()
         self.age(self.crate / "src", -60)
+        self.refuses()
+
+    def test_a_source_that_comes_with_an_old_time_since_the_build(self):
+        self.build()
+        write(self.crate / "src/main.rt", "the program, older\n")
+        self.age(self.crate / "src/main.rt", 60)
         self.refuses()
 
     def test_a_build_that_failed(self):
@@ -308,6 +318,194 @@ class Start(unittest.TestCase):
         self.assertEqual(built.returncode, 0, built.stderr)
         self.assertEqual(self.on(V2_FLAGS | V3_FLAGS), "made by rt x86-64-v3")
         self.assertEqual(list(passing.iterdir()), [])
+
+
+# The tools that look at the sources.
+TOOLS = ("readlink", "awk", "uname", "find", "sort", "xargs", "sha256sum", "grep")
+
+
+class Kept(StartCase):
+    """That the released programs are of these sources is known without a checksum while nothing has changed, and never longer."""
+
+    def setUp(self):
+        super().setUp()
+        self.sums = self.folder / "sums"
+        write(self.folder / "tools/sha256sum", f"#!/bin/sh\necho >>'{self.sums}'\nexec '{shutil.which('sha256sum')}' \"$@\"\n", 0o755)
+        # A crate of tests, and what a crate has beside its sources.
+        write(self.top / "crates.txt", "scrub_cli: clap\nscrub_tests: scrub_cli\n")
+        write(self.top / "crates/scrub_tests/src/lib.rt", "the tests\n")
+        write(self.crate / "specs/steps/Steps.antt", "the steps\n")
+        write(self.crate / "must-fail/one.edit", "an edit\n")
+        self.kept = self.crate / "out/released.listing"
+        self.take_changes_of_now()
+        self.release()
+
+    def take_changes_of_now(self):
+        """So that no test has to wait for two seconds."""
+        script = (self.top / "build").read_text()
+        self.assertEqual(script.count("$(($2 - 2))"), 1)
+        (self.top / "build").write_text(script.replace("$(($2 - 2))", "$(($2 + 2))"))
+
+    def counted(self):
+        """How often a checksum is taken, and what is started or said."""
+        self.sums.unlink(missing_ok=True)
+        started = self.on(V2_FLAGS)
+        return len(self.sums.read_text()) if self.sums.exists() else 0, started
+
+    def keeps(self):
+        """Checks that the released program is started twice, the second time without a checksum."""
+        self.assertEqual(self.counted()[1], f"released {GENERAL}")
+        self.assertEqual(self.counted(), (0, f"released {GENERAL}"))
+
+    def test_without_a_checksum(self):
+        self.assertEqual(self.counted(), (2, f"released {GENERAL}"))
+        self.assertEqual(self.counted(), (0, f"released {GENERAL}"))
+        self.starts(f"released {GENERAL}", f"released {FASTER}")
+        self.assertEqual([path.name for path in self.kept.parent.iterdir()], [self.kept.name])
+
+    def test_each_change_of_the_sources(self):
+        """A change and its way back. The sizes and the times of all files are as before, if that can be."""
+        main, steps, away = self.crate / "src/main.rt", self.crate / "specs/steps", self.folder / "away"
+        write(away, "the progrom\n")
+        old = self.folder.stat().st_mtime - 1000
+
+        def replace(path, text):
+            times = path.stat().st_mtime_ns, path.parent.stat().st_mtime_ns
+            path.write_text(text)
+            for one, at in zip((path, path.parent), times):
+                os.utime(one, ns=(at, at))
+
+        def swap(one, other):
+            middle = self.folder / "middle"
+            times = {path: path.stat().st_mtime_ns for path in (one.parent, other.parent)}
+            one.rename(middle)
+            other.rename(one)
+            middle.rename(other)
+            for path, at in times.items():
+                os.utime(path, ns=(at, at))
+
+        for path in (main, away, steps / "Steps.antt", self.top / "crates.txt"):
+            os.utime(path, (old, old))
+        changes = {
+            "another content": (lambda: replace(main, "the progrom\n"), lambda: replace(main, "the program\n")),
+            "another file in its place": (lambda: swap(main, away), lambda: swap(main, away)),
+            "a file more": (lambda: write(steps / "More.antt", ""), lambda: (steps / "More.antt").unlink()),
+            "a file less": (lambda: (steps / "Steps.antt").rename(self.folder / "taken"),
+                            lambda: (self.folder / "taken").rename(steps / "Steps.antt")),
+            "another name of a file": (lambda: main.rename(main.with_name("moin.rt")), lambda: main.with_name("moin.rt").rename(main)),
+            "another name of a folder": (lambda: steps.rename(steps.with_name("stops")), lambda: steps.with_name("stops").rename(steps)),
+            "another name of a part": (lambda: (self.crate / "specs").rename(self.crate / "spics"),
+                                       lambda: (self.crate / "spics").rename(self.crate / "specs")),
+            "a part more": (lambda: write(self.crate / "proofs/One.antt", ""), lambda: shutil.rmtree(self.crate / "proofs")),
+            "a link in the place of a file": (lambda: (main.unlink(), main.symlink_to(away)), lambda: (main.unlink(), write(main, "the program\n"))),
+            "another line of the crate": (lambda: replace(self.top / "crates.txt", "scrub_cli: clop\nscrub_tests: scrub_cli\n"),
+                                          lambda: replace(self.top / "crates.txt", "scrub_cli: clap\nscrub_tests: scrub_cli\n")),
+            "other handles": (lambda: replace(self.top / "HANDLES", "Handles allowed: Threads, Wait!\n"),
+                              lambda: replace(self.top / "HANDLES", "Handles allowed: Threads, Wait.\n")),
+        }
+        for what, (change, change_back) in changes.items():
+            with self.subTest(what):
+                self.keeps()
+                change()
+                self.refuses()
+                change_back()
+                self.keeps()
+
+    def test_another_release(self):
+        self.keeps()
+        sources = self.top / "release/SOURCES"
+        text = sources.read_text()
+        sources.write_text(text.replace(text[0], "0" if text[0] != "0" else "1", 1))
+        self.refuses()
+        sources.unlink()
+        self.refuses()
+        write(sources, text)
+        self.keeps()
+
+    def test_another_way_to_take_the_checksum(self):
+        self.keeps()
+        script = (self.top / "build").read_text()
+        (self.top / "build").write_text(script.replace("the faster program", "the fastest program"))
+        self.refuses()
+
+    def test_what_is_no_source(self):
+        self.keeps()
+        write(self.top / "README.md", "read me\n")
+        write(self.crate / "must-fail/one.edit", "another edit\n")
+        write(self.crate / "out/shardscrub.log", "a log\n")
+        self.assertEqual(self.counted(), (0, f"released {GENERAL}"))
+        write(self.top / "crates/scrub_tests/src/lib.rt", "other tests\n")
+        self.assertEqual(self.counted(), (2, f"released {GENERAL}"))
+        self.keeps()
+
+    def test_a_change_a_moment_before(self):
+        """A later change might have the same times. Two seconds may be over before a slow machine looks, so they are a thousand first."""
+        script = (self.top / "build").read_text()
+        (self.top / "build").write_text(script.replace("$(($2 + 2))", "$(($2 - 1000))"))
+        self.assertEqual([self.counted() for _ in range(2)], [(2, f"released {GENERAL}")] * 2)
+        self.assertFalse(self.kept.exists())
+        (self.top / "build").write_text(script.replace("$(($2 + 2))", "$(($2 - 2))"))
+        time.sleep(3.1)
+        self.keeps()
+
+    def test_a_kept_listing_that_is_no_longer_whole(self):
+        self.keeps()
+        whole = self.kept.read_bytes()
+        for text in (b"", whole[:-1], whole[:len(whole) // 2], whole + b"\n"):
+            self.kept.write_bytes(text)
+            self.assertEqual(self.counted(), (2, f"released {GENERAL}"))
+            self.assertEqual(self.kept.read_bytes(), whole)
+
+    def test_sources_of_another_user(self):
+        """Nothing is written into their tree, neither by a superuser."""
+        if os.geteuid() != 0:
+            self.skipTest("only a superuser can give files away")
+        for path in self.top.rglob("*"):
+            os.chown(path, 12345, 12345)
+        self.assertEqual([self.counted() for _ in range(2)], [(2, f"released {GENERAL}")] * 2)
+        self.assertFalse(self.kept.parent.exists())
+
+    def test_a_tree_that_is_read_only(self):
+        """As on a file system that is mounted so."""
+        if os.geteuid() == 0:
+            # A file stands where the folder would have to be.
+            write(self.kept.parent, "")
+        else:
+            self.crate.chmod(0o555)
+            self.addCleanup(self.crate.chmod, 0o755)
+        for _ in range(2):
+            self.assertEqual(self.counted(), (2, f"released {GENERAL}"))
+
+    def test_a_tool_that_fails(self):
+        """The release isn't blamed, and no program is started."""
+        self.cpuinfo.write_text(processors(V2_FLAGS))
+        for is_kept in (False, True):
+            for tool in TOOLS:
+                if is_kept:
+                    self.keeps()
+                    os.utime(self.crate / "src/main.rt")
+                there = (self.folder / "tools" / tool)
+                before = there.read_text() if there.exists() else None
+                write(there, "#!/bin/sh\necho memory lacks >&2\nexit 127\n", 0o755)
+                ended = self.run_in(self.folder, self.top / "shardscrub")
+                with self.subTest(tool):
+                    self.assertEqual((ended.stdout, ended.returncode), ("", 70))
+                    self.assertEqual(ended.stderr, "memory lacks\nshardscrub: the program can't be found, as said above\n")
+                there.unlink() if before is None else write(there, before, 0o755)
+
+    def test_little_memory(self):
+        """It says that memory lacks, unless the shell itself can't be started."""
+        self.cpuinfo.write_text(processors(V2_FLAGS))
+        said = set()
+        for most in range(2000, 20000, 1000):
+            ended = self.run_in(self.folder, "sh", "-c", 'ulimit -v "$0"; exec "$1"', str(most), self.top / "shardscrub")
+            out = f"shardscrub: out of memory before a program was started: the limit is {most} KiB (ulimit -v)\n"
+            is_started = ended.stdout.startswith("released")
+            with self.subTest(most):
+                self.assertNotIn("./build", ended.stderr)
+                self.assertTrue(is_started or ended.stderr.endswith(out) or ended.returncode in (127, -11), ended)
+            said |= {is_started, ended.stderr.endswith(out)}
+        self.assertEqual(said, {False, True})
 
 
 # What the programs ask of the processor, answered by one that has nothing.

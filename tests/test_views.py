@@ -6,15 +6,17 @@ import subprocess
 from collections import Counter
 
 from lib.cases import RoomCase
-from lib.disks import geometry
+from lib.disks import Disk, geometry, run, shard, uuid
 from lib.program import TOP, need
 from lib.schema import check_line
-from lib.summaries import examples, listed, made_up, summary_of
+from lib.summaries import examples, line_of, listed, made_up, summary_of
 
-FLEET, METRICS, ROW = TOP / "view/fleet.sql", TOP / "view/metrics", TOP / "view/row"
+METRICS, ROW = TOP / "view/metrics", TOP / "view/row"
 VERDICTS = {"sound": "0", "doubt": "1", "wrong": "2"}
 # Names of disks that need care in a label, in JSON, or as an argument.
 NAMES = ("sda", "a disk", 'say "a"', "back\\slash", "two\nlines", "\\n", '\\"', "%s%d", "&", "{disk=", "-v", "Größe", "'", "\t", "\\")
+# The numbers of a summary that the table of the disks has, in its order.
+NUMBERS = ("superblock_tie", "runs_lost", "shards", "shards_broken", "unreadable_pages", "candidate_bytes")
 # What the program's own line says if it doesn't find the sizes.
 NO_SIZES = "shardscrub: sizes not found: run shardscrub sizes"
 
@@ -291,7 +293,8 @@ class Fleet(RowCase):
         """The status and the error stream of making a database of these rows."""
         self.path = self.room / "fleet.db"
         self.path.unlink(missing_ok=True)
-        done = subprocess.run(["sqlite3", self.path, f".read {FLEET}"], input="".join(rows), capture_output=True, encoding="utf-8")
+        done = subprocess.run(["sqlite3", self.path, ".read view/fleet.sql"], cwd=TOP, input="".join(rows), capture_output=True,
+                              encoding="utf-8")
         return done.returncode, done.stderr
 
     def asked(self, question):
@@ -305,19 +308,50 @@ class Fleet(RowCase):
         rows = {}
         for name, summary in self.answers.items():
             generation = summary["superblock_generation"] if summary["superblocks"] != "0" else "null"
-            numbers = [int(summary[key]) for key in ("shards_broken", "unreadable_pages", "candidate_bytes")]
+            numbers = [int(summary[key]) for key in NUMBERS]
             is_known = has_verdict or summary["verdict"] == "wrong"
             rows[name] = (summary["verdict"] if is_known else None, generation, *numbers)
         return rows
 
     def check_disks(self, what, has_verdict):
-        found = self.asked("SELECT disk, verdict, generation, broken, unreadable, candidates FROM disks WHERE status < 2")
+        columns = "verdict, generation, tie, lost, shards, broken, unreadable, candidates"
+        found = self.asked(f"SELECT disk, {columns} FROM disks WHERE status < 2")
         wanted = self.wanted_disks(has_verdict)
         self.same(f"{what}: disks", sorted(name for name, *_ in found), sorted(wanted))
         for name, *numbers in found:
             self.same(f"{what}: {name}", tuple(numbers), wanted[name])
-        unanswered = self.asked("SELECT disk, status, verdict, generation, broken, unreadable, candidates FROM disks WHERE status > 1")
-        self.same(f"{what}: unanswered", sorted(unanswered), [("failing", 2) + (None,) * 5, ("missing", 3) + (None,) * 5])
+        unanswered = self.asked(f"SELECT disk, status, {columns} FROM disks WHERE status > 1")
+        self.same(f"{what}: unanswered", sorted(unanswered), [("failing", 2) + (None,) * 8, ("missing", 3) + (None,) * 8])
+        self.check_ranks(what, wanted)
+
+    def check_ranks(self, what, disks):
+        """The disks are in the order that READING gives."""
+        verdicts = ["wrong", "doubt", None, "sound"]
+
+        def order(name):
+            verdict, _, tie, lost, shards, broken, unreadable, _ = disks[name]
+            return verdicts.index(verdict), shards > 0, -tie, -lost, -broken, -unreadable, name
+
+        ranks = self.asked("SELECT rank, disk FROM worst ORDER BY rank")
+        self.same(f"{what}: ranks", ranks, list(enumerate(["failing", "missing", *sorted(disks, key=order)], 1)))
+
+    def test_disks_that_may_lack_shards_come_before_sound_ones(self):
+        """Those without a superblock, with a tie, with a lost run, and without a known shard; also by rows of scan."""
+        entry, tied, empty = shard(1), Disk(4, 3), Disk(4, 3)
+        run_of_tied = tied.chunk(2, 0, uuid(2), run((entry, [tied.chunk(1, 0, uuid(1), b"abc")])))
+        for page in (0, 2):
+            tied.superblock(page, 7, run_of_tied)
+        empty.superblock(0, 1)
+        lines = [line for line in self.lines if line.split("\t")[0] in ("one-shard", "lost-run", "no-superblock")]
+        for name, disk in (("tie", tied), ("without shards", empty)):
+            (self.room / name).write_bytes(disk.bytes)
+            lines.append(line_of(name, self.room / name, (disk.page, disk.pages, disk.extents)))
+        lines += [lines[0].replace("one-shard", f"a sound one {number}", 1) for number in range(3)]
+        for command in ("summary", "scan"):
+            self.same("status", self.made(*self.rows(command, lines)), (0, ""))
+            ranked = [name for name, in self.asked("SELECT disk FROM worst ORDER BY rank")]
+            sound = [*(f"a sound one {number}" for number in range(3)), "one-shard"]
+            self.same(command, ranked, ["no-superblock", "tie", "lost-run", "without shards", *sound])
 
     def test_rows_of_summary(self):
         self.same("status", self.made(*self.of["summary"], *self.of["reclaimable"]), (0, ""))
@@ -368,7 +402,7 @@ class Fleet(RowCase):
                  "two rows without an answer": '{"disk":"a","status":2,"text":""}\n' * 2,
                  "an answer with a status of none": summary.replace('"status":0', '"status":2'),
                  "no answer with a status of one": '{"disk":"a","status":0,"text":""}\n'}
-        for key in ("disk", "status", "text", "superblock_generation", "shards_broken", "unreadable_pages", "candidate_bytes"):
+        for key in ("disk", "status", "text", "superblock_generation", *NUMBERS):
             wrong[f"no {key}"] = json.dumps({name: value for name, value in json.loads(summary).items() if name != key}) + "\n"
         for what, rows in wrong.items():
             status, error = self.made(self.of["summary"][1], rows)

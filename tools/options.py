@@ -1,6 +1,7 @@
 #!/usr/bin/env python3
 """Makes what the documents say of commands, options and statuses from the tables in this file: in docs/shardscrub.1 the synopsis, the
-first sentence of each command, the options and the statuses 0 to 4; in docs/REPORT.md the tables of options and of the statuses 0 and 1.
+first sentence of each command, the options and the statuses 0 to 4; in docs/REPORT.md the tables of options and of the statuses 0 and 1;
+and the completions for three shells in release/completions/.
 The version, for the head of docs/shardscrub.1 and for README.md, is that of the newest entry of CHANGELOG.md.
 
 The program has its help in crates/scrub_args/src/command.rt. tests/test_help.py compares that help and the program's version with
@@ -10,9 +11,11 @@ import re
 import sys
 from typing import NamedTuple
 
+import completions
 from pages import TOP, run_tool
 
 MANUAL, REPORT, README, CHANGELOG = (TOP / name for name in ("docs/shardscrub.1", "docs/REPORT.md", "README.md", "CHANGELOG.md"))
+SHELLS = TOP / "release/completions"
 
 
 class Option(NamedTuple):
@@ -279,7 +282,7 @@ def replace_table(text, rows, faults, name):
 def made_manual(faults):
     text, name = MANUAL.read_text(encoding="utf-8"), "docs/shardscrub.1"
     number, day = version()
-    text = re.sub(r"^\.TH .*$", f'.TH SHARDSCRUB 1 {roff(day)} "shardscrub {number}" "User Commands"'.replace("\\", "\\\\"), text, count=1,
+    text = re.sub(r"^\.TH .*$", f'.TH SHARDSCRUB 1 {day} "shardscrub {number}" "User Commands"'.replace("\\", "\\\\"), text, count=1,
                   flags=re.M)
     text = replace(text, ".SH SYNOPSIS\n", ".SH DESCRIPTION\n", synopsis(), faults, name)
     text = replace(text, ".SH OPTIONS\n", '.SH "EXIT STATUS"\n', manual_options(), faults, name)
@@ -306,9 +309,18 @@ def made_readme(faults):
     return text
 
 
+def completed():
+    """What the completions are made from. Of a sentence with several parts they show the first."""
+    return [completions.Completed(name, plain(one.about), tuple(
+        completions.Taken(option, OPTIONS[option].value, plain(OPTIONS[option].help).partition(". ")[0], OPTIONS[option].is_repeated)
+        for option in options_of(one)), one.images, one.takes_pages) for name, one in COMMANDS.items()]
+
+
 def made():
     faults = []
-    return {MANUAL: made_manual(faults), REPORT: made_report(faults), README: made_readme(faults)}, faults
+    return {MANUAL: made_manual(faults), REPORT: made_report(faults), README: made_readme(faults),
+            SHELLS / "shardscrub.bash": completions.bash(completed()), SHELLS / "_shardscrub": completions.zsh(completed()),
+            SHELLS / "shardscrub.fish": completions.fish(completed())}, faults
 
 
 if __name__ == "__main__":

@@ -7,7 +7,7 @@ import shutil
 import time
 import unittest
 
-from lib.program import need
+from lib.program import absent, need
 
 try:
     from selenium import webdriver
@@ -24,10 +24,10 @@ def need_browser():
     """The path of Chromium. The test is skipped if it, its driver or Selenium isn't there."""
     found = next(filter(None, map(shutil.which, BROWSERS)), None)
     if found is None:
-        raise unittest.SkipTest("Chromium isn't there")
+        raise unittest.SkipTest(absent("chromium"))
     need("chromedriver")
     if webdriver is None:
-        raise unittest.SkipTest("Python's selenium isn't there")
+        raise unittest.SkipTest(absent("Python's selenium"))
     return found
 
 

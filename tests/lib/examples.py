@@ -3,9 +3,11 @@ example is a line in a block that begins with "$ ". The lines up to the next suc
 streams. `sh` runs the line.
 
 Some examples use files that earlier ones wrote. So an example that is run alone runs those before it, too. All run in a copy of the
-folders, whose ./shardscrub is a script of the test, and with a folder of their own in the place of /tmp.
+folders, whose ./shardscrub is a script of the test. Each has a shell of its own; what an example NAME=$(mktemp -d) sets stays set.
 """
+import os
 import re
+import shlex
 import shutil
 import subprocess
 import tempfile
@@ -16,7 +18,7 @@ from lib.program import TOP
 
 PAGES = {"Examples": "examples/README.md", "Readme": "README.md", "Reading": "docs/READING.md",
          "Reclaiming": "docs/RECLAIMING.md", "Manual": "docs/shardscrub.1"}
-TOOLS = {"jq": r"jq|rows?", **{tool: tool for tool in ("ddrescue", "man", "parallel", "python3", "sqlite3")}}
+TOOLS = {"jq": r"jq|rows?", **{tool: tool for tool in ("ddrescue", "parallel", "python3", "sqlite3")}}
 
 
 class Example(NamedTuple):
@@ -62,7 +64,7 @@ def all_examples():
 
 def starting(program):
     """A script that starts this program."""
-    return f'#!/bin/sh\nexec "{program}" "$@"\n'
+    return f'#!/bin/sh\nexec {shlex.quote(str(program))} "$@"\n'
 
 
 class Transcript:
@@ -79,32 +81,26 @@ class Transcript:
         """The tools that an example needs, and those of the examples that wrote its files."""
         command = self.examples[number].command
         found = {tool for tool, words in TOOLS.items() if re.search(rf"\b(?:{words})\b", command)}
-        for path in re.findall(r"/tmp/[\w./-]+", command):
+        for path in re.findall(r"\$files/[\w./-]+", command):
             writers = [earlier for earlier in range(number) if f">{path}" in self.examples[earlier].command]
             found |= self.tools(writers[-1]) if writers else set()
         return found
 
     def make_folders(self):
-        """Copies what the examples use, and makes the folder in the place of /tmp."""
+        """Copies what the examples use, and makes the folder for what they write."""
         self.folder = tempfile.TemporaryDirectory(prefix="shardscrub-examples-")
-        self.top, self.files = Path(self.folder.name, "top"), Path(self.folder.name, "tmp")
+        self.top, passing = Path(self.folder.name, "top"), Path(self.folder.name, "passing")
         self.top.mkdir()
-        self.files.mkdir()
+        passing.mkdir()
+        self.environment = os.environ | {"TMPDIR": str(passing)}
         for path in TOP.iterdir():
             if path.name in ("docs", "examples", "release", "view"):
                 shutil.copytree(path, self.top / path.name, symlinks=True)
             elif path.name not in (".git", "shardscrub"):
                 (self.top / path.name).symlink_to(path)
-        # An example takes a script out of a page.
-        for page in self.top.glob("docs/*.md"):
-            page.write_text(self.placed(page.read_text(encoding="utf-8")), encoding="utf-8")
         start = self.top / "shardscrub"
         start.write_text(self.script(), encoding="utf-8")
         start.chmod(0o755)
-
-    def placed(self, text):
-        """The text with another folder in the place of /tmp."""
-        return re.sub(r"/tmp\b", str(self.files), text)
 
     def up_to(self, number):
         """Runs all examples up to this one that haven't been run, and returns what it printed."""
@@ -116,8 +112,11 @@ class Transcript:
 
     def run(self, example):
         """What the command prints on both streams. It goes to a file, since a command may leave others behind that hold its output."""
+        if found := re.fullmatch(r"(\w+)=\$\(mktemp -d\)", example.command):
+            self.environment[found[1]] = tempfile.mkdtemp(dir=self.environment["TMPDIR"])
+            return ""
         with tempfile.TemporaryFile() as out:
-            subprocess.run(["sh", "-c", self.placed(example.command)], cwd=self.top, stdin=subprocess.DEVNULL, stdout=out,
+            subprocess.run(["sh", "-c", example.command], cwd=self.top, env=self.environment, stdin=subprocess.DEVNULL, stdout=out,
                            stderr=subprocess.STDOUT)
             out.seek(0)
             return out.read().decode("utf-8", "replace")

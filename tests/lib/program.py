@@ -22,6 +22,17 @@ V3_FLAGS = {"abm", "avx", "avx2", "bmi1", "bmi2", "f16c", "fma", "movbe", "xsave
 NAMED = "SHARDSCRUB_PROGRAM"
 # The status if there is no program of these sources, as ./shardscrub ends if the build fails.
 NO_PROGRAM = 70
+# The package of Debian that each tool is in.
+PACKAGES = {
+    "bash": "bash", "cc": "gcc", "chromedriver": "chromium-driver", "chromium": "chromium", "ddrescue": "gddrescue", "dpkg": "dpkg",
+    "dpkg-deb": "dpkg", "dpkg-parsechangelog": "dpkg-dev", "fish": "fish", "flock": "util-linux", "git": "git", "groff": "groff-base",
+    "jq": "jq", "losetup": "mount", "make": "make", "man": "man-db", "objdump": "binutils", "parallel": "parallel",
+    "promtool": "prometheus", "python3": "python3", "sqlite3": "sqlite3", "strace": "strace",
+    "systemd-analyze": "systemd", "zsh": "zsh",
+    "Python's jsonschema": "python3-jsonschema", "Python's selenium": "python3-selenium", "Python's yaml": "python3-yaml",
+}
+# Some tools are in folders that only a superuser's path has.
+os.environ["PATH"] = os.pathsep.join(dict.fromkeys([*os.get_exec_path(), "/usr/local/sbin", "/usr/sbin", "/sbin"]))
 
 
 @cache
@@ -64,7 +75,13 @@ def choose_program(parser, named):
     return program()
 
 
+def absent(tool):
+    """Why a test without its tool is skipped."""
+    return f"{tool} isn't there: install {PACKAGES[tool]}"
+
+
 def need(tool):
     """Skips the test that calls this if there is no such command."""
+    why = absent(tool)
     if shutil.which(tool) is None:
-        raise unittest.SkipTest(f"{tool} isn't there")
+        raise unittest.SkipTest(why)

@@ -3,7 +3,7 @@ import json
 import unittest
 from functools import cache
 
-from lib.program import TOP
+from lib.program import TOP, absent
 
 try:
     from jsonschema import Draft202012Validator
@@ -15,7 +15,7 @@ except ImportError:
 def validators():
     """The validators of a report, and of the rows of scan, reclaimable and summary."""
     if Draft202012Validator is None:
-        raise unittest.SkipTest("Python's jsonschema isn't there")
+        raise unittest.SkipTest(absent("Python's jsonschema"))
     schema = json.loads((TOP / "docs/report.schema.json").read_text(encoding="utf-8"))
     Draft202012Validator.check_schema(schema)
     rows = ({"$defs": schema["$defs"], "$ref": f"#/$defs/{name}"} for name in ("row", "reclaimableRow", "summaryRow"))
