@@ -6,7 +6,7 @@ use Rattle.scrub_disk.proofs.HeldBytes.{byte-unreadable}
 use Rattle.scrub_scan.specs.Extent.{HasGap}
 use Rattle.scrub_scan.proofs.BytesAt.{page_byte}
 use Rattle.scrub_scan.proofs.PlacePages.{page_rises, place_in_page}
-use Rattle.scrub_check.proofs.Filtered.{filtered_has, filtered_is}
+use Rattle.scrub_frame.proofs.Filtered.{filtered_has, filtered_is}
 use Rattle.scrub_check.proofs.Searches.{LiesBetween}
 
 none_is : {A : Type 0} (o : Option A) → is_none o ≡ true → o ≡ None

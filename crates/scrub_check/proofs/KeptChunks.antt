@@ -11,7 +11,7 @@ use Rattle.scrub_disk.specs.Image.{Image}
 use Rattle.scrub_frame.specs.declared.form.Form.{Form}
 use Rattle.scrub_frame.specs.declared.locator.Locator.{Locator}
 use Rattle.scrub_super.specs.Plan.{PlanValue, pointer_of}
-use Rattle.scrub_merge.proofs.Elements.{Contains-cases, Contains-behind}
+use Rattle.scrub_frame.proofs.Elements.{Contains-cases, Contains-behind}
 use Rattle.scrub_scan.specs.declared.item.Item.{Item}
 use Rattle.scrub_scan.specs.declared.item.Item.TheVariants.{Chunk, Pad, Torn, Noise, Lost}
 use Rattle.scrub_scan.specs.Extent.{Extent, extent_of, FrameAt}

@@ -19,7 +19,6 @@ pub mod ChunkForms
 pub mod Rising
 pub mod KeptChunks
 pub mod OneList
-pub mod Filtered
 pub mod Starts
 pub mod Gaps
 pub mod PlannedFindings
@@ -35,3 +34,5 @@ pub mod RunsApart
 pub mod NamedLists
 pub mod Examples
 pub mod Rebuilt
+pub mod StatusThere
+pub mod ListsThere

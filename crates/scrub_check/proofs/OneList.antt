@@ -10,7 +10,7 @@ use Rattle.std.proofs.lemmas.List.Sorted.{Contains-permutation, IsPermutation-sy
 use Rattle.std.proofs.lemmas.Map.Keys.{sorted_head, sorted_tail}
 use Rattle.scrub_super.specs.Plan.{PlanValue}
 use Rattle.scrub_run.specs.declared.shard_id.ShardId.{ShardId}
-use Rattle.scrub_merge.proofs.Elements.{Contains-cases}
+use Rattle.scrub_frame.proofs.Elements.{Contains-cases}
 use Rattle.scrub_merge.proofs.Identifiers.{id_cmp_total}
 use Rattle.scrub_scan.specs.Scanned.{Scanned}
 use Rattle.scrub_check.specs.declared.lists.place.SharedPlace.{SharedPlace}

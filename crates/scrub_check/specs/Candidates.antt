@@ -14,11 +14,15 @@ use Rattle.scrub_check.specs.declared.statuses.checked.Checked.{Checked}
 use Rattle.scrub_check.specs.Checked.{is_sound}
 use Rattle.scrub_check.specs.Live.{live_chunks, live_bytes, size_of}
 
+-- where chunks to keep begin
+abbrev pub starts_of : List KeptChunk → List ℕ
+starts_of chunks = map (λ k. k.start) chunks
+
 -- an extent to reclaim, how many bytes that frees, and its live chunks, which are kept, ascending
 pub record CandidateValue : Type 0 where
   pub extent : ℕ
   pub free : ℕ
-  pub keep : List KeptChunk
+  pub chunks : List KeptChunk
 
 -- a chunk to keep: where it begins, and how many bytes its frame takes
 abbrev pub kept_of : Item → KeptChunk
@@ -43,7 +47,7 @@ is_reclaimable g checked f = nat_lt 0 f.pointer && is_readable g f && has_sound_
 
 -- an extent as a candidate
 abbrev pub candidate_of : List Checked → Scanned → CandidateValue
-candidate_of checked f = record { extent = f.extent; free = f.pointer - live_bytes checked f; keep = map kept_of (live_chunks checked f) }
+candidate_of checked f = record { extent = f.extent; free = f.pointer - live_bytes checked f; chunks = map kept_of (live_chunks checked f) }
 
 -- the order of candidates: by what they free, falling, and then by number
 abbrev pub by_free : CandidateValue → CandidateValue → Ordering

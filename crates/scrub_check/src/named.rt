@@ -1,6 +1,6 @@
 //! The locators that a disk names, and who names them. See `status` for their statuses.
 
-ghost use Rattle.std.specs.Prelude.{◌≡◌, ◌<◌, ◌^◌, ◌++◌, IfOk, OnOk, length};
+ghost use Rattle.std.specs.Prelude.{◌≡◌, ◌<◌, ◌^◌, ◌++◌, ℕ, IfOk, OnErr, OnOk, length, take};
 ghost use Rattle.scrub_check.specs.Named.{named_by_runs, named_by_shard, named_locators};
 
 use scrub_disk::OutOfMemory;
@@ -43,9 +43,12 @@ pub(crate) fn name_runs(alloc: Global, runs: &[Locator]) -> Result<Vec<Named>, O
     Ok(named)
 }
 
-/// Appends the locators of a shard, in the binding's order.
+/// Appends the locators of a shard, in the binding's order. If memory lacks, only the first ones of them are
+/// appended.
 pub fn name_shard(named: &mut Vec<Named>, binding: &Binding) -> Result<(), OutOfMemory>
-    ensures { OnOk result (named.new.items ≡ named.old.items ++ named_by_shard binding.now) }
+    ensures appended { OnOk result (named.new.items ≡ named.old.items ++ named_by_shard binding.now) }
+    ensures refused { OnErr result ((count : ℕ) ×
+        (named.new.items ≡ named.old.items ++ take count (named_by_shard binding.now))) }
 {
     for locator in binding.locators() {
         named.push(Named {

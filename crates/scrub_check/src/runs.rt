@@ -235,3 +235,8 @@ pub fn runs_and_states_apart()
     ensures all { (image : Image) (plan : PlanValue) (read : ReadRunsValue) →
         AreReadRuns image plan read ↔ AreReadApart image plan read }
 {}
+
+/// A law: of the runs that a plan names each was read or is lost.
+pub fn each_plan_has_read_runs()
+    ensures { (image : Image) (plan : PlanValue) → (read : ReadRunsValue) × AreReadRuns image plan read }
+{}

@@ -87,7 +87,7 @@ struct Listed {
     orphans: &'static [u32],
     twins: &'static [u32],
     shared: &'static [SharedPlace],
-    keep: Option<&'static [KeptChunk]>,
+    keep: Option<(&'static [u32], &'static [KeptChunk])>,
 }
 
 /// The second `abc` of an extent.
@@ -128,7 +128,7 @@ const LISTED: [Listed; 5] = [
         orphans: &[0],
         twins: &[],
         shared: &[],
-        keep: Some(&[]),
+        keep: Some((&[], &[])),
     },
     // Half of extent 1 is live.
     Listed {
@@ -138,7 +138,7 @@ const LISTED: [Listed; 5] = [
         orphans: &[0],
         twins: &[0, 41],
         shared: &[],
-        keep: Some(&[SECOND]),
+        keep: Some((&[41], &[SECOND])),
     },
     Listed {
         worked: Worked::TwinsAndShared,
@@ -151,7 +151,7 @@ const LISTED: [Listed; 5] = [
             offset: 41,
             count: 2,
         }],
-        keep: Some(&[SECOND]),
+        keep: Some((&[41], &[SECOND])),
     },
 ];
 
@@ -169,18 +169,21 @@ fn check_places(rt: &impl Abort, places: &[Place], offsets: &[u32]) {
     }
 }
 
-/// Checks that there is one candidate: its extent, the bytes that it frees, and the chunks that it keeps.
+/// Checks that there is one candidate: its extent, the bytes that it frees, the chunks that it keeps and where they
+/// begin.
 fn check_candidate(
     rt: &impl Abort,
     candidates: &[Candidate],
     extent: u32,
     free: u32,
-    keep: &[KeptChunk],
+    keep: &[u32],
+    chunks: &[KeptChunk],
 ) {
     assert!(rt; candidates.len() == 1);
     let first = &candidates[0];
     same(rt, (first.extent(), first.free()), (extent, free));
     same(rt, first.keep(), keep);
+    same(rt, first.chunks(), chunks);
 }
 
 /// Checks the lists of a disk.
@@ -196,7 +199,7 @@ fn check_lists(
     check_places(rt, &found.twins, wanted.twins);
     same(rt, shared(alloc, &found.checked)?.as_slice(), wanted.shared);
     match wanted.keep {
-        Some(keep) => check_candidate(rt, &found.candidates, 1, 41, keep),
+        Some((keep, chunks)) => check_candidate(rt, &found.candidates, 1, 41, keep, chunks),
         None => assert!(rt; found.candidates.is_empty()),
     }
     assert!(rt; found.candidates_in_doubt.is_empty());

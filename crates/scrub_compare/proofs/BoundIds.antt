@@ -12,7 +12,7 @@ use Rattle.scrub_run.specs.declared.shard_id.ShardId.{ShardId}
 use Rattle.scrub_run.specs.Entry.{IsBelow}
 use Rattle.scrub_merge.specs.Binding.{BindingValue}
 use Rattle.scrub_merge.specs.steps.Cursors.{id_cmp}
-use Rattle.scrub_merge.proofs.Elements.{Contains-cases}
+use Rattle.scrub_frame.proofs.Elements.{Contains-cases}
 use Rattle.scrub_merge.proofs.Identifiers.{id_cmp_total}
 use Rattle.scrub_check.specs.steps.Distinct.{AreDistinct}
 use Rattle.scrub_compare.specs.Compare.{AreBoundIds}

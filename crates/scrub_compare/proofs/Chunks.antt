@@ -41,9 +41,9 @@ use Rattle.scrub_super.specs.Plan.{IsPlanOf}
 use Rattle.scrub_super.proofs.Laws.{one_choice_lem}
 use Rattle.scrub_scan.specs.declared.findings.Findings.{Findings}
 use Rattle.scrub_scan.specs.Findings.{IsFindings}
-use Rattle.scrub_merge.proofs.Elements.{Contains-behind, Contains-cases}
+use Rattle.scrub_frame.proofs.Elements.{Contains-behind, Contains-cases}
 use Rattle.scrub_check.specs.Candidates.{has_sound_alone}
-use Rattle.scrub_check.proofs.Filtered.{filtered_has}
+use Rattle.scrub_frame.proofs.Filtered.{filtered_has}
 use Rattle.scrub_report.proofs.OneReader.{one_plan, one_scanned}
 use Rattle.scrub_reclaim.specs.Reset.{IsPlanIn}
 use Rattle.scrub_reclaim.specs.Room.{next_place}

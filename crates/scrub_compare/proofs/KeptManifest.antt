@@ -16,7 +16,7 @@ use Rattle.scrub_super.proofs.Laws.{one_choice_lem}
 use Rattle.scrub_run.specs.declared.shard_id.ShardId.{ShardId}
 use Rattle.scrub_run.specs.Entry.{IsBelow}
 use Rattle.scrub_merge.specs.Binding.{BindingValue}
-use Rattle.scrub_merge.proofs.Elements.{Contains-behind, Contains-cases}
+use Rattle.scrub_frame.proofs.Elements.{Contains-behind, Contains-cases}
 use Rattle.scrub_check.specs.declared.statuses.checked.Checked.{Checked}
 use Rattle.scrub_check.specs.Checked.{named_of}
 use Rattle.scrub_check.specs.Named.{named_by_shard}

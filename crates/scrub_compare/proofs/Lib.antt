@@ -19,3 +19,4 @@ pub mod Overwritten
 pub mod Chunks
 pub mod Chained
 pub mod Undone
+pub mod Existing

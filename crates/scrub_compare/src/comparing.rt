@@ -267,3 +267,10 @@ pub fn one_comparison()
     ensures safe { (resets : List ℕ) (before after : Image) (a b : Bool) →
         IsSafety resets before after a → IsSafety resets before after b → a ≡ b }
 {}
+
+/// A law: each two images have a text of such lines, for each list of extents to be reset, and a verdict
+/// whether it is safe. With `one_comparison`, they have exactly one of each.
+pub fn each_pair_has_a_comparison()
+    ensures text { (resets : List ℕ) (before after : Image) → (text : List ℕ) × IsComparison resets before after text }
+    ensures safe { (resets : List ℕ) (before after : Image) → (safe : Bool) × IsSafety resets before after safe }
+{}

@@ -17,4 +17,4 @@ mod rooms;
 mod rows;
 pub mod undoing;
 
-pub use comparing::{compare, one_comparison};
+pub use comparing::{compare, each_pair_has_a_comparison, one_comparison};

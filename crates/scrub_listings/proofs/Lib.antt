@@ -12,3 +12,5 @@ pub mod SizesLists
 pub mod Summaries
 pub mod SummaryLines
 pub mod SummaryChunks
+pub mod Existing
+pub mod SizesThere

@@ -223,7 +223,7 @@ apart_in bytes lost r l f run same =
     (left_there bytes lost (r.offset + 0) _ (f.1.stands 0 (omega (arith, some_record r.geometry f.0)))).0
     (let block : (r.offset + 0) / 512 ≡ run.0 = omega (arith, same, run.3) in ap (λ k. get_or lost k false) block ∙ run.2.all run.0 (omega arith) run.2.some)
 
-can_merge : (bytes : List ℕ) (lost : List Bool) (records : List FoundRecord) (ranges : List LostBytes) →
+pub can_merge : (bytes : List ℕ) (lost : List Bool) (records : List FoundRecord) (ranges : List LostBytes) →
     AreFoundByOwnSizes bytes lost records ranges → CanMerge records ranges
 can_merge bytes lost records ranges h = record {
   records_rise = h.records_are.rising;
@@ -231,7 +231,7 @@ can_merge bytes lost records ranges h = record {
   apart = λ r l c d e. apart_in bytes lost r l ((h.records_are.exact r).0 c) ((h.ranges_are.exact l).0 d) e;
 }
 
-in_order : (bytes : List ℕ) (lost : List Bool) (records : List FoundRecord) (ranges : List LostBytes) (lines : List SizesLine) →
+pub in_order : (bytes : List ℕ) (lost : List Bool) (records : List FoundRecord) (ranges : List LostBytes) (lines : List SizesLine) →
     AreFoundByOwnSizes bytes lost records ranges →
     AreInOrder records ranges lines → AreSizesInOrder bytes lost lines
 in_order bytes lost records ranges lines h o = record {
@@ -334,7 +334,7 @@ empty_list : {X : Type 0} (xs : List X) → ((x : X) → Contains xs x → ⊥) 
 empty_list [] none = refl
 empty_list (x ∷ xs) none = absurd (none x (0, omega arith, refl))
 
-clean_front : (bytes : List ℕ) (lost : List Bool) (records : List FoundRecord) (ranges : List LostBytes) →
+pub clean_front : (bytes : List ℕ) (lost : List Bool) (records : List FoundRecord) (ranges : List LostBytes) →
     AreFoundByOwnSizes bytes lost records ranges →
     AreCleanLists records ranges ↔ IsCleanFront bytes lost
 clean_front bytes lost records ranges h = (
@@ -442,13 +442,6 @@ one_text bytes lost a b x y =
         (line : SizesLine) → Contains xs line → Contains ys line
     there xs ys h k (Record r) c = (k.records r).1 ((h.records r).0 c)
     there xs ys h k (Lost l) c = (k.ranges l).1 ((h.ranges l).0 c)
-
-pub one_verdict : (bytes : List ℕ) (lost : List Bool) (a b : Bool) → IsTrue a ↔ IsCleanFront bytes lost →
-    IsTrue b ↔ IsCleanFront bytes lost → a ≡ b
-one_verdict bytes lost true true x y = refl
-one_verdict bytes lost false false x y = refl
-one_verdict bytes lost true false x y = sym (y.1 (x.0 refl))
-one_verdict bytes lost false true x y = x.1 (y.0 refl)
 
 -- a record that is found if nothing is lost is found in the same bytes if nothing else is lost
 moved_record : (bytes others : List ℕ) (lost gone : List Bool) (r : FoundRecord) → bytes ≡ others →

@@ -176,7 +176,7 @@ abbrev pub candidate_numbers : List CandidateValue → List NamedNumber
 candidate_numbers candidates =
     (codes "candidates", length candidates) ∷
     (codes "candidate_bytes", sum_by (λ a. a.free) candidates) ∷
-    (codes "chunks_to_move", sum_by (λ a. length a.keep) candidates) ∷ []
+    (codes "chunks_to_move", sum_by (λ a. length a.chunks) candidates) ∷ []
 
 -- all numbers, by the pages of extent 0, what was found, and how many index runs are lost
 abbrev pub numbers_by : List SuperblockPage → Scrubbed → ℕ → List NamedNumber

@@ -8,8 +8,14 @@ pub mod sizes_listing;
 pub mod summary;
 pub mod superblocks;
 
-pub use listing::{Listing, list_locators, one_locator_listing};
-pub use manifest::{list_manifest, one_manifest, one_manifest_holds_the_same};
-pub use sizes_listing::{find_sizes, list_sizes, one_size, one_sizes_listing};
-pub use summary::{list_summary, one_summary};
-pub use superblocks::{list_superblocks, one_superblock_listing};
+pub use listing::{Listing, each_image_has_a_locator_listing, list_locators, one_locator_listing};
+pub use manifest::{
+    each_image_has_a_manifest, list_manifest, one_manifest, one_manifest_holds_the_same,
+};
+pub use sizes_listing::{
+    each_front_has_a_sizes_listing, find_sizes, list_sizes, one_size, one_sizes_listing,
+};
+pub use summary::{each_image_has_a_summary, list_summary, one_summary};
+pub use superblocks::{
+    each_image_has_a_superblock_listing, list_superblocks, one_superblock_listing,
+};

@@ -190,3 +190,9 @@ pub fn list_locators<D: PageSource, G: Gate, R: Threads + Wait + Sync>(
 pub fn one_locator_listing()
     ensures { (image : Image) (a b : List ℕ) → AreLocatorLines image a → AreLocatorLines image b → a ≡ b }
 {}
+
+/// A law: each image has a text of the lines of its named locators. With `one_locator_listing`, it has exactly
+/// one.
+pub fn each_image_has_a_locator_listing()
+    ensures { (image : Image) → (text : List ℕ) × AreLocatorLines image text }
+{}

@@ -373,3 +373,10 @@ pub fn one_manifest_holds_the_same()
         (x : IsManifestBut resets image text) (y : IsManifestBut others other text) →
         HoldsBytes image → HoldsBytes other → all_traits x.found ≡ all_traits y.found }
 {}
+
+/// A law: each image has a manifest, for each list of extents to be reset, and a verdict whether anything is
+/// missing. With `one_manifest`, it has exactly one.
+pub fn each_image_has_a_manifest()
+    ensures text { (resets : List ℕ) (image : Image) → (text : List ℕ) × IsManifestBut resets image text }
+    ensures whole { (resets : List ℕ) (image : Image) → (whole : Bool) × IsWholeBut resets image whole }
+{}

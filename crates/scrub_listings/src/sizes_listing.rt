@@ -1,7 +1,7 @@
 //! The superblock records of a raw image of any sizes, and what is lost of it, as lines.
 
 ghost use Rattle.std.specs.Prelude.{◌≡◌, ◌+◌, ◌-◌, ◌<◌, ◌≤◌, ◌↔◌, ◌^◌, ℕ, All, List, Bool, IfOk, IsTrue};
-ghost use Rattle.std.specs.Prelude.{MatchOption, Some};
+ghost use Rattle.std.specs.Prelude.{MatchOption, Option, Some};
 ghost use Rattle.scrub_disk.specs.Limits.{max_extent_bytes};
 ghost use Rattle.scrub_listings.specs.Sizes.{AreSizesLines, AreSizesOf, IsCleanFront, IsSizesListingOf};
 ghost use Rattle.scrub_disk.specs.declared.geometry.Geometry.{Geometry};
@@ -108,10 +108,20 @@ pub fn list_sizes<R: RawImage>(
     Ok(Listing { text, is_clean })
 }
 
-/// A law: for given bytes and lost blocks there is at most one listing, and one answer whether it is clean.
+/// A law: for given bytes and lost blocks there is at most one listing.
 pub fn one_sizes_listing()
-    ensures text { (bytes : List ℕ) (lost : List Bool) (a b : List ℕ) →
+    ensures { (bytes : List ℕ) (lost : List Bool) (a b : List ℕ) →
         AreSizesLines bytes lost a → AreSizesLines bytes lost b → a ≡ b }
-    ensures clean { (bytes : List ℕ) (lost : List Bool) (a b : Bool) →
-        (IsTrue a ↔ IsCleanFront bytes lost) → (IsTrue b ↔ IsCleanFront bytes lost) → a ≡ b }
+{}
+
+/// A law: for given bytes and lost blocks there is a listing, and with `one_sizes_listing` exactly one. It is
+/// decided whether it is clean. So raw bytes have a listing, and their sizes or none, whatever blocks lack and
+/// however many reads fail.
+pub fn each_front_has_a_sizes_listing()
+    ensures text { (bytes : List ℕ) (lost : List Bool) → (text : List ℕ) × AreSizesLines bytes lost text }
+    ensures clean { (bytes : List ℕ) (lost : List Bool) → (clean : Bool) × (IsTrue clean ↔ IsCleanFront bytes lost) }
+    ensures listing { (raw : Option (List ℕ)) (lacking : List ℕ) (failures : ℕ) →
+        (text : List ℕ) × (clean : Bool) × IsSizesListingOf raw lacking failures text clean }
+    ensures sizes { (raw : Option (List ℕ)) (lacking : List ℕ) (failures : ℕ) →
+        (found : Option Geometry) × AreSizesOf raw lacking failures found }
 {}

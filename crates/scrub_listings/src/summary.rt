@@ -306,11 +306,11 @@ fn freed_by(candidates: &[Candidate]) -> u128
 
 /// How many chunks must be moved before these extents are reclaimed.
 fn moved_for(candidates: &[Candidate]) -> u128
-    ensures { result ≡ sum_by (λ a. length a.keep) candidates.now }
+    ensures { result ≡ sum_by (λ a. length a.chunks) candidates.now }
 {
     let mut total = 0u128;
     for candidate in candidates {
-        total += candidate.keep().len() as u128;
+        total += candidate.chunks().len() as u128;
     }
     total
 }
@@ -633,4 +633,11 @@ pub fn one_summary()
         IsSummary last image b → a ≡ b }
     ensures sound { (last : Option ℕ) (image : Image) (a b : Bool) → IsSoundImage last image a →
         IsSoundImage last image b → a ≡ b }
+{}
+
+/// A law: each image has a summary, and a verdict whether it is sound, whichever generation was written last.
+/// With `one_summary`, it has exactly one of each.
+pub fn each_image_has_a_summary()
+    ensures text { (last : Option ℕ) (image : Image) → (text : List ℕ) × IsSummary last image text }
+    ensures sound { (last : Option ℕ) (image : Image) → (sound : Bool) × IsSoundImage last image sound }
 {}

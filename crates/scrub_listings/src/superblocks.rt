@@ -169,3 +169,10 @@ pub fn one_superblock_listing()
     ensures clean { (image : Image) (a b : Bool) → AreCleanSuperblocks image a → AreCleanSuperblocks image b →
         a ≡ b }
 {}
+
+/// A law: each image has a text of the lines of its superblocks, and a verdict whether they are clean. With
+/// `one_superblock_listing`, it has exactly one of each.
+pub fn each_image_has_a_superblock_listing()
+    ensures text { (image : Image) → (text : List ℕ) × AreSuperblockLines image text }
+    ensures clean { (image : Image) → (clean : Bool) × AreCleanSuperblocks image clean }
+{}

@@ -19,7 +19,7 @@ use Rattle.scrub_run.specs.declared.shard_id.ShardId.{ShardId}
 use Rattle.scrub_run.specs.Entry.{EntryValue, IsBelow}
 use Rattle.scrub_merge.specs.Binding.{Runs}
 use Rattle.scrub_merge.specs.steps.Cursors.{id_cmp, entry_at, ahead, first_of, Under, under_by, under_cmp, StandsFirst, of_run, IsHeapOver, IsHeapOf, IsHeapBut, IsLeast, IsFirstWith, AreEmpty}
-use Rattle.scrub_merge.proofs.Elements.{Contains-cases, Contains-behind}
+use Rattle.scrub_frame.proofs.Elements.{Contains-cases, Contains-behind}
 use Rattle.scrub_merge.proofs.Left.{first_at}
 use Rattle.scrub_merge.proofs.Moves.{one_on, first_elsewhere, first_moved}
 use Rattle.scrub_merge.proofs.Identifiers.{id_cmp_total, same_id, not_less}

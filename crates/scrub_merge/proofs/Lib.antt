@@ -1,6 +1,5 @@
--- Lemmas on elements of lists, identifiers, newest bindings and the shard map, what is left ahead of cursors, what is bound
+-- Lemmas on identifiers, newest bindings and the shard map, what is left ahead of cursors, what is bound
 -- as they move on, the move of one cursor, and heaps of the entries under cursors.
-pub mod Elements
 pub mod Identifiers
 pub mod Maps
 pub mod Left
@@ -8,3 +7,5 @@ pub mod NextBound
 pub mod Moves
 pub mod Heaps
 pub mod Parted
+pub mod SortedOnce
+pub mod MapsThere

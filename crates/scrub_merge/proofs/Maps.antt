@@ -14,7 +14,7 @@ use Rattle.scrub_run.specs.Entry.{EntryValue, IsBelow}
 use Rattle.scrub_merge.specs.Binding.{BindingValue, Runs, IsNewestBinding}
 use Rattle.scrub_merge.specs.ShardMap.{AreRuns, AreBindings, IsShardMap}
 use Rattle.scrub_merge.specs.steps.Cursors.{id_cmp, AreRising}
-use Rattle.scrub_merge.proofs.Elements.{Contains-cases, Contains-behind}
+use Rattle.scrub_frame.proofs.Elements.{Contains-cases, Contains-behind}
 use Rattle.scrub_merge.proofs.Identifiers.{id_cmp_total, itself, not_below_itself, same_entry}
 
 -- ---- newest bindings

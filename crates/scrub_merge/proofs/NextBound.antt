@@ -16,7 +16,7 @@ use Rattle.scrub_run.specs.Run.{RisesById}
 use Rattle.scrub_merge.specs.Binding.{BindingValue, Runs, IsEntryOf, LostBefore, IsNewestBinding}
 use Rattle.scrub_merge.specs.ShardMap.{IsShardMap}
 use Rattle.scrub_merge.specs.steps.Cursors.{id_cmp, has_locator, ahead, places_past, first_of, IsLeast, IsFirstWith, AreEmpty, AreRising, IsBound, Continues}
-use Rattle.scrub_merge.proofs.Elements.{Contains-cases, Contains-behind}
+use Rattle.scrub_frame.proofs.Elements.{Contains-cases, Contains-behind}
 use Rattle.scrub_merge.proofs.Identifiers.{id_cmp_total, same_id, itself, not_below_itself, not_less}
 use Rattle.scrub_merge.proofs.Maps.{one_newest}
 use Rattle.scrub_merge.proofs.Left.{without, all_without, first_is, first_entry, rising_left, left_behind}

@@ -19,7 +19,7 @@ use Rattle.scrub_merge.specs.Binding.{BindingValue, Runs, IsEntryOf, LostBefore,
 use Rattle.scrub_merge.specs.ShardMap.{AreBindings, IsShardMap}
 use Rattle.scrub_merge.specs.steps.Cursors.{id_cmp}
 use Rattle.scrub_merge.specs.steps.Parts.{is_before, kept}
-use Rattle.scrub_merge.proofs.Elements.{Contains-behind, Contains-cases, Contains-filter}
+use Rattle.scrub_frame.proofs.Elements.{Contains-behind, Contains-cases, Contains-filter}
 use Rattle.scrub_merge.proofs.Identifiers.{id_cmp_total, same_id, not_less}
 
 -- what passes a test is an element that does

@@ -9,6 +9,6 @@ mod part;
 pub mod shard_map;
 
 pub use binding::Binding;
-pub use merging::{merge, merge_by_threads, one_shard_map};
+pub use merging::{each_list_of_runs_has_a_shard_map, merge, merge_by_threads, one_shard_map};
 pub use scrub_run::OutOfMemory;
 pub use shard_map::ShardMap;

@@ -241,3 +241,8 @@ pub fn one_shard_map()
     ensures { (runs : Runs) (bindings others : List BindingValue) →
         AreRuns runs → IsShardMap runs bindings → IsShardMap runs others → bindings ≡ others }
 {}
+
+/// A law: index runs have a shard map. With `one_shard_map`, they have exactly one.
+pub fn each_list_of_runs_has_a_shard_map()
+    ensures { (runs : Runs) → AreRuns runs → (bindings : List BindingValue) × IsShardMap runs bindings }
+{}

@@ -8,7 +8,7 @@ use Rattle.scrub_disk.specs.Image.{Image}
 use Rattle.scrub_super.specs.declared.pages.SuperblockPage.{SuperblockPage}
 use Rattle.scrub_super.specs.Planned.{extents_in_use}
 use Rattle.scrub_super.proofs.PageLaws.{one_list_of_pages}
-use Rattle.scrub_merge.proofs.Elements.{Contains-cases, Contains-filter}
+use Rattle.scrub_frame.proofs.Elements.{Contains-cases, Contains-filter}
 use Rattle.scrub_check.specs.declared.lists.kept_chunk.KeptChunk.{KeptChunk}
 use Rattle.scrub_check.specs.declared.statuses.checked.Checked.{Checked}
 use Rattle.scrub_check.specs.declared.runs.RunState.{RunState}
@@ -125,8 +125,8 @@ moved : (checked : List Checked) (a : CandidateValue) (c : Checked) → Contains
 moved checked a c there same k = record {
   sound = k.sound;
   kept = k.kept;
-  line = subst (λ (cs : List Checked). Contains cs c) (flat_map-map (pointing_to checked a.extent) (λ (chunk : KeptChunk). chunk.start) a.keep)
-      (among_parts (pointing_to checked a.extent) (map (λ chunk. chunk.start) a.keep) c.locator.offset c k.kept
+  line = subst (λ (cs : List Checked). Contains cs c) (flat_map-map (pointing_to checked a.extent) (λ (chunk : KeptChunk). chunk.start) a.chunks)
+      (among_parts (pointing_to checked a.extent) (map (λ chunk. chunk.start) a.chunks) c.locator.offset c k.kept
       (Contains-filter (points_to a.extent c.locator.offset) checked c (own_place c a.extent same) there));
 }
 

@@ -20,3 +20,4 @@ pub mod CopiedExtents
 pub mod CopyLaw
 pub mod RoomLines
 pub mod SoundDisks
+pub mod Existing

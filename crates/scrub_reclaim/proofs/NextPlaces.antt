@@ -11,7 +11,7 @@ use Rattle.scrub_frame.specs.declared.form.Form.{Form}
 use Rattle.scrub_frame.specs.declared.form.Form.TheVariants.{Plain, Sealed}
 use Rattle.scrub_frame.specs.Frame.{frame_overhead}
 use Rattle.scrub_frame.proofs.Frames.{length-frame}
-use Rattle.scrub_merge.proofs.Elements.{Contains-behind, Contains-cases}
+use Rattle.scrub_frame.proofs.Elements.{Contains-behind, Contains-cases}
 use Rattle.scrub_scan.specs.declared.item.Item.{Item}
 use Rattle.scrub_scan.specs.declared.item.Item.TheVariants.{Chunk, Pad, Torn, Noise, Lost}
 use Rattle.scrub_scan.specs.Extent.{Extent, FrameAt, NoFrameAt, bound}

@@ -17,7 +17,7 @@ use Rattle.scrub_frame.specs.declared.form.Form.{Form}
 use Rattle.scrub_frame.specs.Frame.{frame, frame_overhead}
 use Rattle.scrub_frame.specs.declared.locator.Locator.{Locator}
 use Rattle.scrub_super.specs.declared.pages.SuperblockPage.{SuperblockPage}
-use Rattle.scrub_merge.proofs.Elements.{Contains-behind, Contains-cases, Contains-filter}
+use Rattle.scrub_frame.proofs.Elements.{Contains-behind, Contains-cases, Contains-filter}
 use Rattle.scrub_scan.specs.declared.item.Item.{Item}
 use Rattle.scrub_scan.specs.declared.item.Item.TheVariants.{Chunk, Pad, Torn, Noise, Lost}
 use Rattle.scrub_scan.specs.declared.standing.Standing.{Standing}

@@ -17,7 +17,7 @@ use Rattle.scrub_scan.specs.AllFindings.{entry_of, extent_numbers}
 use Rattle.scrub_scan.specs.Item.{start_of}
 use Rattle.scrub_scan.specs.Scanned.{Scanned}
 use Rattle.scrub_merge.specs.Binding.{BindingValue}
-use Rattle.scrub_merge.proofs.Elements.{Contains-filter}
+use Rattle.scrub_frame.proofs.Elements.{Contains-filter}
 use Rattle.scrub_check.specs.declared.statuses.checked.Checked.{Checked}
 use Rattle.scrub_check.specs.declared.statuses.status.Status.{Status}
 use Rattle.scrub_check.specs.declared.statuses.status.Status.TheVariants.{OutOfRange, Retired, PastPointer, Unreadable, NoFrame, WrongUuid, WrongLength, WrongDigest, Hidden, Sound}

@@ -20,7 +20,7 @@ use Rattle.scrub_super.specs.declared.pages.SuperblockPage.{SuperblockPage}
 use Rattle.scrub_super.specs.declared.pages.SuperblockPage.TheVariants.{Lost, Record, Damaged, Stray, Held}
 use Rattle.scrub_scan.specs.Scanned.{Scanned}
 use Rattle.scrub_merge.specs.Binding.{Runs}
-use Rattle.scrub_merge.proofs.Elements.{Contains-filter}
+use Rattle.scrub_frame.proofs.Elements.{Contains-filter}
 use Rattle.scrub_run.specs.Entry.{EntryValue}
 use Rattle.scrub_check.specs.declared.runs.RunState.{RunState}
 use Rattle.scrub_check.specs.declared.runs.RunState.TheVariants.{Read, BadChunk, NotARun}

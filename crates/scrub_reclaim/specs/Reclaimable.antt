@@ -11,7 +11,7 @@ use Rattle.scrub_check.specs.declared.lists.kept_chunk.KeptChunk.{KeptChunk}
 use Rattle.scrub_check.specs.declared.statuses.checked.Checked.{Checked}
 use Rattle.scrub_check.specs.declared.statuses.status.Status.TheVariants.{Sound}
 use Rattle.scrub_scan.specs.declared.standing.Standing.{Standing}
-use Rattle.scrub_check.specs.Candidates.{CandidateValue}
+use Rattle.scrub_check.specs.Candidates.{CandidateValue, starts_of}
 use Rattle.scrub_check.specs.Live.{has_sound_at}
 use Rattle.scrub_check.specs.Spares.{spares_of}
 use Rattle.scrub_report.specs.declared.parts.Parts.{Parts}
@@ -49,7 +49,7 @@ pointing_to checked e p = filter (points_to e p) checked
 
 -- the named locators that point to the chunks that a candidate keeps, by ascending chunk
 abbrev pub moves : List Checked → CandidateValue → List Checked
-moves checked a = flat_map (λ k. pointing_to checked a.extent k.start) a.keep
+moves checked a = flat_map (λ k. pointing_to checked a.extent k.start) a.chunks
 
 -- the line of a move of a frame of so many bytes: `move EXTENT OFFSET LENGTH UUID OWNER BYTES` and a line feed
 abbrev pub move_line : ℕ → Checked → List ℕ
@@ -69,7 +69,7 @@ reclaim_line a = freed_text a.extent a.free ++ 10 ∷ []
 
 -- a candidate's line and those of its moves, by ascending chunk
 abbrev pub candidate_lines : List Checked → CandidateValue → List ℕ
-candidate_lines checked a = reclaim_line a ++ flat_map (kept_lines checked a.extent) a.keep
+candidate_lines checked a = reclaim_line a ++ flat_map (kept_lines checked a.extent) a.chunks
 
 -- the lines of some candidates and their moves, in their order
 abbrev pub all_candidate_lines : List Checked → List CandidateValue → List ℕ
@@ -142,7 +142,7 @@ pub record AreOfCandidates (image : Image) (accepted : Acceptance) (report text 
 -- a named locator is sound, points to a chunk that a candidate keeps, and has a line among its moves
 pub record IsMoved (checked : List Checked) (a : CandidateValue) (c : Checked) : Type 0 where
   pub sound : c.status ≡ Sound
-  pub kept : Contains (map (λ k. k.start) a.keep) c.locator.offset
+  pub kept : Contains (starts_of a.chunks) c.locator.offset
   pub line : Contains (moves checked a) c
 
 -- each named locator into one of these extents is sound, points to a chunk to keep, and has a line among the moves

@@ -18,9 +18,9 @@ pub use copying::a_copy_loses_nothing;
 pub use doubts::Acceptance;
 pub use page_ranges::neighbouring_pages_are_joined;
 pub use reclaiming::{
-    a_line_shows_room, a_reset_loses_nothing, list_reclaimable, listed_by_last,
-    no_remains_are_taken, no_spare_is_taken, one_reclaim_listing, reclaimed_are_candidates,
-    reclaiming_is_safe,
+    a_line_shows_room, a_reset_loses_nothing, each_image_has_a_reclaim_listing, list_reclaimable,
+    listed_by_last, no_remains_are_taken, no_spare_is_taken, one_reclaim_listing,
+    reclaimed_are_candidates, reclaiming_is_safe,
 };
 pub use resetting::a_reset_is_foreseen;
 pub use sound_disks::a_sound_disk_is_all_right;

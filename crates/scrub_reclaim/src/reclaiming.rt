@@ -114,7 +114,7 @@ fn append_candidate(
         OnOk result (string_bytes text.new ≡ string_bytes text.old ++ candidate_lines checked candidate.now) }
 {
     append_reclaim(text, candidate)?;
-    append_kept(alloc, text, sorted, candidate.extent(), candidate.keep())
+    append_kept(alloc, text, sorted, candidate.extent(), candidate.chunks())
 }
 
 /// Appends the lines of candidates, in their order. The named locators are sorted once for all of them.
@@ -312,9 +312,16 @@ pub fn a_reset_loses_nothing()
         IsReclaimed accepted extents before after → IsIndex before a → IsIndex after b → a ≡ b }
 {}
 
-/// A law: an extent that a chunk can be put into has room at the place of its line.
+/// A law: an extent that a chunk can be put into has room from its next place on.
 pub fn a_line_shows_room()
     ensures { (image : Image) (found : Scrubbed) → IsScrubbed image found →
         All (λ f. has_room found.plan.geometry found.checked f ≡ true →
         IsRoom image f.extent f.pointer (place_in found.plan.geometry f)) found.all }
+{}
+
+/// A law: each image has a text of the lines of what can be reclaimed, and a verdict whether it is clear,
+/// whatever is accepted. With `one_reclaim_listing`, it has exactly one of each.
+pub fn each_image_has_a_reclaim_listing()
+    ensures text { (image : Image) (accepted : Acceptance) → (text : List ℕ) × AreReclaimLines image accepted text }
+    ensures clear { (image : Image) (accepted : Acceptance) → (clear : Bool) × IsClear image accepted clear }
 {}

@@ -86,7 +86,12 @@ fn abc_place(offset: u32) -> Place {
 /// Whether the extent that is half live is the one candidate.
 fn is_half_live(candidates: &[Candidate]) -> bool {
     match candidates {
-        [one] => one.extent() == 1 && one.free() == 41 && one.keep() == [KEPT].as_slice(),
+        [one] => {
+            one.extent() == 1
+                && one.free() == 41
+                && one.keep() == [KEPT.start].as_slice()
+                && one.chunks() == [KEPT].as_slice()
+        }
         _ => false,
     }
 }

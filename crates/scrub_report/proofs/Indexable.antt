@@ -30,7 +30,7 @@ use Rattle.scrub_run.specs.Entry.{EntryValue, entry_bytes, IsBelow, IsEntry}
 use Rattle.scrub_run.specs.Run.{AreEntries, IsRun, RisesById, run_body, run_bytes, run_magic}
 use Rattle.scrub_merge.specs.Binding.{BindingValue, Runs, IsNewestBinding}
 use Rattle.scrub_merge.specs.ShardMap.{IsShardMap}
-use Rattle.scrub_merge.proofs.Elements.{Contains-cases}
+use Rattle.scrub_frame.proofs.Elements.{Contains-cases}
 use Rattle.scrub_check.specs.Checked.{is_broken}
 use Rattle.scrub_check.specs.Runs.{AreReadRuns, ReadRunsValue}
 use Rattle.scrub_check.specs.Status.{NamesChunk}

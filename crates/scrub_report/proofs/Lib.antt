@@ -14,3 +14,4 @@ pub mod CleanLists
 pub mod RunRows
 pub mod KeptRuns
 pub mod ListedReport
+pub mod Existing

@@ -16,7 +16,7 @@ use Rattle.scrub_check.specs.declared.statuses.checked.Checked.{Checked}
 use Rattle.scrub_check.specs.declared.lists.place.Place.{Place}
 use Rattle.scrub_check.specs.declared.lists.place.SharedPlace.{SharedPlace}
 use Rattle.scrub_check.specs.declared.runs.RunState.{RunState}
-use Rattle.scrub_check.specs.Candidates.{CandidateValue}
+use Rattle.scrub_check.specs.Candidates.{CandidateValue, starts_of}
 use Rattle.scrub_check.specs.Checked.{dangling, hidden}
 use Rattle.scrub_check.specs.Chunks.{orphans, twins}
 use Rattle.scrub_check.specs.Live.{live_bytes}
@@ -114,7 +114,7 @@ shared_data s = with_keys ((codes "count", natural s.count) ∷ (codes "extent",
 
 -- one of `candidates`: an extent, how many bytes reclaiming it frees, and the starts of the chunks to move first
 abbrev pub candidate_data : CandidateValue → Data
-candidate_data c = with_keys ((codes "extent", natural c.extent) ∷ (codes "free", natural c.free) ∷ (codes "keep", numbers_data (map (λ k. k.start) c.keep)) ∷ [])
+candidate_data c = with_keys ((codes "extent", natural c.extent) ∷ (codes "free", natural c.free) ∷ (codes "keep", numbers_data (starts_of c.chunks)) ∷ [])
 
 -- the value of `extents`: each scanned extent, with its live bytes
 abbrev pub extents_data : List Checked → List Scanned → Data

@@ -2,6 +2,7 @@
 
 ghost use Rattle.std.specs.Prelude.{◌≡◌, ◌<◌, ◌≤◌, ◌^◌, ℕ, All, AllPairs, List, [], length, IfOk};
 ghost use Rattle.scrub_disk.specs.Image.{Image};
+ghost use Rattle.scrub_pool.specs.Takings.{TakingsValue};
 ghost use Rattle.scrub_run.specs.Entry.{IsBelow};
 ghost use Rattle.scrub_run.specs.Run.{IsRun, run_bytes};
 ghost use Rattle.scrub_merge.specs.Binding.{BindingValue};
@@ -12,7 +13,7 @@ ghost use Rattle.scrub_report.specs.Answer.{AreTakingsBy};
 ghost use Rattle.scrub_report.specs.Index.{IsIndex, index_entries};
 ghost use Rattle.scrub_report.specs.steps.Lists.{AreShardsOf, IsReportBy};
 ghost use Rattle.scrub_report.specs.Parts.{AreJudgedBut, IsScan};
-ghost use Rattle.scrub_report.specs.Scrubbed.{IsScrubbed, Scrubbed};
+ghost use Rattle.scrub_report.specs.Scrubbed.{IsScrubbed, IsScrubbedBut, Scrubbed};
 
 use crate::index::index_bytes;
 use crate::listed::{is_clean_listed, listed_of};
@@ -230,4 +231,15 @@ pub fn the_index_is_a_run()
 /// the same for each number of workers.
 pub fn one_report()
     ensures { (image : Image) (a b : AnswerValue) → IsScrubAnswer image a → IsScrubAnswer image b → a ≡ b }
+{}
+
+/// A law: each image has a report, an index and a verdict, and a list of planned extents; also all that a scan
+/// finds as if extents had been reset. With `one_report`, it has exactly one of each.
+pub fn each_image_has_a_report()
+    ensures report { (image : Image) → (a : AnswerValue) × IsScrubAnswer image a }
+    ensures index { (image : Image) → (bytes : List ℕ) × IsIndex image bytes }
+    ensures planned { (image : Image) → (planned : List ℕ) × ArePlannedExtents image planned }
+    ensures takings { (image : Image) (workers : ℕ) →
+        (takings : TakingsValue) × AreTakingsBy image workers takings }
+    ensures found { (resets : List ℕ) (image : Image) → (found : Scrubbed) × IsScrubbedBut resets image found }
 {}

@@ -1,12 +1,11 @@
 //! Chunks at their places, and the extents that can be reclaimed, as the report has them.
 
-ghost use Rattle.std.specs.Prelude.{◌≡◌, IfOk, map};
 ghost use Rattle.scrub_report.specs.Report.{candidate_data, place_data, shared_data};
 
 use crate::json_values::WriteJson;
 use crate::object::{Value, write_object};
 use json::Writer;
-use scrub_check::{Candidate, KeptChunk, Place, SharedPlace};
+use scrub_check::{Candidate, Place, SharedPlace};
 use scrub_disk::OutOfMemory;
 use std::alloc::Global;
 
@@ -45,26 +44,18 @@ impl WriteJson for SharedPlace {
     }
 }
 
-/// Where chunks to keep begin, in their order.
-fn starts_of(alloc: Global, keep: &[KeptChunk]) -> Result<Vec<u32>, OutOfMemory>
-    ensures { IfOk result (λ v. v.items ≡ map (λ k. k.start) keep.now) }
-{
-    keep.iter().map(|one| one.start).collect(alloc)
-}
-
 /// One of `candidates`.
 impl WriteJson for Candidate {
     ghost shown = { candidate_data };
 
     fn write_json(&self, alloc: Global, out: &mut Writer) -> Result<(), OutOfMemory> {
-        let starts = starts_of(alloc, self.keep())?;
         write_object(
             alloc,
             out,
             &[
                 ("extent", Value::Number(u64::from(self.extent()))),
                 ("free", Value::Number(u64::from(self.free()))),
-                ("keep", Value::Numbers(&starts)),
+                ("keep", Value::Numbers(self.keep())),
             ],
         )
     }

@@ -3,3 +3,4 @@ pub mod Order
 pub mod Entries
 pub mod Runs
 pub mod Examples
+pub mod RunsThere

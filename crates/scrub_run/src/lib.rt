@@ -12,7 +12,7 @@ pub mod writing;
 
 pub use entry::Entry;
 pub use reading::{RunFault, read_run};
-pub use run::{Run, one_run};
+pub use run::{Run, each_payload_is_a_run_or_none, one_run};
 pub use scrub_frame::OutOfMemory;
 pub use shard_id::ShardId;
 pub use writing::{RunWriter, write_run};

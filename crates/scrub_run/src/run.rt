@@ -1,7 +1,7 @@
 //! The entries of an index run, and the law that a payload is at most one run. For its bytes, see `reading`
 //! and `writing`.
 
-ghost use Rattle.std.specs.Prelude.{◌≡◌, List, ℕ};
+ghost use Rattle.std.specs.Prelude.{◌≡◌, ◌⊎◌, List, ℕ};
 
 use crate::entry::Entry;
 use std::marker::Model;
@@ -52,4 +52,10 @@ ghost use Rattle.scrub_run.specs.Run.{IsRun};
 pub fn one_run()
     ensures { (payload : List ℕ) (entries others : List EntryValue) →
         IsRun payload entries → IsRun payload others → entries ≡ others }
+{}
+
+/// A law: a payload is the run of some list of entries, or of none, and which of the two is decided.
+pub fn each_payload_is_a_run_or_none()
+    ensures { (payload : List ℕ) → ((entries : List EntryValue) × IsRun payload entries) ⊎
+        ((entries : List EntryValue) → ¬ IsRun payload entries) }
 {}

@@ -1,7 +1,9 @@
 -- Tilings: how one grows item by item, and that an extent has one.
-use Rattle.std.proofs.Common.{◌≡◌, ◌<◌, ◌≤◌, ◌+◌, ◌*◌, ◌/◌, ◌%◌, ℕ, List, [], ◌∷◌, ◌++◌, length, arith, refl, sym, ◌∙◌, ap, All, Some, None}
+use Rattle.std.proofs.Common.{◌≡◌, ◌<◌, ◌≤◌, ◌+◌, ◌*◌, ◌/◌, ◌%◌, ℕ, List, [], ◌∷◌, ◌++◌, length, arith, refl, sym, ◌∙◌, ap, inl, inr, All, Some, None, zero, suc, slice_get, ◌⊎◌}
 use Rattle.std.proofs.Math.Nat.{mod-lt}
+use Rattle.std.proofs.lemmas.Bool.{cases_lt}
 use Rattle.std.proofs.lemmas.Nat.{div-add-mod'}
+use Rattle.std.proofs.lemmas.Option.{none-some, same_Some}
 use Rattle.std.proofs.lemmas.List.Elements.{All-push, All-head, All-tail}
 use Rattle.scrub_frame.specs.declared.form.Form.{Form}
 use Rattle.scrub_frame.specs.Frame.{frame_overhead}
@@ -13,7 +15,7 @@ use Rattle.scrub_scan.specs.Extent.{Extent, bound, IsZero, IsUnreadableAt}
 use Rattle.scrub_scan.specs.steps.Gathering.{TiledTo}
 use Rattle.scrub_scan.specs.Item.{start_of, stop_of, IsItem, IsChunk, Fits, Spans}
 use Rattle.scrub_scan.specs.steps.OneFrame.{one_frame_at}
-use Rattle.scrub_scan.specs.Tiling.{Joins, IsTiling}
+use Rattle.scrub_scan.specs.Tiling.{Covers, IsInOneItem, IsTiling, Joins}
 
 pub Joins-push : (a : ℕ) (items : List Item) (item : Item) → Joins a (start_of item) items →
     Joins a (stop_of item) (items ++ item ∷ [])
@@ -130,3 +132,54 @@ one_tiling x is js pos h k = go 0 is js h.joined k.joined h.each k.each
         go (stop_of i) is js h.1 (rw (ap stop_of one) k.1) (All-tail (IsItem x) i is hs)
         (All-tail (IsItem x) j js ks) in
         ap (λ z. z ∷ is) one ∙ ap (λ zs. j ∷ zs) rest
+
+-- ---- each byte is in one item
+
+-- the items behind a place begin at or past it
+begins_behind : (x : Extent) (a : ℕ) (items : List Item) → 0 < x.page → Joins a x.pointer items → All (IsItem x) items →
+    (n : ℕ) (i : Item) → slice_get items n ≡ Some i → a ≤ start_of i
+begins_behind x a [] pos joins each n i is = absurd (none-some i is)
+begins_behind x a (first ∷ items) pos joins each zero i is = omega (arith, joins.0, ap start_of (same_Some first i is))
+begins_behind x a (first ∷ items) pos joins each (suc n) i is =
+    let up = advances x first pos (All-head (IsItem x) first items each) in
+    omega (arith, up.0, joins.0, begins_behind x (stop_of first) items pos joins.1 (All-tail (IsItem x) first items each) n i is)
+
+in_items : (x : Extent) (a : ℕ) (items : List Item) → 0 < x.page → Joins a x.pointer items → All (IsItem x) items →
+    (place : ℕ) → a ≤ place → place < x.pointer → IsInOneItem items place
+in_items x a [] pos joins each place low high = absurd (omega (arith, joins, low, high))
+in_items x a (first ∷ items) pos joins each place low high =
+    by (cases_lt place (stop_of first)) (in_items x (stop_of first) items pos joins.1 (All-tail (IsItem x) first items each) place)
+  where
+    by : (place < stop_of first) ⊎ (stop_of first ≤ place) →
+        (stop_of first ≤ place → place < x.pointer → IsInOneItem items place) → IsInOneItem (first ∷ items) place
+    by (inl here) behind = record {
+      number = 0;
+      item = first;
+      is = refl;
+      covers = (omega (arith, joins.0, low), here);
+      alone = alone;
+    }
+      where
+        alone : (other : ℕ) (i : Item) → slice_get (first ∷ items) other ≡ Some i → Covers place i → other ≡ 0
+        alone zero i is covers = refl
+        alone (suc n) i is covers =
+            let past = begins_behind x (stop_of first) items pos joins.1 (All-tail (IsItem x) first items each) n i is in
+            absurd (omega (arith, past, here, covers.0))
+    by (inr past) behind = record {
+      number = suc rest.number;
+      item = rest.item;
+      is = rest.is;
+      covers = rest.covers;
+      alone = alone;
+    }
+      where
+        rest : IsInOneItem items place
+        rest = behind past high
+
+        alone : (other : ℕ) (i : Item) → slice_get (first ∷ items) other ≡ Some i → Covers place i → other ≡ suc rest.number
+        alone zero i is covers = absurd (omega (arith, past, covers.1, ap stop_of (same_Some first i is)))
+        alone (suc n) i is covers = ap suc (rest.alone n i is covers)
+
+pub in_one_item : (x : Extent) (items : List Item) → 0 < x.page → IsTiling x items → (place : ℕ) → place < x.pointer →
+    IsInOneItem items place
+in_one_item x items pos tiled place below = in_items x 0 items pos tiled.joined tiled.each place (omega arith) below

@@ -7,6 +7,12 @@ ghost use Rattle.std.specs.List.Sorted.{IsStrictlyIncreasing};
 ghost use Rattle.scrub_disk.specs.Image.{Image};
 ghost use Rattle.scrub_scan.specs.Slots.{AreFull, scanned_in};
 ghost use Rattle.scrub_scan.specs.AllFindings.{IsPlaceOf, extent_numbers};
+ghost use Rattle.std.specs.Prelude.{List};
+ghost use Rattle.scrub_super.specs.Plan.{PlanValue, IsPlan};
+ghost use Rattle.scrub_scan.specs.declared.findings.Findings.{Findings};
+ghost use Rattle.scrub_scan.specs.Findings.{IsFindings};
+ghost use Rattle.scrub_scan.specs.Scanned.{Scanned};
+ghost use Rattle.scrub_scan.specs.AllFindings.{AreAllFindings};
 
 use crate::extent_result::ExtentResult;
 use crate::findings::Findings;
@@ -182,3 +188,11 @@ impl<'a, 'd, D: PageSource> Iterator for Results<'a, 'd, D> {
         }
     }
 }
+
+/// A law: under each write pointer there are findings of each extent of an image, and a plan has findings of
+/// all extents that it plans.
+pub fn each_plan_has_all_findings()
+    ensures extent { (image : Image) (e w : ℕ) → (found : Findings) × IsFindings image e w found }
+    ensures plan { (image : Image) (plan : PlanValue) → IsPlan plan →
+        (all : List Scanned) × AreAllFindings image plan all }
+{}

@@ -27,3 +27,8 @@ pub mod BlocksFront
 pub mod UnknownSizesSteps
 pub mod LostRuns
 pub mod FoundByOwnSizes
+pub mod BytesHere
+pub mod RecordsThere
+pub mod PlansFit
+pub mod PagesThere
+pub mod SizesThere

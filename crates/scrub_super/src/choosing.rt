@@ -7,6 +7,7 @@ ghost use Rattle.scrub_super.specs.Contents.{Contents};
 ghost use Rattle.scrub_super.specs.Record.{BeginsWithRecord};
 ghost use Rattle.scrub_super.specs.Chosen.{Choice, IsChoice, RecordStandsAt};
 ghost use Rattle.scrub_super.specs.Pages.{IsRank};
+ghost use Rattle.scrub_super.specs.Plan.{PlanValue, IsPlanOf};
 ghost use Rattle.scrub_super.specs.declared.pages.Rank.{Rank};
 ghost use Rattle.scrub_super.specs.steps.ByConditions.{IsChoiceByConditions, IsRankByConditions};
 ghost use Rattle.scrub_disk.specs.Image.{Image};
@@ -182,4 +183,10 @@ pub fn choice_by_conditions()
     ensures rank { (image : Image) (choice : Choice) → IsChoice image choice →
         (generation : ℕ) (rank : Rank) →
         IsRank image generation rank ↔ IsRankByConditions image generation rank }
+{}
+
+/// A law: each image has a choice, and each choice a plan. So an image has exactly one of each.
+pub fn each_image_has_a_choice()
+    ensures choice { (image : Image) → (choice : Choice) × IsChoice image choice }
+    ensures plan { (choice : Choice) → (plan : PlanValue) × IsPlanOf choice plan }
 {}

@@ -12,14 +12,18 @@ pub mod record;
 pub mod superblock;
 pub mod unknown_sizes;
 
-pub use choosing::{choice_by_conditions, choose, one_choice};
+pub use choosing::{choice_by_conditions, choose, each_image_has_a_choice, one_choice};
 pub use chosen::Chosen;
-pub use extent_zero::{choose_with_pages, no_byte_is_overlooked, one_list_of_superblock_pages};
+pub use extent_zero::{
+    choose_with_pages, each_image_has_superblock_pages, no_byte_is_overlooked,
+    one_list_of_superblock_pages,
+};
 pub use kind::RecordKind;
 pub use pages::{Rank, SuperblockPage};
 pub use plan::Plan;
 pub use record::{MAX_RUNS, one_record, read_record, write_record};
 pub use superblock::Superblock;
 pub use unknown_sizes::{
-    FoundRecord, FoundSuperblocks, LostBytes, find_superblocks, one_answer_for_lost_blocks,
+    FoundRecord, FoundSuperblocks, LostBytes, each_front_has_an_answer, find_superblocks,
+    one_answer_for_lost_blocks,
 };

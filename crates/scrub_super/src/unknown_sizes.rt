@@ -1,7 +1,7 @@
 //! Finds the superblock records of a raw image whose sizes aren't known: each record is judged by its own
 //! sizes.
 
-ghost use Rattle.std.specs.Prelude.{◌≡◌, ◌+◌, ◌-◌, ◌<◌, ◌≤◌, ◌^◌, ℕ, List, Bool, IfOk};
+ghost use Rattle.std.specs.Prelude.{◌≡◌, ◌+◌, ◌-◌, ◌<◌, ◌≤◌, ◌^◌, ℕ, List, Bool, Option, IfOk};
 ghost use Rattle.scrub_disk.specs.Limits.{max_extent_bytes};
 ghost use Rattle.scrub_super.specs.declared.unknown_sizes.FoundRecord.{FoundRecord};
 ghost use Rattle.scrub_super.specs.declared.unknown_sizes.LostBytes.{LostBytes};
@@ -76,4 +76,15 @@ pub fn find_superblocks<R: RawImage>(
 pub fn one_answer_for_lost_blocks()
     ensures { (bytes : List ℕ) (lost : List Bool) (a b : List FoundRecord) (r s : List LostBytes) →
         AreFoundByOwnSizes bytes lost a r → AreFoundByOwnSizes bytes lost b s → (a ≡ b) × (r ≡ s) }
+{}
+
+/// A law: raw bytes with some lost blocks have all their records and all their lost bytes; so there is an answer
+/// whatever bytes lack and however many reads fail. With `one_answer_for_lost_blocks`, lost blocks have exactly
+/// one list of each.
+pub fn each_front_has_an_answer()
+    ensures blocks { (bytes : List ℕ) (lost : List Bool) →
+        (records : List FoundRecord) × (ranges : List LostBytes) × AreFoundByOwnSizes bytes lost records ranges }
+    ensures raw { (raw : Option (List ℕ)) (lacking : List ℕ) (failures : ℕ) →
+        (records : List FoundRecord) × (ranges : List LostBytes) ×
+        AreFoundInSome raw lacking failures records ranges }
 {}

@@ -4,9 +4,10 @@ use Rattle.std.specs.Int.{w64, to_be_bytes}
 use Rattle.std.proofs.lemmas.List.{drop-append-le, take-append-drop, take-take, take_at, drop-take, length-replicate}
 use Rattle.sha2.specs.Sha256.{hash_after, initial_hash_256, digest_bytes, padded_message, padding, sha256}
 use Rattle.sha2.proofs.Absorbing256.{hash_after-append}
+use Rattle.sha_lanes.specs.declared.batch.Batch.{Batch}
 use Rattle.sha_lanes.specs.declared.lanes.Span.{Span}
 use Rattle.sha_lanes.specs.Lanes.{digest_of}
-use Rattle.sha_lanes.specs.Gathered.{IsMessage, AreMessages, message_of}
+use Rattle.sha_lanes.specs.Gathered.{Gathers, IsMessage, AreMessages, message_of}
 
 All_first : (P : Span → Type 0) (span : Span) (spans : List Span) → All P (span ∷ spans) → P span
 All_first P span spans all = all 0 span (omega arith)
@@ -35,6 +36,17 @@ grown bytes more begun (span ∷ spans) (message ∷ messages) le within are = (
   IsMessage_grown bytes more span message (omega (arith, All_first (λ s. s.start + 64 * s.blocks ≤ begun) span spans within)) are.0,
   grown bytes more begun spans messages le (All_rest (λ s. s.start + 64 * s.blocks ≤ begun) span spans within) are.1,
 )
+
+-- a batch with more bytes of the message that has begun
+pub begun_more : (batch other : Batch) (more : List ℕ) (messages : List (List ℕ)) (next : List ℕ)
+    → other.bytes.items ≡ batch.bytes.items ++ more → other.spans.items ≡ batch.spans.items → other.begun ≡ batch.begun
+    → Gathers batch messages next → Gathers other messages (next ++ more)
+begun_more batch other more messages next bytes spans begun held = record {
+  messages_are = rw (bytes, spans)
+      (grown batch.bytes.items more batch.begun batch.spans.items messages batch.begun_within batch.spans_within held.messages_are);
+  next_is = rw (bytes, begun)
+      (drop-append-le batch.begun batch.bytes.items more batch.begun_within ∙ ap (λ (xs : List ℕ). xs ++ more) held.next_is);
+}
 
 IsMessage_cut : (bytes : List ℕ) (begun : ℕ) (span : Span) (message : List ℕ) → span.start + 64 * span.blocks ≤ begun
     → IsMessage bytes span message → IsMessage (take begun bytes) span message

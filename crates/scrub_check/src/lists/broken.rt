@@ -48,3 +48,8 @@ pub fn one_list_of_broken_shards()
     ensures { (checked : List Checked) (ids others : List ShardId) →
         AreBrokenShards checked ids → AreBrokenShards checked others → ids ≡ others }
 {}
+
+/// A law: there is a list of broken shards. With `one_list_of_broken_shards`, there is exactly one.
+pub fn each_scan_has_broken_shards()
+    ensures { (checked : List Checked) → (ids : List ShardId) × AreBrokenShards checked ids }
+{}

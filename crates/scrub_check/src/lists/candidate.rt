@@ -1,32 +1,57 @@
 //! An extent that may be reclaimed. See `reclaiming` for which ones may.
 
-ghost use Rattle.std.specs.Prelude.{◌≡◌};
+ghost use Rattle.std.specs.Prelude.{◌≡◌, IfOk};
+ghost use Rattle.scrub_check.specs.Candidates.{starts_of};
 
 use crate::lists::kept_chunk::KeptChunk;
+use scrub_disk::OutOfMemory;
+use std::alloc::Global;
 use std::marker::Model;
+
+/// Where chunks to keep begin, in their order.
+fn starts_of(alloc: Global, chunks: &[KeptChunk]) -> Result<Vec<u32>, OutOfMemory>
+    ensures { IfOk result (λ v. v.items ≡ starts_of chunks.now) }
+{
+    chunks.iter().map(|one| one.start).collect(alloc)
+}
 
 /// An extent that may be reclaimed once the chunks to keep are moved.
 #[derive(Drop)]
 pub struct Candidate {
     extent: u32,
     free: u32,
-    keep: Vec<KeptChunk>,
+    chunks: Vec<KeptChunk>,
+    keep: Vec<u32>,
 }
 
 impl Model for Candidate {
-    ghost use Rattle.scrub_check.specs.Candidates.{CandidateValue};
+    ghost use Rattle.std.specs.Prelude.{◌≡◌};
+    ghost use Rattle.scrub_check.specs.Candidates.{CandidateValue, starts_of};
 
     ghost Value = { CandidateValue };
 
-    ghost view = { λ c. record { extent = c.extent; free = c.free; keep = c.keep.items } };
+    ghost view = { λ c. record { extent = c.extent; free = c.free; chunks = c.chunks.items } };
+
+    ghost invariant = { λ c. c.keep.items ≡ starts_of c.chunks.items };
 }
 
 impl Candidate {
     /// A candidate of these parts.
-    pub(crate) fn new(extent: u32, free: u32, keep: Vec<KeptChunk>) -> Candidate
-        ensures { result ≡ record { extent = extent; free = free; keep = keep.items } }
+    pub(crate) fn new(
+        alloc: Global,
+        extent: u32,
+        free: u32,
+        chunks: Vec<KeptChunk>,
+    ) -> Result<Candidate, OutOfMemory>
+        ensures { IfOk result (λ c. c ≡ record { extent = extent; free = free; chunks = chunks.items }) }
     {
-        Candidate { extent, free, keep }
+        let keep = starts_of(alloc, &chunks)?;
+        Ok(Candidate {
+            extent,
+            free,
+            chunks,
+            keep,
+        })
     }
 
     /// The number of the extent.
@@ -43,10 +68,17 @@ impl Candidate {
         self.free
     }
 
-    /// The live chunks, ascending.
-    pub fn keep(&self) -> &[KeptChunk]
-        ensures { result.now ≡ self.now.keep }
+    /// Where the live chunks begin (in bytes of the extent), ascending.
+    pub fn keep(&self) -> &[u32]
+        ensures { result.now ≡ starts_of self.now.chunks }
     {
         self.keep.as_slice()
+    }
+
+    /// The live chunks, ascending.
+    pub fn chunks(&self) -> &[KeptChunk]
+        ensures { result.now ≡ self.now.chunks }
+    {
+        self.chunks.as_slice()
     }
 }

@@ -129,7 +129,14 @@ fn add_extent<D: PageSource>(
     let pointer = found.pointer();
     let live = live_among(alloc, found.extent(), items, cursor, &mut so_far.orphans)?;
     so_far.live.push(live.bytes)?;
-    add_reclaimable(geometry, locators, found, live, &mut so_far.reclaimable)
+    add_reclaimable(
+        alloc,
+        geometry,
+        locators,
+        found,
+        live,
+        &mut so_far.reclaimable,
+    )
 }
 
 /// What is known of all extents; which may be reclaimed, only if the sizes of the disk are given. The places

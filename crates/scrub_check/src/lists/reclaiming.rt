@@ -79,16 +79,22 @@ fn is_reclaimable<D: PageSource>(
 }
 
 /// An extent of these live chunks as a candidate.
-fn candidate_of<D: PageSource>(found: &ExtentResult<'_, D>, live: LiveChunks) -> Candidate
+fn candidate_of<D: PageSource>(
+    alloc: Global,
+    found: &ExtentResult<'_, D>,
+    live: LiveChunks,
+) -> Result<Candidate, OutOfMemory>
     ensures { (checked : List Checked) → AreLiveChunks checked (scanned found.now) live →
-        result ≡ candidate_of checked (scanned found.now) }
+        IfOk result (λ c. c ≡ candidate_of checked (scanned found.now)) }
 {
-    Candidate::new(found.extent(), free_bytes(found, live.bytes), live.kept)
+    let free = free_bytes(found, live.bytes);
+    Candidate::new(alloc, found.extent(), free, live.kept)
 }
 
 /// Adds an extent of these live chunks to the candidates, if the sizes of the disk are given and it may be
 /// reclaimed.
 pub(crate) fn add_reclaimable<D: PageSource>(
+    alloc: Global,
     geometry: Option<Geometry>,
     locators: &LocatorIndex,
     found: &ExtentResult<'_, D>,
@@ -106,7 +112,7 @@ pub(crate) fn add_reclaimable<D: PageSource>(
     if !is_reclaimable(geometry, locators, found, live.bytes) {
         return Ok(());
     }
-    candidates.push(candidate_of(found, live))?;
+    candidates.push(candidate_of(alloc, found, live)?)?;
     Ok(())
 }
 
@@ -182,4 +188,12 @@ pub fn one_list_of_candidates()
 pub fn candidates_are_safe()
     ensures { (image : Image) (plan : PlanValue) (all : List Scanned) (checked : List Checked) →
         CandidatesAreSafe image plan all checked }
+{}
+
+/// A law: there is a list of candidates, if the scanned extents ascend. With `one_list_of_candidates`, there is
+/// exactly one.
+pub fn each_scan_has_candidates()
+    ensures { (plan : PlanValue) (all : List Scanned) (checked : List Checked) (in_doubt : Bool) →
+        IsStrictlyIncreasing (extent_numbers all) →
+        (candidates : List CandidateValue) × AreCandidates plan all checked in_doubt candidates }
 {}

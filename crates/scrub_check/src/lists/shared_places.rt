@@ -64,3 +64,8 @@ pub fn one_list_of_shared_places()
     ensures { (checked : List Checked) (ps qs : List SharedPlace) →
         AreShared checked ps → AreShared checked qs → ps ≡ qs }
 {}
+
+/// A law: there is a list of shared places. With `one_list_of_shared_places`, there is exactly one.
+pub fn each_scan_has_shared_places()
+    ensures { (checked : List Checked) → (places : List SharedPlace) × AreShared checked places }
+{}

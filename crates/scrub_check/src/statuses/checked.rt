@@ -10,6 +10,8 @@ ghost use Rattle.scrub_super.specs.Plan.{PlanValue};
 ghost use Rattle.scrub_merge.specs.Binding.{BindingValue};
 ghost use Rattle.scrub_check.specs.Checked.{IsChecked, AreChecked, dangling, hidden};
 ghost use Rattle.scrub_check.specs.Named.{named_locators};
+ghost use Rattle.scrub_check.specs.declared.named.Named.{Named};
+ghost use Rattle.scrub_check.specs.declared.statuses.checked.Checked.{Checked};
 ghost use Rattle.scrub_check.specs.Runs.{AreRunStatuses};
 ghost use Rattle.scrub_check.specs.WholeScan.{IsWholeScan};
 ghost use Rattle.scrub_check.specs.steps.Open.{IsKnownBefore, AreKnownBefore, HasEachUnknown};
@@ -271,3 +273,9 @@ pub fn hidden(alloc: Global, checked: &[Checked]) -> Result<Vec<Checked>, OutOfM
         .filter(|one| one.status.is_hidden())
         .collect(alloc)
 }
+
+/// A law: each list of named locators has its checked ones. So by `one_status` it has them once.
+pub fn each_list_of_named_is_checked()
+    ensures { (image : Image) (plan : PlanValue) (names : List Named) →
+        (checked : List Checked) × AreChecked image plan names checked }
+{}

@@ -7,6 +7,7 @@ ghost use Rattle.scrub_super.specs.Plan.{PlanValue};
 ghost use Rattle.scrub_check.specs.WholeScan.{IsWholeScan};
 ghost use Rattle.scrub_check.specs.Status.{end_of, InRange, HasUnreadableByte, CanStand, HasStatus};
 ghost use Rattle.scrub_check.specs.Status.{HasStatusIn, ExactlyOne};
+ghost use Rattle.scrub_check.specs.declared.statuses.status.Status.{Status};
 ghost use Rattle.scrub_check.specs.steps.StatusByFrame.{IsOther, IsMismatch, Agrees, IsStatusByFrame};
 ghost use Rattle.scrub_check.specs.steps.StatusByFrame.{IsStatusByClaim};
 ghost use Rattle.scrub_scan.specs.Extent.{extent_of};
@@ -234,4 +235,12 @@ pub fn one_status()
         ExactlyOne (HasStatus image w locator) }
     ensures in_plan { (image : Image) (plan : PlanValue) (locator : Locator) →
         ExactlyOne (HasStatusIn image plan locator) }
+{}
+
+/// A law: each locator has a status, under a write pointer and by a plan. With `one_status`, it has exactly one.
+pub fn each_locator_has_a_status()
+    ensures under_pointer { (image : Image) (w : ℕ) (locator : Locator) →
+        (status : Status) × HasStatus image w locator status }
+    ensures in_plan { (image : Image) (plan : PlanValue) (locator : Locator) →
+        (status : Status) × HasStatusIn image plan locator status }
 {}

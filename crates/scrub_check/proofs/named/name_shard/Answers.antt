@@ -1,5 +1,5 @@
-use Rattle.std.proofs.Common.{◌∙◌, ◌++◌, ◌∷◌, [], ap, sym, map}
-use Rattle.std.proofs.lemmas.List.{take_all, append-nil}
+use Rattle.std.proofs.Common.{◌≡◌, ◌∙◌, ◌++◌, ◌∷◌, [], ℕ, List, Result, Ok, Err, OnErr, ap, sym, map, take}
+use Rattle.std.proofs.lemmas.List.{append-nil, take-map, take_all}
 use Rattle.scrub_frame.specs.declared.locator.Locator.{Locator}
 use Rattle.scrub_check.specs.declared.named.Owner.TheVariants.{Shard}
 use Rattle.scrub_check.specs.declared.named.Named.{Named}
@@ -20,10 +20,25 @@ loop-locator-preserved c =
     ∙ ap (λ x. named ++ record { owner = Shard x; locator = c.locator-item.result } ∷ []) c.id.ensures
     ∙ ap (λ x. named ++ record { owner = Shard id; locator = x } ∷ []) c.locator-item.is)
 
-pub returns : goal.returns
-returns c =
+pub returns-clause-appended : goal.returns-clause-appended
+returns-clause-appended c =
     let id = c.args.binding.now.id in
     c.loop-locator.invariant
     ∙ ap
     (λ ls. c.args.named.now.items ++ map (λ (l : Locator). let n : Named = record { owner = Shard id; locator = l } in n) ls)
     (take_all c.loop-locator.locator-index c.locators-locator-items.result.now c.loop-locator-test.false ∙ c.locators-locator-items.ensures)
+
+refused : {T E : Type 0} (r : Result T E) (before after all : List Named) (count : ℕ) → after ≡ before ++ take count all →
+    OnErr r ((n : ℕ) × (after ≡ before ++ take n all))
+refused (Ok x) before after all count is = tt
+refused (Err e) before after all count is = (count, is)
+
+pub returns-in_err-push-clause-refused : goal.returns-in_err-push-clause-refused
+returns-in_err-push-clause-refused c =
+    let id = c.args.binding.now.id in
+    let i = c.loop-locator.locator-index in
+    let name : Locator → Named = λ l. record { owner = Shard id; locator = l } in
+    refused _ c.args.named.now.items c.push.new.self.items _ i
+    (c.in_err-push.ensures.items ∙ c.loop-locator.invariant
+    ∙ ap (λ (ns : List Named). c.args.named.now.items ++ ns)
+    (sym (take-map name i c.locators-locator-items.result.now) ∙ ap (λ (ls : List Locator). take i (map name ls)) c.locators-locator-items.ensures))

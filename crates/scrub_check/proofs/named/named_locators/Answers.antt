@@ -13,7 +13,7 @@ loop-binding-preserved c =
     bindings_more c.in_ok-named.named.items c.bindings-binding-items.result.now c.loop-binding.binding-index _
     c.loop-binding.named.items c.name_shard.new.named.items
     c.loop-binding-test.true c.loop-binding.invariant
-    (c.in_ok-name_shard.ensures ∙ ap (λ b. c.loop-binding.named.items ++ named_by_shard b) c.binding-item.is)
+    (c.in_ok-name_shard.ensures.appended ∙ ap (λ b. c.loop-binding.named.items ++ named_by_shard b) c.binding-item.is)
 
 pub returns : goal.returns
 returns c =

@@ -5,4 +5,4 @@ use Rattle.scrub_listings.proofs.summary.moved_for.Given as goal
 
 abbrev pub invariant-loop-candidate : goal.invariant-loop-candidate
 invariant-loop-candidate l =
-    (l.total ≡ sum_by (λ a. length a.keep) (take l.candidate-index l.candidates)) × (l.total ≤ l.candidate-index * 2 ^ 64)
+    (l.total ≡ sum_by (λ a. length a.chunks) (take l.candidate-index l.candidates)) × (l.total ≤ l.candidate-index * 2 ^ 64)

@@ -12,4 +12,4 @@ returns c checked same =
     let mid = string_bytes c.append_reclaim.new.text in
     let a = c.args.candidate.now in
     let first : mid ≡ old ++ reclaim_line a = search rules in
-    appended_ok c.append_kept.result old mid (string_bytes c.append_kept.new.text) (reclaim_line a) (flat_map (kept_lines checked a.extent) a.keep) first (search (rules, c.append_kept.ensures checked same))
+    appended_ok c.append_kept.result old mid (string_bytes c.append_kept.new.text) (reclaim_line a) (flat_map (kept_lines checked a.extent) a.chunks) first (search (rules, c.append_kept.ensures checked same))

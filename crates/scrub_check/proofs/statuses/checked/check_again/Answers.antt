@@ -38,7 +38,7 @@ append_checked-requires-in-loop-binding-clause-count c =
     let k = c.loop-binding.binding-index in
     let b = c.binding-item.result in
     let named : c.deref-in-loop-binding.result.now ≡ named_by_shard b =
-    c.deref-in-loop-binding.ensures.value ∙ c.in_ok-name_shard.ensures ∙ ap (λ ns. ns ++ named_by_shard b) c.clear.ensures.items in
+    c.deref-in-loop-binding.ensures.value ∙ c.in_ok-name_shard.ensures.appended ∙ ap (λ ns. ns ++ named_by_shard b) c.clear.ensures.items in
     let names = ap (λ (ns : List Named). length ns) (at_binding runs bindings k b c.loop-binding-test.true c.binding-item.is) in
     let many = ap (λ (ns : List Named). length ns) named in
     let first = length-append (named_first runs bindings k) (named_by_shard b ++ named_later bindings k) in
@@ -52,7 +52,7 @@ loop-binding-preserved c =
     let k = c.loop-binding.binding-index in
     let b = c.binding-item.result in
     let named : c.deref-in-loop-binding.result.now ≡ named_by_shard b =
-    c.deref-in-loop-binding.ensures.value ∙ c.in_ok-name_shard.ensures ∙ ap (λ ns. ns ++ named_by_shard b) c.clear.ensures.items in
+    c.deref-in-loop-binding.ensures.value ∙ c.in_ok-name_shard.ensures.appended ∙ ap (λ ns. ns ++ named_by_shard b) c.clear.ensures.items in
     let grown = first_more runs bindings k b c.loop-binding-test.true c.binding-item.is in
     record {
       count =

@@ -3,7 +3,7 @@ use Rattle.scrub_disk.specs.Image.{unreadable_pages}
 use Rattle.scrub_scan.specs.Extent.{extent_of, NoFrameAt}
 use Rattle.scrub_scan.specs.Standing.{IsClaimedAt}
 use Rattle.scrub_check.proofs.ClaimedFrames.{gap_is_no_frame, under_plan}
-use Rattle.scrub_check.proofs.Filtered.{filtered_rises}
+use Rattle.scrub_frame.proofs.Filtered.{filtered_rises}
 use Rattle.scrub_check.proofs.StatusByFrame.{at_some, at_none}
 use Rattle.scrub_check.proofs.PlannedFindings.{each_listed, pages_found}
 use Rattle.scrub_check.proofs.statuses.open_place.claim_at.Goals as goal

@@ -1,5 +1,5 @@
 use Rattle.std.proofs.Common.{is_none}
-use Rattle.scrub_check.proofs.Filtered.{filtered_rises}
+use Rattle.scrub_frame.proofs.Filtered.{filtered_rises}
 use Rattle.scrub_check.proofs.statuses.status.is_unreadable.Goals as goal
 
 pub has_gap-requires-clause-rising : goal.has_gap-requires-clause-rising

@@ -63,7 +63,7 @@ returns-then-end-stop-clause-found g c = λ messages held.
           (rw whole at (c.put_between.ensures.put x.byte stand inv.sealed))
           (subst (λ (q : ℕ). AreBytesAt x.byte (c.args.start + q) payload) c.payload_start.ensures.value more.1);
       gathers =
-          c.in_ok-end.ensures messages payload (c.in_ok-append.ensures messages so_far.0 so_far.1);
+          c.in_ok-end.ensures.ended messages payload (c.in_ok-append.ensures.appended messages so_far.0 so_far.1);
     }
 
 pub loop-place-preserved : goal.loop-place-preserved
@@ -90,7 +90,7 @@ loop-place-preserved g c =
           let more = payload_more x.byte c.loop-place.place c.bound-stop.result first (first + h.length) so_far.0 c.in-Some.part.now c.bytes_between.result.now
           c.in-Some.ensures.size (omega arith) stand so_far.2 so_far.3 c.bytes_between.ensures in (
             so_far.0 ++ c.bytes_between.result.now,
-            c.in_ok-append.ensures messages so_far.0 so_far.1,
+            c.in_ok-append.ensures.appended messages so_far.0 so_far.1,
             more.0,
             more.1,
           );

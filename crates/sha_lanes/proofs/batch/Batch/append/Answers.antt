@@ -3,8 +3,8 @@ use Rattle.std.proofs.lemmas.List.{drop-append-le}
 use Rattle.sha_lanes.proofs.Gathering.{grown}
 use Rattle.sha_lanes.proofs.batch.Batch.append.Goals as goal
 
-pub returns : goal.returns
-returns c = λ messages next held.
+pub returns-clause-appended : goal.returns-clause-appended
+returns-clause-appended c = λ messages next held.
     let batch = c.args.self.now in
     record {
       messages_are =

@@ -1,12 +1,14 @@
-use Rattle.std.proofs.Common.{◌≡◌, ◌-◌, ◌*◌, ◌/◌, ◌%◌, ◌^◌, ◌++◌, ◌∷◌, ◌∙◌, ap, sym, refl, arith, length, drop, replicate, List, ℕ, append_assoc, length-drop}
+use Rattle.std.proofs.Common.{◌≡◌, ◌-◌, ◌*◌, ◌/◌, ◌%◌, ◌^◌, ◌++◌, ◌∷◌, ◌∙◌, ap, sym, refl, arith, length, drop, replicate, List, ℕ, append_assoc, length-drop, Result, Ok, Err, OnErr}
 use Rattle.std.proofs.lemmas.List.{drop-append-le, drop_all}
 use Rattle.std.specs.Int.{w64, to_be_bytes}
 use Rattle.sha2.specs.Sha256.{padded_message}
-use Rattle.sha_lanes.proofs.Gathering.{grown, one_more, ended}
+use Rattle.sha_lanes.specs.declared.batch.Batch.{Batch}
+use Rattle.sha_lanes.specs.Gathered.{Gathers}
+use Rattle.sha_lanes.proofs.Gathering.{begun_more, grown, one_more, ended}
 use Rattle.sha_lanes.proofs.batch.Batch.end.Goals as goal
 
-pub returns : goal.returns
-returns c = λ messages next held.
+pub returns-clause-ended : goal.returns-clause-ended
+returns-clause-ended c = λ messages next held.
     let batch = c.args.self.now in
     let old = batch.bytes.items in
     let at = batch.begun in
@@ -32,3 +34,25 @@ returns c = λ messages next held.
           (grown old (pad ++ bits) at batch.spans.items messages batch.begun_within batch.spans_within held.messages_are));
       next_is = drop_all _ all (omega arith);
     }
+
+refused : {T E : Type 0} (r : Result T E) (other : Batch) (more : List ℕ) (messages : List (List ℕ)) (next : List ℕ)
+    → Gathers other messages (next ++ more) → OnErr r ((rest : List ℕ) × Gathers other messages (next ++ rest))
+refused (Ok x) other more messages next held = tt
+refused (Err e) other more messages next held = (more, held)
+
+pub returns-in_err-extend_from_slice-2-clause-refused : goal.returns-in_err-extend_from_slice-2-clause-refused
+returns-in_err-extend_from_slice-2-clause-refused c = λ messages next held.
+    let batch = c.args.self.now in
+    let pad = c.padding.result.now in
+    let items = c.in_err-extend_from_slice-2.ensures.items ∙ c.in_ok-extend_from_slice.ensures.items in
+    refused _ _ pad messages next (begun_more batch _ pad messages next items refl refl held)
+
+pub returns-in_err-push-clause-refused : goal.returns-in_err-push-clause-refused
+returns-in_err-push-clause-refused c = λ messages next held.
+    let batch = c.args.self.now in
+    let more = c.padding.result.now ++ c.to_be_bytes.result in
+    let items = c.in_ok-extend_from_slice-2.ensures.items
+    ∙ ap (λ (xs : List ℕ). xs ++ c.to_be_bytes.result) c.in_ok-extend_from_slice.ensures.items
+    ∙ append_assoc batch.bytes.items c.padding.result.now c.to_be_bytes.result in
+    refused _ _ more messages next
+    (begun_more batch _ more messages next items c.in_err-push.ensures.items refl held)

@@ -1,0 +1,5 @@
+use Rattle.scrub_check.proofs.ListsThere.{some_candidates}
+use Rattle.scrub_check.proofs.lists.reclaiming.each_scan_has_candidates.Goals as goal
+
+pub returns : goal.returns
+returns c = some_candidates
