@@ -18,7 +18,7 @@ use Rattle.clap.proofs.OnLiterals.{clap_on_literals}
 use Rattle.clap.proofs.WalkLemmas.{one_text-rows}
 use Rattle.clap_walk.specs.Rows.{HasNumberTo}
 use Rattle.scrub_args.specs.declared.args.Wanted.{Wanted}
-use Rattle.scrub_args.specs.declared.args.Wanted.TheVariants.{Report, Index, Locators, Summary, Reclaimable}
+use Rattle.scrub_args.specs.declared.args.Wanted.TheVariants.{Report, Index, Locators, Shards, Summary, Reclaimable}
 use Rattle.scrub_args.specs.declared.args.ArgsFault.{ArgsFault}
 use Rattle.scrub_args.specs.declared.args.ArgsFault.TheVariants.{Refused, Help, OutOfMemory}
 use Rattle.scrub_args.specs.CommandLine.{shardscrub_app}
@@ -182,6 +182,7 @@ module _ (command : Option (Text × List Row)) (name : Text) (found : List Row) 
   disk_of_whole Report is = subst (λ (n : Text). IsWholeCommand n found) is met_whole
   disk_of_whole Index is = subst (λ (n : Text). IsWholeCommand n found) is met_whole
   disk_of_whole Locators is = subst (λ (n : Text). IsWholeCommand n found) is met_whole
+  disk_of_whole Shards is = subst (λ (n : Text). IsWholeCommand n found) is met_whole
   disk_of_whole (Summary last) is = let dated : HasDated found = subst (λ (n : Text). IsWholeCommand n found) is met_whole in dated.scan
   disk_of_whole (Reclaimable accepted last) is = let dated : HasDated found = subst (λ (n : Text). IsWholeCommand n found) is met_whole in dated.scan
 

@@ -26,7 +26,7 @@ use Rattle.scrub_args.specs.declared.args.ShardArgs.{ShardArgs}
 use Rattle.scrub_args.specs.declared.args.SizesArgs.{SizesArgs}
 use Rattle.scrub_args.specs.declared.args.Request.{Request}
 use Rattle.scrub_args.specs.declared.args.Wanted.{Wanted}
-use Rattle.scrub_args.specs.declared.args.Wanted.TheVariants.{Report, Index, Locators, Summary, Reclaimable}
+use Rattle.scrub_args.specs.declared.args.Wanted.TheVariants.{Report, Index, Locators, Shards, Summary, Reclaimable}
 use Rattle.scrub_args.specs.declared.args.Request.TheVariants.{Demo, Items, Disk, Manifest, Compare, Shard, Superblocks, Sizes}
 use Rattle.scrub_args.specs.CommandLine.{shardscrub_app}
 use Rattle.scrub_args.specs.Order.{AreExchanged, HasOptions}
@@ -110,6 +110,7 @@ module _ (xs ys : List Row) (same : AreSame xs ys) where
   wanted_same Report read = tt
   wanted_same Index read = tt
   wanted_same Locators read = tt
+  wanted_same Shards read = tt
   wanted_same (Summary last) read = last_same last read
   wanted_same (Reclaimable accepted last) read = (
     record {

@@ -524,16 +524,16 @@ items_whole args clean =
     }
 
 -- the command that an argument names, by the test of each name
-abbrev stopped_at : (summary scan shard index locators manifest reclaimable compare superblocks sizes items demo help : Bool) → Option Shape
-stopped_at summary scan shard index locators manifest reclaimable compare superblocks sizes items demo help =
-    if summary then Some built_summary else (if scan then Some (looked (codes "scan")) else (if shard then Some built_shard else (if index then Some (disk (codes "index")) else (if locators then Some (looked (codes "locators")) else (if manifest then Some built_manifest else (if reclaimable then Some built_reclaimable else (if compare then Some built_compare else (if superblocks then Some built_superblocks else (if sizes then Some built_sizes else (if items then Some built_items else (if demo then Some built_demo else (if help || false then Some built_help else None))))))))))))
+abbrev stopped_at : (summary scan shard shards index locators manifest reclaimable compare superblocks sizes items demo help : Bool) → Option Shape
+stopped_at summary scan shard shards index locators manifest reclaimable compare superblocks sizes items demo help =
+    if summary then Some built_summary else (if scan then Some (looked (codes "scan")) else (if shard then Some built_shard else (if shards then Some (looked (codes "shards")) else (if index then Some (disk (codes "index")) else (if locators then Some (looked (codes "locators")) else (if manifest then Some built_manifest else (if reclaimable then Some built_reclaimable else (if compare then Some built_compare else (if superblocks then Some built_superblocks else (if sizes then Some built_sizes else (if items then Some built_items else (if demo then Some built_demo else (if help || false then Some built_help else None)))))))))))))
 
 stop_whole : (stop : Option (Text × List Text)) → IsNoHelp stop → entered_fault (built shardscrub_app) stop ≡ [] →
     IsWholeParse (entered (built shardscrub_app) stop)
 unfolding clap_on_literals
 stop_whole None other clean = tt
 stop_whole (Some p) other clean =
-    go (answers_to p.0 (codes "summary", [])) (answers_to p.0 (codes "scan", [])) (answers_to p.0 (codes "shard", [])) (answers_to p.0 (codes "index", [])) (answers_to p.0 (codes "locators", [])) (answers_to p.0 (codes "manifest", [])) (answers_to p.0 (codes "reclaimable", [])) (answers_to p.0 (codes "compare", [])) (answers_to p.0 (codes "superblocks", [])) (answers_to p.0 (codes "sizes", [])) (answers_to p.0 (codes "items", [])) (answers_to p.0 (codes "demo", []))
+    go (answers_to p.0 (codes "summary", [])) (answers_to p.0 (codes "scan", [])) (answers_to p.0 (codes "shard", [])) (answers_to p.0 (codes "shards", [])) (answers_to p.0 (codes "index", [])) (answers_to p.0 (codes "locators", [])) (answers_to p.0 (codes "manifest", [])) (answers_to p.0 (codes "reclaimable", [])) (answers_to p.0 (codes "compare", [])) (answers_to p.0 (codes "superblocks", [])) (answers_to p.0 (codes "sizes", [])) (answers_to p.0 (codes "items", [])) (answers_to p.0 (codes "demo", []))
     (bytes_eq (codes "help") p.0) refl clean
   where
     no_help : bytes_eq (codes "help") p.0 ≡ true → ⊥
@@ -541,23 +541,24 @@ stop_whole (Some p) other clean =
         let back = (bytes_eq-Decides p.0 (codes "help")).1 (sym ((bytes_eq-Decides (codes "help") p.0).0 is)) in
         cc (back, other)
 
-    go : (u s c x l m r k b z i d h : Bool) → bytes_eq (codes "help") p.0 ≡ h →
-        option_map_or (λ s. level_fault s [] nothing_held p.1 false []) (stopped_at u s c x l m r k b z i d h) [] ≡ []
-        → IsWholeParse (option_map (λ s. rows_at s p.1) (stopped_at u s c x l m r k b z i d h))
-    go true s c x l m r k b z i d h is clean = summary_whole p.1 clean
-    go false true c x l m r k b z i d h is clean = looked_whole (codes "scan") p.1 clean
-    go false false true x l m r k b z i d h is clean = shard_whole p.1 clean
-    go false false false true l m r k b z i d h is clean = disk_whole (codes "index") p.1 clean
-    go false false false false true m r k b z i d h is clean = looked_whole (codes "locators") p.1 clean
-    go false false false false false true r k b z i d h is clean = manifest_whole p.1 clean
-    go false false false false false false true k b z i d h is clean = reclaimable_whole p.1 clean
-    go false false false false false false false true b z i d h is clean = compare_whole p.1 clean
-    go false false false false false false false false true z i d h is clean = superblocks_whole p.1 clean
-    go false false false false false false false false false true i d h is clean = sizes_whole p.1 clean
-    go false false false false false false false false false false true d h is clean = items_whole p.1 clean
-    go false false false false false false false false false false false true h is clean = tt
-    go false false false false false false false false false false false false true is clean = absurd (no_help is)
-    go false false false false false false false false false false false false false is clean = tt
+    go : (u s c a x l m r k b z i d h : Bool) → bytes_eq (codes "help") p.0 ≡ h →
+        option_map_or (λ s. level_fault s [] nothing_held p.1 false []) (stopped_at u s c a x l m r k b z i d h) [] ≡ []
+        → IsWholeParse (option_map (λ s. rows_at s p.1) (stopped_at u s c a x l m r k b z i d h))
+    go true s c a x l m r k b z i d h is clean = summary_whole p.1 clean
+    go false true c a x l m r k b z i d h is clean = looked_whole (codes "scan") p.1 clean
+    go false false true a x l m r k b z i d h is clean = shard_whole p.1 clean
+    go false false false true x l m r k b z i d h is clean = looked_whole (codes "shards") p.1 clean
+    go false false false false true l m r k b z i d h is clean = disk_whole (codes "index") p.1 clean
+    go false false false false false true m r k b z i d h is clean = looked_whole (codes "locators") p.1 clean
+    go false false false false false false true r k b z i d h is clean = manifest_whole p.1 clean
+    go false false false false false false false true k b z i d h is clean = reclaimable_whole p.1 clean
+    go false false false false false false false false true b z i d h is clean = compare_whole p.1 clean
+    go false false false false false false false false false true z i d h is clean = superblocks_whole p.1 clean
+    go false false false false false false false false false false true i d h is clean = sizes_whole p.1 clean
+    go false false false false false false false false false false false true d h is clean = items_whole p.1 clean
+    go false false false false false false false false false false false false true h is clean = tt
+    go false false false false false false false false false false false false false true is clean = absurd (no_help is)
+    go false false false false false false false false false false false false false false is clean = tt
 
 pub whole : (args : List Text) → fault_of shardscrub_app args ≡ [] → IsWholeParse (subcommand_of shardscrub_app args)
 unfolding clap_on_literals

@@ -18,7 +18,7 @@ use Rattle.scrub_args.specs.declared.args.SizesArgs.{SizesArgs}
 use Rattle.scrub_args.specs.declared.args.Request.{Request}
 use Rattle.scrub_args.specs.declared.args.Request.TheVariants.{Demo, Items, Disk, Manifest, Compare, Shard, Superblocks, Sizes}
 use Rattle.scrub_args.specs.declared.args.Wanted.{Wanted}
-use Rattle.scrub_args.specs.declared.args.Wanted.TheVariants.{Report, Index, Locators, Summary, Reclaimable}
+use Rattle.scrub_args.specs.declared.args.Wanted.TheVariants.{Report, Index, Locators, Shards, Summary, Reclaimable}
 use Rattle.scrub_args.specs.declared.args.ArgsFault.{ArgsFault}
 use Rattle.scrub_args.specs.declared.args.ArgsFault.TheVariants.{Refused, Help, OutOfMemory}
 use Rattle.scrub_args.specs.Accepting.{first_unacceptable, refusal_of}
@@ -113,6 +113,7 @@ abbrev pub command_of : Wanted → Text
 command_of Report = codes "scan"
 command_of Index = codes "index"
 command_of Locators = codes "locators"
+command_of Shards = codes "shards"
 command_of (Summary last) = codes "summary"
 command_of (Reclaimable accepted last) = codes "reclaimable"
 

@@ -57,6 +57,8 @@ pub enum Wanted<'a> {
     Index,
     /// The named locators, each with its status.
     Locators,
+    /// All shards, as a tar archive.
+    Shards,
     /// A verdict, and numbers by their names, with the generation of the last superblock that was written, if
     /// it is given.
     Summary(Option<u64>),
@@ -256,6 +258,7 @@ fn wanted_by<'a>(
         command::SCAN => Ok(Wanted::Report),
         command::INDEX => Ok(Wanted::Index),
         command::LOCATORS => Ok(Wanted::Locators),
+        command::SHARDS => Ok(Wanted::Shards),
         command::SUMMARY => Ok(Wanted::Summary(last(matches))),
         command::RECLAIMABLE => {
             let accepted = accepted_doubts(alloc, matches)?;

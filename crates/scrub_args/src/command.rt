@@ -17,8 +17,9 @@ use crate::help_texts::{
     ID_HELP, IMAGE_HELP, INDEX_ABOUT, INDEX_AFTER_HELP, ITEMS_ABOUT, ITEMS_AFTER_HELP, LAST_HELP,
     LOCATORS_ABOUT, LOCATORS_AFTER_HELP, MANIFEST_ABOUT, MANIFEST_AFTER_HELP, MAP_HELP, PAGE_HELP,
     PAGES_HELP, POINTER_HELP, RECLAIMABLE_ABOUT, RECLAIMABLE_AFTER_HELP, RESET_HELP, SCAN_ABOUT,
-    SCAN_AFTER_HELP, SHARD_ABOUT, SHARD_AFTER_HELP, SIZES_ABOUT, SIZES_AFTER_HELP, SUMMARY_ABOUT,
-    SUMMARY_AFTER_HELP, SUPERBLOCKS_ABOUT, SUPERBLOCKS_AFTER_HELP, WORKERS_HELP,
+    SCAN_AFTER_HELP, SHARD_ABOUT, SHARD_AFTER_HELP, SHARDS_ABOUT, SHARDS_AFTER_HELP, SIZES_ABOUT,
+    SIZES_AFTER_HELP, SUMMARY_ABOUT, SUMMARY_AFTER_HELP, SUPERBLOCKS_ABOUT, SUPERBLOCKS_AFTER_HELP,
+    WORKERS_HELP,
 };
 use clap::{Arg, ArgAction, Command, value_parser};
 use std::alloc::{AllocError, Global};
@@ -26,13 +27,16 @@ use std::alloc::{AllocError, Global};
 const PROGRAM: &str = "shardscrub";
 
 /// The program's name and version, as a line.
-pub const VERSION: &str = "shardscrub 3.2.0\n";
+pub const VERSION: &str = "shardscrub 3.3.0\n";
 
 /// The command that prints the report of a disk.
 pub const SCAN: &str = "scan";
 
 /// The command that writes the bytes of one shard.
 pub const SHARD: &str = "shard";
+
+/// The command that writes all shards as a tar archive.
+pub const SHARDS: &str = "shards";
 
 /// The command that prints the index that can be recovered from a disk.
 pub const INDEX: &str = "index";
@@ -114,6 +118,7 @@ pub fn command_line<'a>(alloc: Global) -> Result<Command<'a>, AllocError>
         .subcommand(summary_command(alloc)?)?
         .subcommand(looking_command(alloc, SCAN, SCAN_ABOUT, SCAN_AFTER_HELP)?)?
         .subcommand(shard_command(alloc)?)?
+        .subcommand(looking_command(alloc, SHARDS, SHARDS_ABOUT, SHARDS_AFTER_HELP)?)?
         .subcommand(disk_command(alloc, INDEX, INDEX_ABOUT, INDEX_AFTER_HELP)?)?
         .subcommand(looking_command(alloc, LOCATORS, LOCATORS_ABOUT, LOCATORS_AFTER_HELP)?)?
         .subcommand(manifest_command(alloc)?)?

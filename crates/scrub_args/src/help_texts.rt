@@ -43,7 +43,7 @@ length and digest is there, and an item begins there. The keys of the report:
   doubtful    shards that a lost index run may have changed or deleted: what is known of them may be
               old
   geometry    the sizes of the disk, as they were given or found
-  retired     the extents that the superblock retired, in rising order. They aren't read: extents
+  retired     the extents that the superblock retired, in ascending order. They aren't read: extents
               doesn't list them, and a locator into one dangles
   clean       false if any of the following is found
 
@@ -98,6 +98,35 @@ Exit status:
 Example:
   shardscrub shard --id 00000000000000000000000000000001 examples/one-shard.img > restored";
 
+pub(crate) const SHARDS_ABOUT: &str = "Writes a tar archive of all shards, by one scan";
+
+pub(crate) const SHARDS_AFTER_HELP: &str =
+    "The archive (POSIX ustar) has a file for each shard that the command shard writes, with those bytes, by
+ascending identifier. The identifier, in 32 hexadecimal digits, is its name.
+
+The error stream has these lines, in this order. The archive is written whole all the same:
+  no superblock                   no superblock is valid, so no shard is known
+  run lost: NUMBER STATE          an index run is lost, as the command reclaimable prints it; shards
+                                  that are recorded only there aren't known
+  payload lost: ID NUMBER         the shard ID isn't in the archive: the first locator of its entry
+                                  that dangles without a spare, numbered as by the command shard
+  a newer entry may be lost: ID   the shard ID is in the archive; a lost index run may have a newer entry
+
+The last two come by ascending identifier, one for a shard. The whole archive is made in memory before its
+first byte is written. Status 0 doesn't say that the superblock is the last one: behind a lost superblock
+the bytes may be older ones, and shards may be missing.
+
+Exit status:
+  0  the archive has each shard, and the error stream has no line
+  1  the archive is written, and the error stream has lines
+  2  the arguments or the map are invalid, or no sizes are found
+  3  the image or the map cannot be opened, the image is too long, or the output failed: it may have
+     a part of the archive
+  4  out of memory
+
+Example:
+  shardscrub shards examples/one-shard.img > shards.tar";
+
 pub(crate) const INDEX_ABOUT: &str =
     "Prints the index that can be recovered from the disk, in binary, to be written to a file";
 
@@ -149,7 +178,7 @@ one more line comes directly after its own:
   spare EXTENT OFFSET LENGTH UUID COUNT
           the place, length and UUID of the first spare by extent and offset, and how many there are
 
-The index runs come first, in the order of the superblock. The known shards follow, by rising
+The index runs come first, in the order of the superblock. The known shards follow, by ascending
 identifier, each with its locators in their order. Locators recorded only in a lost run aren't listed.
 
 To find out who names a chunk, look for its extent and offset: an owner is two words, so these are
@@ -175,12 +204,12 @@ pub(crate) const MANIFEST_ABOUT: &str =
 pub(crate) const MANIFEST_AFTER_HELP: &str =
     "The text is made to be kept and compared (cmp, diff). Its lines are in the order of LC_ALL=C sort:
 
-  retired EXTENT ..       the extents that the superblock retired, rising
+  retired EXTENT ..       the extents that the superblock retired, ascending
   runs lost L hidden H    L index runs are lost, and H are read although their locator is hidden: the
                           node's own scan steps over these
   shard ID NUMBER LENGTH DIGEST sound FORM
   shard ID NUMBER LENGTH DIGEST STATUS EXTENT OFFSET UUID SPARE
-                          each locator of each shard, by rising identifier and then in order: the
+                          each locator of each shard, by ascending identifier and then in order: the
                           first form if the locator is sound, else the second
   total S N               how many shards there are, and how many of these lines
 
@@ -199,10 +228,10 @@ line no-superblock. A text without a total line is no manifest. Locators recorde
 aren't listed.
 
 With --reset the text is what it would be if the write pointers of these extents were 0; retired extents
-stay retired. So it shows what a reset would take away before you do it. A sound chunk has no place in
-the text. So the text stays the same when chunks are moved with their frames, except that none may
-become spare, and with --reset for an extent that reclaimable names without a move line, if no line
-there begins with accepted spare.
+stay retired. So it shows before a reset which named chunks the reset would take away. A sound chunk has
+no place in the text: when it is moved with its frame and is sound there, its line stays the same, and
+in lines of other locators none may become spare. With --reset for an extent that reclaimable names
+without a move line the text stays the same, if no line there begins with accepted spare.
 
 Exit status, which follows from the text:
   0  there is a superblock, no run is lost or hidden, and each locator is sound
@@ -390,7 +419,7 @@ pub(crate) const SUPERBLOCKS_ABOUT: &str =
     "Lists the superblock records of extent 0, and its pages that may have held one";
 
 pub(crate) const SUPERBLOCKS_AFTER_HELP: &str =
-    "Pages of extent 0 are listed in rising order, each with the first of these lines that applies:
+    "Pages of extent 0 are listed in ascending order, each with the first of these lines that applies:
 
   lost PAGE                          the page can't be read
   record PAGE KIND GENERATION STATE  a superblock record of a disk of these sizes begins the page
@@ -435,7 +464,7 @@ pub(crate) const SIZES_ABOUT: &str =
 
 pub(crate) const SIZES_AFTER_HELP: &str =
     "The first 67108864 bytes are searched, as extent 0 ends there at the latest. Each superblock record and
-each range of unreadable bytes has one line, in rising order:
+each range of unreadable bytes has one line, in ascending order:
 
   OFFSET KIND GENERATION PAGE PAGES EXTENTS  a record of a disk of these sizes begins at this byte
   lost FROM TO                               the bytes from FROM on, up to TO, can't be read, in

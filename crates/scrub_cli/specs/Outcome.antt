@@ -1,10 +1,11 @@
 -- How a run ends that wrote a whole answer: its exit status, and what it reports on the error stream.
-use Rattle.std.specs.Prelude.{Bool, true, false, ℕ, List, codes}
-use Rattle.std.specs.Io.KnownBytes.{Keeps}
+use Rattle.std.specs.Prelude.{◌≡◌, ◌<◌, ◌++◌, [], Bool, true, false, ℕ, List, codes, length}
+use Rattle.std.specs.Io.KnownBytes.{Appends, Keeps}
 use Rattle.scrub_report.specs.Output.{AppendsFront}
 use Rattle.scrub_cli.specs.declared.process.outcome.Outcome.{Outcome}
-use Rattle.scrub_cli.specs.declared.process.outcome.Outcome.TheVariants.{Clean, Findings, Doubtful}
-use Rattle.scrub_cli.specs.Fault.{line}
+use Rattle.scrub_cli.specs.declared.process.outcome.Outcome.TheVariants.{Clean, Findings, Doubtful, Remarked}
+use Rattle.scrub_cli.specs.declared.process.fault.Fault.TheVariants.{Output}
+use Rattle.scrub_cli.specs.Fault.{line, status_of, text_of}
 use Rattle.scrub_cli.specs.Streams.{Held}
 
 -- the outcome of what is clean, or has findings
@@ -17,19 +18,45 @@ abbrev pub outcome_of_shard : Bool → Outcome
 outcome_of_shard true = Doubtful
 outcome_of_shard false = Clean
 
+-- the outcome of all shards with these lines for the error stream: it is clean if there are none
+abbrev pub IsOutcomeWith : List ℕ → Outcome → Type 0
+IsOutcomeWith lines Clean = lines ≡ []
+IsOutcomeWith lines (Remarked own) = (own.items ≡ lines) × (0 < length lines)
+IsOutcomeWith lines outcome = ⊥
+
 -- the exit status: 0 if all is clean, or else 1
 abbrev pub status_of_outcome : Outcome → ℕ
 status_of_outcome Clean = 0
 status_of_outcome Findings = 1
 status_of_outcome Doubtful = 1
+status_of_outcome (Remarked lines) = 1
 
 -- the line on the error stream after the bytes of a shard whose entry is doubtful
 abbrev pub warning : List ℕ
 warning = line (codes "a newer entry may be lost")
 
--- after its answer a run reports that a newer entry may be lost, or the beginning of that if the error stream failed; or it
--- leaves that stream as it was
+-- after its answer a run reports that a newer entry may be lost, or its lines, or the beginning of that if the error stream failed; or
+-- it leaves that stream as it was
 abbrev pub Warns : Outcome → Held → Type 0
 Warns Clean err = Keeps err.0 err.1
 Warns Findings err = Keeps err.0 err.1
 Warns Doubtful err = AppendsFront err.0 err.1 warning
+Warns (Remarked lines) err = AppendsFront err.0 err.1 lines.items
+
+-- it reports the whole of that
+abbrev pub WarnsWhole : Outcome → Held → Type 0
+WarnsWhole Clean err = Keeps err.0 err.1
+WarnsWhole Findings err = Keeps err.0 err.1
+WarnsWhole Doubtful err = Appends err.0 err.1 warning
+WarnsWhole (Remarked lines) err = Appends err.0 err.1 lines.items
+
+-- the lines that a run reports even if its output fails, before that
+abbrev pub lines_before : Outcome → List ℕ
+lines_before (Remarked lines) = lines.items
+lines_before outcome = []
+
+-- the run ended with the status of an output that failed after this many bytes, and its error stream got these lines and then the
+-- text of that, or the beginning of both if that stream failed
+pub record IsReportedBehind (lines : List ℕ) (count ended : ℕ) (err : Held) : Type 0 where
+  pub status : ended ≡ status_of (Output count)
+  pub text : AppendsFront err.0 err.1 (lines ++ text_of (Output count))

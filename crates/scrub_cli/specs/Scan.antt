@@ -1,4 +1,4 @@
--- What the commands `scan`, `index`, `locators`, `summary` and `reclaimable` answer for an image file, and why they don't.
+-- What the commands `scan`, `index`, `locators`, `shards`, `summary` and `reclaimable` answer for an image file, and why they don't.
 use Rattle.std.specs.Prelude.{◌≡◌, ◌⊎◌, ℕ, List, Bool, Option}
 use Rattle.scrub_disk.specs.declared.geometry.Geometry.{Geometry as Sizes}
 use Rattle.scrub_disk.specs.Image.{Image}
@@ -10,8 +10,10 @@ use Rattle.scrub_listings.specs.Locators.{AreLocatorLines}
 use Rattle.scrub_listings.specs.Summary.{IsSoundImage, IsSummary}
 use Rattle.scrub_reclaim.specs.Doubts.{Acceptance}
 use Rattle.scrub_reclaim.specs.Reclaimable.{AreReclaimLines, IsClear}
+use Rattle.scrub_shard.specs.Archive.{IsArchive}
+use Rattle.scrub_shard.specs.declared.archiving.Remark.{Remark}
 use Rattle.scrub_args.specs.declared.args.Wanted.{Wanted}
-use Rattle.scrub_args.specs.declared.args.Wanted.TheVariants.{Report, Index, Locators, Summary, Reclaimable}
+use Rattle.scrub_args.specs.declared.args.Wanted.TheVariants.{Report, Index, Locators, Shards, Summary, Reclaimable}
 use Rattle.scrub_cli.specs.declared.process.fault.Fault.{Fault}
 use Rattle.scrub_cli.specs.declared.process.fault.Fault.TheVariants.{Geometry, NoSizes, NoMap, MapLine, NoImage, OutOfMemory}
 use Rattle.scrub_cli.specs.declared.process.outcome.Outcome.{Outcome}
@@ -20,7 +22,8 @@ use Rattle.scrub_args.specs.declared.args.ScanArgs.{ScanArgs}
 use Rattle.scrub_cli.specs.DiskImage.{IsLoadedDisk, IsDiskFault}
 use Rattle.scrub_cli.specs.KnownFiles.{KnownMaps, KnownRaw}
 use Rattle.scrub_cli.specs.DiskGeometry.{IsGeometryFault, IsGeometryOf}
-use Rattle.scrub_cli.specs.Outcome.{outcome_of}
+use Rattle.scrub_cli.specs.Outcome.{IsOutcomeWith, outcome_of}
+use Rattle.scrub_cli.specs.Remarks.{remark_lines}
 use Rattle.scrub_report.specs.Scrubbed.{IsCleanImage}
 
 -- the outcome of an image: whether it is clean
@@ -41,24 +44,39 @@ pub record IsOutcomeOfDoubts (image : Image) (accepted : Acceptance) (outcome : 
   pub verdict : IsClear image accepted is_clear
   pub ended : outcome ≡ outcome_of is_clear
 
+-- the text is the archive of all shards of an image
+pub record IsArchiveText (image : Image) (text : List ℕ) : Type 0 where
+  pub remarks : List Remark
+  pub archive : IsArchive image text remarks
+
+-- the outcome of all shards of an image: the lines of what is said beside the archive
+pub record IsOutcomeOfShards (image : Image) (outcome : Outcome) : Type 0 where
+  pub tar : List ℕ
+  pub remarks : List Remark
+  pub archive : IsArchive image tar remarks
+  pub ended : IsOutcomeWith (remark_lines remarks) outcome
+
 -- the lines of doubts that are accepted, and the generation of the last superblock, if it is given
 abbrev pub acceptance : List (List ℕ) → Option ℕ → Acceptance
 acceptance lines last = record { lines = lines; last = last }
 
--- the text is what is wanted of the image: its report, its index, the lines of its named locators, its summary, or the lines
--- of what may be reclaimed
+-- the text is what is wanted of the image: its report, its index, the lines of its named locators, the archive of its shards, its
+-- summary, or the lines of what may be reclaimed
 abbrev pub Tells : Wanted → Image → List ℕ → Type 0
 Tells Report image text = IsReport image text
 Tells Index image text = IsIndex image text
 Tells Locators image text = AreLocatorLines image text
+Tells Shards image text = IsArchiveText image text
 Tells (Summary last) image text = IsSummary last image text
 Tells (Reclaimable lines last) image text = AreReclaimLines image (acceptance lines last) text
 
--- the outcome is that of the image, for a summary that of its verdict, or for what may be reclaimed that of its doubts
+-- the outcome is that of the image, for the archive that of its shards, for a summary that of its verdict, or for what may be
+-- reclaimed that of its doubts
 abbrev pub IsOutcomeOf : Wanted → Image → Outcome → Type 0
 IsOutcomeOf Report image outcome = IsOutcomeOfImage image outcome
 IsOutcomeOf Index image outcome = IsOutcomeOfImage image outcome
 IsOutcomeOf Locators image outcome = IsOutcomeOfImage image outcome
+IsOutcomeOf Shards image outcome = IsOutcomeOfShards image outcome
 IsOutcomeOf (Summary last) image outcome = IsOutcomeOfSummary last image outcome
 IsOutcomeOf (Reclaimable lines last) image outcome = IsOutcomeOfDoubts image (acceptance lines last) outcome
 

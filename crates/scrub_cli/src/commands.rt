@@ -13,4 +13,5 @@ pub(crate) mod manifest;
 pub(crate) mod rescue;
 pub(crate) mod scan;
 pub(crate) mod shard;
+pub(crate) mod shards;
 pub(crate) mod sizes;

@@ -55,22 +55,21 @@ fn write_answer<O: Write, E: Write>(answer: &Answer, out: &mut O, err: &mut E) -
 {
     match write_out(out, &answer.text) {
         Ok(()) => {
-            answer.outcome.warn(err);
+            // If the error stream failed, there is nowhere left to report that.
+            let _ = answer.outcome.warn(err);
             answer.outcome.status()
         }
-        Err(fault) => Fault::Output {
-            written: fault.written,
-        }
-        .end(err),
+        Err(fault) => answer.outcome.end_output(fault.written, err),
     }
 }
 
 /// Runs the command that the arguments name; the program's name isn't one of them. The answer is written to
-/// `out` once all of it is in memory. Help, faults and the warning of `shard` are written to `err`, whose own
-/// failures are ignored.
+/// `out` once all of it is in memory. Help, faults, the warning of `shard` and the lines of `shards` are
+/// written to `err`, whose own failures are ignored.
 ///
-/// The statuses: 0 clean, help or version; 1 findings, or a shard that can't be had; 2 invalid arguments or
-/// map; 3 the map or the image can't be opened, the image is too long, or the output failed; 4 out of memory.
+/// The statuses: 0 clean, help or version; 1 findings, a shard that can't be had, or lines of `shards`; 2
+/// invalid arguments or map; 3 the map or the image can't be opened, the image is too long, or the output
+/// failed; 4 out of memory.
 pub fn run<R: Threads + Wait + Sync, I: Images, O: Write, E: Write>(
     rt: &R,
     alloc: Global,

@@ -1,19 +1,23 @@
 -- The bytes of a shard have the contents that its entry asks for, and a lost payload is nowhere.
-use Rattle.std.proofs.Common.{◌≡◌, ◌⊎◌, ◌<◌, ◌==◌, ◌&&◌, ◌∷◌, [], ℕ, zero, suc, Bool, true, false, List, MatchBool, Some, map, length, get_or, slice_get, nat_lt, if◌then◌else◌, arith, inl, inr, refl, sym, ◌∙◌, ap, subst}
+use Rattle.std.proofs.Common.{◌≡◌, ◌<◌, ◌==◌, ◌&&◌, ◌∷◌, [], ℕ, zero, suc, Bool, true, false, not, List, MatchBool, Some, map, length, get_or, slice_get, nat_lt, if◌then◌else◌, arith, refl, sym, ◌∙◌, ap, subst}
 use Rattle.std.proofs.Math.Path.{ap₂}
-use Rattle.std.specs.List.{All, AllZip, filter}
+use Rattle.std.specs.List.{All, AllZip, Contains, filter}
 use Rattle.std.specs.Str.{bytes_eq}
-use Rattle.std.proofs.lemmas.Bool.{and_parts, eq-eqb}
+use Rattle.std.proofs.lemmas.Bool.{and_parts, eq-eqb, false≢true}
 use Rattle.std.proofs.lemmas.Bool.Decides.{nat_tests}
-use Rattle.std.proofs.lemmas.List.Elements.{All-head, filter_passes}
+use Rattle.std.proofs.lemmas.List.Elements.{All-contains, All-head, filter_passes}
 use Rattle.std.proofs.lemmas.Slice.Eq.{bytes_eq-Decides}
+use Rattle.sha2.specs.Sha256.{sha256}
+use Rattle.scrub_disk.specs.declared.geometry.Geometry.{Geometry}
 use Rattle.scrub_disk.specs.Image.{Image}
 use Rattle.scrub_frame.specs.declared.locator.Locator.{Locator}
+use Rattle.scrub_super.specs.Planned.{extents_in_use}
 use Rattle.scrub_scan.specs.declared.standing.Standing.{Standing}
 use Rattle.scrub_scan.specs.Scanned.{Scanned}
+use Rattle.scrub_scan.specs.Standing.{Stands}
 use Rattle.scrub_run.specs.declared.shard_id.ShardId.{ShardId}
 use Rattle.scrub_merge.specs.Binding.{BindingValue}
-use Rattle.scrub_merge.proofs.Elements.{Contains-filter}
+use Rattle.scrub_frame.proofs.Elements.{Contains-filter}
 use Rattle.scrub_check.specs.declared.named.Named.{Named}
 use Rattle.scrub_check.specs.declared.named.Owner.TheVariants.{Shard}
 use Rattle.scrub_check.specs.declared.statuses.checked.Checked.{Checked}
@@ -21,11 +25,13 @@ use Rattle.scrub_check.specs.Checked.{is_dangling, named_of}
 use Rattle.scrub_check.specs.ChunkRun.{HasPayloadThere}
 use Rattle.scrub_check.specs.Named.{named_by_shard}
 use Rattle.scrub_check.specs.Spares.{asks_for_spares, copies_of, frames, is_copy_of, spares_of}
+use Rattle.scrub_check.specs.WholeScan.{IsWholeScan}
 use Rattle.scrub_listings.specs.Manifest.{is_without_spare}
 use Rattle.scrub_report.proofs.OneReader.{heads, no_tail, tails}
 use Rattle.scrub_shard.specs.Bytes.{BytesValue}
-use Rattle.scrub_shard.specs.Shard.{HasContentOf, HasFirstPayload, HaveContentsOfEntry, IsBoundBy, IsLostInEntry, IsNowhere, IsPayloadFor, IsShardAnswer, first_lost}
+use Rattle.scrub_shard.specs.Shard.{HasContentOf, HasFirstPayload, HaveContentsOfEntry, IsBoundBy, IsLostInEntry, IsMapped, IsNowhere, IsPayloadFor, IsShardAnswer, Mapped, asks_for_nothing, first_lost, is_lost}
 use Rattle.scrub_shard.specs.declared.shard.ShardAnswer.TheVariants.{PayloadLost, Found}
+use Rattle.scrub_shard.proofs.Frames.{frames_stand}
 use Rattle.scrub_shard.proofs.Lost.{first_passes}
 
 -- ---- the contents of a payload
@@ -53,8 +59,17 @@ first_content image l found (s ∷ ss) payload is has =
     filtered : (ts : List Standing) → ts ≡ s ∷ ss → All (λ (t : Standing). is_copy_of l t ≡ true) ts → is_copy_of l s ≡ true
     filtered ts same each = All-head (λ (t : Standing). is_copy_of l t ≡ true) s ss (subst (λ (us : List Standing). All (λ (t : Standing). is_copy_of l t ≡ true) us) same each)
 
+-- no bytes have the content of a locator that asks for none
+of_nothing : (l : Locator) (payload : List ℕ) → asks_for_nothing l ≡ true → payload ≡ [] → HasContentOf l payload
+of_nothing l payload asks none =
+    let parts = and_parts (l.length == 0) (bytes_eq l.digest (sha256 [])) asks in
+    record {
+      length_is = ap (λ (p : List ℕ). length p) none ∙ sym (equal l.length 0 parts.0);
+      digest_is = ap (λ (p : List ℕ). sha256 p) none ∙ sym ((bytes_eq-Decides l.digest (sha256 [])).0 parts.1);
+    }
+
 content : (image : Image) (all : List Scanned) (c : Checked) (payload : List ℕ) → IsPayloadFor image all c payload → HasContentOf c.locator payload
-content image all c payload = by (is_dangling c.status)
+content image all c payload = asked (asks_for_nothing c.locator) refl
   where
     of_spares : (b : Bool) → HasFirstPayload image (if b then copies_of all c.locator else []) payload → HasContentOf c.locator payload
     of_spares true has = first_content image c.locator (frames all) (copies_of all c.locator) payload refl has
@@ -64,6 +79,13 @@ content image all c payload = by (is_dangling c.status)
         HasContentOf c.locator payload
     by true has = of_spares (asks_for_spares c) has
     by false has = record { length_is = sym has.has.frame.length; digest_is = sym has.has.frame.digest }
+
+    asked : (b : Bool) → asks_for_nothing c.locator ≡ b →
+        MatchBool b (payload ≡ [])
+        (MatchBool (is_dangling c.status) (HasFirstPayload image (spares_of all c) payload) (HasPayloadThere image c.locator payload)) →
+        HasContentOf c.locator payload
+    asked true nothing none = of_nothing c.locator payload nothing none
+    asked false some has = by (is_dangling c.status) has
 
 -- ---- the locators of an entry
 
@@ -108,26 +130,62 @@ bytes_are_asked_for image id found x =
       };
     }
 
--- a locator without a spare asks for nothing, or for what is nowhere
-nowhere : (all : List Scanned) (c : Checked) → is_without_spare all c ≡ true → IsNowhere all c.locator
-nowhere all c e = by (nat_lt 0 c.locator.length) refl
+-- all extents in use of an image are scanned
+pub whole_scan : (image : Image) (m : Mapped) → IsMapped image m → IsWholeScan image m.plan m.all
+whole_scan image m x = record {
+  geometry = x.plan.geometry ∙ x.choice.geometry;
+  planned = x.plan.all ∙ ap (λ (g : Geometry). extents_in_use g.extents m.plan.retired) x.choice.geometry;
+  findings = x.all;
+}
+
+-- a chunk of no bytes has the digest of no bytes
+empty_chunk : (image : Image) (s : Standing) → Stands image s → s.length ≡ 0 → s.digest ≡ sha256 []
+empty_chunk image s stands none = stands.has.frame.digest ∙ ap (λ (p : List ℕ). sha256 p) (empty stands.payload (sym stands.has.frame.length ∙ none))
   where
+    empty : (p : List ℕ) → length p ≡ 0 → p ≡ []
+    empty [] e = refl
+    empty (b ∷ bs) e = absurd (omega (arith, e))
+
+flipped : (b : Bool) → not b ≡ true → b ≡ false
+flipped true is = absurd (false≢true is)
+flipped false is = refl
+
+-- a lost payload is nowhere
+nowhere : (image : Image) (all : List Scanned) (c : Checked) → All (Stands image) (frames all) → is_lost all c ≡ true → IsNowhere all c.locator
+nowhere image all c stand e = record {
+  asks = asks;
+  none = λ s among same. by (nat_lt 0 c.locator.length) refl s among same;
+}
+  where
+    parts : (not (asks_for_nothing c.locator) ≡ true) × (is_without_spare all c ≡ true)
+    parts = and_parts (not (asks_for_nothing c.locator)) (is_without_spare all c) e
+
+    some : asks_for_nothing c.locator ≡ false
+    some = flipped (asks_for_nothing c.locator) parts.0
+
+    asks : (c.locator.length ≡ 0) × (c.locator.digest ≡ sha256 []) → ⊥
+    asks same =
+        false≢true
+        (sym some
+        ∙ ap₂ (λ (a b : Bool). a && b) (eq-eqb c.locator.length 0 same.0) ((bytes_eq-Decides c.locator.digest (sha256 [])).1 same.1))
+
     dangles : is_dangling c.status ≡ true
-    dangles = (and_parts (is_dangling c.status) (length (spares_of all c) == 0) e).0
+    dangles = (and_parts (is_dangling c.status) (length (spares_of all c) == 0) parts.1).0
 
-    none : length (spares_of all c) ≡ 0
-    none = equal (length (spares_of all c)) 0 (and_parts (is_dangling c.status) (length (spares_of all c) == 0) e).1
+    none_left : length (spares_of all c) ≡ 0
+    none_left = equal (length (spares_of all c)) 0 (and_parts (is_dangling c.status) (length (spares_of all c) == 0) parts.1).1
 
-    by : (b : Bool) → nat_lt 0 c.locator.length ≡ b → IsNowhere all c.locator
-    by false small = inl (grind (arith, nat_tests))
-    by true some =
-        let asks : asks_for_spares c ≡ true = ap₂ (λ (a b : Bool). a && b) dangles some in
-        let spares_are : spares_of all c ≡ copies_of all c.locator = ap (λ (b : Bool). if b then copies_of all c.locator else []) asks in
-        inr
-        (λ s among same.
+    by : (b : Bool) → nat_lt 0 c.locator.length ≡ b → (s : Standing) → Contains (frames all) s →
+        (s.length ≡ c.locator.length) × (s.digest ≡ c.locator.digest) → ⊥
+    by false small s among same =
+        let zero_long : c.locator.length ≡ 0 = grind (arith, nat_tests) in
+        asks (zero_long, sym same.1 ∙ empty_chunk image s (All-contains (Stands image) (frames all) s stand among) (same.0 ∙ zero_long))
+    by true long s among same =
+        let asks_some : asks_for_spares c ≡ true = ap₂ (λ (a b : Bool). a && b) dangles long in
+        let spares_are : spares_of all c ≡ copies_of all c.locator = ap (λ (b : Bool). if b then copies_of all c.locator else []) asks_some in
         let there = Contains-filter (is_copy_of c.locator) (frames all) s (copy_from c.locator s same) among in
-        let size : length (copies_of all c.locator) ≡ 0 = ap (λ (ss : List Standing). length ss) (sym spares_are) ∙ none in
-        omega (arith, there.1, size))
+        let size : length (copies_of all c.locator) ≡ 0 = ap (λ (ss : List Standing). length ss) (sym spares_are) ∙ none_left in
+        omega (arith, there.1, size)
 
 pub lost_is_nowhere : (image : Image) (id : ShardId) (number : ℕ) → IsShardAnswer image id (PayloadLost number) → IsLostInEntry image id number
 lost_is_nowhere image id number x =
@@ -135,6 +193,9 @@ lost_is_nowhere image id number x =
     let of_entry = x.answer.2 in
     by b of_entry.own of_entry.checked.same x.answer.1 of_entry.answer
   where
+    stand : All (Stands image) (frames x.found.all)
+    stand = frames_stand image x.found.plan x.found.all (whole_scan image x.found x.mapped)
+
     by : (b : BindingValue) (own : List Checked) → map named_of own ≡ named_by_shard b → IsBoundBy x.found.bindings id b →
         first_lost x.found.all own ≡ Some number → IsLostInEntry image id number
     by b [] same bound first = absurd (none_there first)
@@ -142,7 +203,7 @@ lost_is_nowhere image id number x =
         none_there : first_lost x.found.all [] ≡ Some number → ⊥
         none_there e = cc
     by b (c ∷ cs) same bound first =
-        let at = first_passes (is_without_spare x.found.all) (c ∷ cs) number c first in
+        let at = first_passes (is_lost x.found.all) (c ∷ cs) number c first in
         record {
           found = x.found;
           mapped = x.mapped;
@@ -150,5 +211,5 @@ lost_is_nowhere image id number x =
           bound = bound;
           locator = (get_or (c ∷ cs) number c).locator;
           is = named_there b.id (c ∷ cs) b.locators number c same at.0;
-          nowhere = nowhere x.found.all (get_or (c ∷ cs) number c) at.1;
+          nowhere = nowhere image x.found.all (get_or (c ∷ cs) number c) stand at.1;
         }

@@ -4,3 +4,8 @@ mod Lost
 mod Answered
 mod OneAnswer
 mod Contents
+mod TarHeaders
+mod Archives
+mod OneArchive
+mod EachShard
+mod Existing

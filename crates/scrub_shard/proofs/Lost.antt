@@ -20,9 +20,8 @@ use Rattle.scrub_check.specs.Spares.{AreSpares, asks_for_spares, copies_of, fram
 use Rattle.scrub_check.specs.Status.{HasStatusIn}
 use Rattle.scrub_check.specs.WholeScan.{IsWholeScan}
 use Rattle.scrub_check.proofs.Payloads.{stands_there}
-use Rattle.scrub_listings.specs.Manifest.{is_without_spare}
-use Rattle.scrub_shard.specs.Shard.{first_lost}
-use Rattle.scrub_shard.specs.steps.Payloads.{AreReadable, HasPayloadLeft, is_lost_by}
+use Rattle.scrub_shard.specs.Shard.{asks_for_nothing, first_lost, is_lost}
+use Rattle.scrub_shard.specs.steps.Payloads.{AreReadable, CanBeRead, HasPayloadLeft, is_lost_by}
 use Rattle.scrub_shard.proofs.Frames.{frames_stand}
 use Rattle.scrub_shard.proofs.Joined.{HasItsSpares}
 
@@ -70,8 +69,11 @@ module _ (all : List Scanned) (found : List Standing) (own : List Checked) where
   -- so the first lost one is the same by them
   pub same_lost : All (HasItsSpares all found) own → position (is_lost_by found) own ≡ first_lost all own
   same_lost same =
-      firsts_agree (is_lost_by found) (is_without_spare all) own
-      (λ k d below. ap (λ (ss : List Standing). is_dangling (get_or own k d).status && (length ss == 0)) (same k d below))
+      firsts_agree (is_lost_by found) (is_lost all) own
+      (λ k d below.
+      ap
+      (λ (ss : List Standing). not (asks_for_nothing (get_or own k d).locator) && (is_dangling (get_or own k d).status && (length ss == 0)))
+      (same k d below))
 
 -- a locator that doesn't dangle is sound or hidden
 not_dangling : (s : Status) → is_dangling s ≡ false → (s ≡ Sound) ⊎ (s ≡ Hidden)
@@ -97,9 +99,8 @@ spares_stand image plan all c whole = by (asks_for_spares c)
 
 -- a locator that isn't lost can be read
 pub can_be_read : (image : Image) (plan : PlanValue) (all : List Scanned) (found : List Standing) (c : Checked) →
-    IsWholeScan image plan all → HasStatusIn image plan c.locator c.status → HasItsSpares all found c → is_lost_by found c ≡ false →
-    HasPayloadLeft image found c
-can_be_read image plan all found c whole status same kept = by (is_dangling c.status) refl kept
+    IsWholeScan image plan all → HasStatusIn image plan c.locator c.status → HasItsSpares all found c → CanBeRead image found c
+can_be_read image plan all found c whole status same = asked (asks_for_nothing c.locator)
   where
     some : (ss : List Standing) → (length ss == 0) ≡ false → 0 < length ss
     some [] e = absurd (false≢true (sym e))
@@ -113,10 +114,19 @@ can_be_read image plan all found c whole status same kept = by (is_dangling c.st
     }
     by false dangling e = stands_there image plan c.locator c.status (not_dangling c.status dangling) status
 
--- so each can if none is lost
+    asked : (b : Bool) → (not b && (is_dangling c.status && (length (spares_by found c) == 0))) ≡ false →
+        MatchBool b (Unit {0})
+        (MatchBool (is_dangling c.status) (AreReadable image (spares_by found c)) (StandsThere image c.locator))
+    asked true kept = tt
+    asked false kept = by (is_dangling c.status) refl kept
+
+-- so is each of an entry, or of several
 pub all_can_be_read : (image : Image) (plan : PlanValue) (all : List Scanned) (found : List Standing) (own : List Checked) →
-    IsWholeScan image plan all → HaveStatuses image plan own → All (HasItsSpares all found) own →
-    position (is_lost_by found) own ≡ None → All (HasPayloadLeft image found) own
-all_can_be_read image plan all found own whole statuses same none k d below =
+    IsWholeScan image plan all → HaveStatuses image plan own → All (HasItsSpares all found) own → All (CanBeRead image found) own
+all_can_be_read image plan all found own whole statuses same k d below =
     can_be_read image plan all found (get_or own k d) whole (statuses k d below) (same k d below)
-    (none_passes (is_lost_by found) own none k d below)
+
+-- and each has a payload left if none is lost
+pub all_left : (image : Image) (found : List Standing) (own : List Checked) → All (CanBeRead image found) own →
+    position (is_lost_by found) own ≡ None → All (HasPayloadLeft image found) own
+all_left image found own readable none k d below = readable k d below (none_passes (is_lost_by found) own none k d below)

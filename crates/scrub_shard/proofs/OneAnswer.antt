@@ -27,7 +27,7 @@ use Rattle.scrub_check.proofs.Payloads.{one_payload}
 use Rattle.scrub_report.proofs.OneIndex.{one_list_of_checked, one_list_of_runs, read_runs_are_runs}
 use Rattle.scrub_report.proofs.OneReader.{one_plan, one_reader}
 use Rattle.scrub_shard.specs.Bytes.{BytesValue}
-use Rattle.scrub_shard.specs.Shard.{AreBytesFor, HasFirstPayload, IsAnswerBy, IsAnswerIn, IsAnswerOf, IsBoundBy, IsMapped, IsPayloadFor, IsShardAnswer, Mapped}
+use Rattle.scrub_shard.specs.Shard.{AreBytesFor, HasFirstPayload, IsAnswerBy, IsAnswerIn, IsAnswerOf, IsBoundBy, IsMapped, IsPayloadFor, IsShardAnswer, Mapped, asks_for_nothing}
 use Rattle.scrub_shard.specs.declared.shard.ShardAnswer.{ShardAnswer}
 use Rattle.scrub_shard.specs.declared.shard.ShardAnswer.TheVariants.{NoSuchShard, PayloadLost, Found}
 
@@ -93,12 +93,20 @@ one_first image (s ∷ ss) a b x y =
     (one_frame_at (extent_of image s.extent (extent_bytes image.geometry)) s.offset s.form s.uuid a s.form s.uuid b x.frame.frame y.frame.frame).2
 
 one_payload_for : (image : Image) (all : List Scanned) (c : Checked) (a b : List ℕ) → IsPayloadFor image all c a → IsPayloadFor image all c b → a ≡ b
-one_payload_for image all c a b = by (is_dangling c.status)
+one_payload_for image all c a b = asked (asks_for_nothing c.locator)
   where
     by : (t : Bool) → MatchBool t (HasFirstPayload image (spares_of all c) a) (HasPayloadThere image c.locator a) →
         MatchBool t (HasFirstPayload image (spares_of all c) b) (HasPayloadThere image c.locator b) → a ≡ b
     by true x y = one_first image (spares_of all c) a b x y
     by false x y = one_payload image c.locator a b x y
+
+    asked : (t : Bool) →
+        MatchBool t (a ≡ [])
+        (MatchBool (is_dangling c.status) (HasFirstPayload image (spares_of all c) a) (HasPayloadThere image c.locator a)) →
+        MatchBool t (b ≡ [])
+        (MatchBool (is_dangling c.status) (HasFirstPayload image (spares_of all c) b) (HasPayloadThere image c.locator b)) → a ≡ b
+    asked true x y = x ∙ sym y
+    asked false x y = by (is_dangling c.status) x y
 
 one_list : (image : Image) (all : List Scanned) (own : List Checked) (ps qs : List (List ℕ)) → AllZip (IsPayloadFor image all) own ps →
     AllZip (IsPayloadFor image all) own qs → ps ≡ qs

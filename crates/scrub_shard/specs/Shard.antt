@@ -1,6 +1,7 @@
 -- The bytes of a shard: the payloads of the locators of its entry in the shard map, one directly after another.
-use Rattle.std.specs.Prelude.{◌≡◌, ◌<◌, ◌==◌, ◌⊎◌, ℕ, Bool, true, List, [], ◌∷◌, Option, None, Some, MatchBool, Contains, length, slice_get}
+use Rattle.std.specs.Prelude.{◌≡◌, ◌==◌, ◌&&◌, ℕ, Bool, List, [], ◌∷◌, Option, None, Some, MatchBool, Contains, length, not, slice_get}
 use Rattle.std.specs.List.{AllZip, flat_map, position}
+use Rattle.std.specs.Str.{bytes_eq}
 use Rattle.sha2.specs.Sha256.{sha256}
 use Rattle.scrub_disk.specs.Image.{Image}
 use Rattle.scrub_frame.specs.declared.locator.Locator.{Locator}
@@ -53,16 +54,21 @@ IsUnbound bindings id = (b : BindingValue) → ¬ IsBoundBy bindings id b
 
 -- ---- the payloads
 
+-- the locator asks for no bytes: its length is 0, and its digest is that of no bytes
+abbrev pub asks_for_nothing : Locator → Bool
+asks_for_nothing l = l.length == 0 && bytes_eq l.digest (sha256 [])
+
 -- the payload of the first of some spares
 abbrev pub HasFirstPayload : Image → List Standing → List ℕ → Type 0
 HasFirstPayload image [] payload = ⊥
 HasFirstPayload image (s ∷ ss) payload = HasPayload image s payload
 
--- the payload for a locator with these spares: that of its chunk if the locator is sound or hidden, or else that of its
--- first spare
+-- the payload for a locator with these spares: no bytes if it asks for none; or else that of its chunk if the locator is sound or
+-- hidden, or that of its first spare
 abbrev pub IsPayloadOf : Image → List Standing → Checked → List ℕ → Type 0
 IsPayloadOf image spares c payload =
-    MatchBool (is_dangling c.status) (HasFirstPayload image spares payload) (HasPayloadThere image c.locator payload)
+    MatchBool (asks_for_nothing c.locator) (payload ≡ [])
+    (MatchBool (is_dangling c.status) (HasFirstPayload image spares payload) (HasPayloadThere image c.locator payload))
 
 -- the payload for a locator, by the spares that it has
 abbrev pub IsPayloadFor : Image → List Scanned → Checked → List ℕ → Type 0
@@ -74,9 +80,13 @@ pub record AreBytesFor (image : Image) (all : List Scanned) (own : List Checked)
   pub each : AllZip (IsPayloadFor image all) own payloads
   pub joined : bytes ≡ flat_map (λ payload. payload) payloads
 
--- the number of the first locator that dangles and has no spare, from 0
+-- the payload for a locator is lost: it asks for bytes, dangles and has no spare
+abbrev pub is_lost : List Scanned → Checked → Bool
+is_lost all c = not (asks_for_nothing c.locator) && is_without_spare all c
+
+-- the number of the first locator whose payload is lost, from 0
 abbrev pub first_lost : List Scanned → List Checked → Option ℕ
-first_lost all own = position (is_without_spare all) own
+first_lost all own = position (is_lost all) own
 
 -- ---- the answer
 
@@ -129,11 +139,13 @@ pub record HaveContentsOfEntry (image : Image) (id : ShardId) (bytes : List ℕ)
   pub bound : IsBoundBy found.bindings id entry
   pub contents : HaveContentsOf entry.locators bytes
 
--- the locator asks for nothing, or no chunk in the tilings of the scanned extents has what it asks for
-abbrev pub IsNowhere : List Scanned → Locator → Type 0
-IsNowhere all l = (l.length ≡ 0) ⊎ ((s : Standing) → Contains (frames all) s → (s.length ≡ l.length) × (s.digest ≡ l.digest) → ⊥)
+-- the locator asks for bytes, or for a digest that isn't that of no bytes; and no chunk in the tilings of the scanned extents
+-- has the length and the digest that it asks for
+pub record IsNowhere (all : List Scanned) (l : Locator) : Type 0 where
+  pub asks : (l.length ≡ 0) × (l.digest ≡ sha256 []) → ⊥
+  pub none : (s : Standing) → Contains (frames all) s → (s.length ≡ l.length) × (s.digest ≡ l.digest) → ⊥
 
--- the locator of this number in the entry of the shard asks for nothing, or for what no chunk in a tiling has
+-- the locator of this number in the entry of the shard asks for what no chunk in a tiling has
 pub record IsLostInEntry (image : Image) (id : ShardId) (number : ℕ) : Type 0 where
   pub found : Mapped
   pub mapped : IsMapped image found

@@ -1,2 +1,3 @@
 -- Steps of the code.
 pub mod Payloads
+pub mod Archive

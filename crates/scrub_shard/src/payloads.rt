@@ -1,19 +1,29 @@
 //! The payloads for the locators of a shard: each from the locator's own place, or else from its first spare.
+//! An empty payload is read nowhere.
 
 ghost use Rattle.std.specs.Prelude.{◌≡◌, All, IfOk};
 ghost use Rattle.std.specs.List.{position};
+ghost use Rattle.scrub_shard.specs.Shard.{asks_for_nothing};
 ghost use Rattle.scrub_shard.specs.steps.Payloads.{AreBytesBy, HasPayloadLeft, IsPayloadBy, is_lost_by};
 
 use scrub_check::{Checked, Spares, payload_at};
 use scrub_disk::{OutOfMemory, PageSource};
+use scrub_frame::{Locator, digest_of};
 use scrub_scan::read_payload;
 use std::alloc::Global;
 
-/// Whether no payload is left for a locator: it dangles, and has no spare.
+/// Whether a locator asks for no bytes: its length is 0, and its digest is that of no bytes.
+fn asks_for_nothing(locator: &Locator) -> bool
+    ensures { result ≡ asks_for_nothing locator.now }
+{
+    locator.length == 0 && locator.digest == digest_of(&[])
+}
+
+/// Whether no payload is left for a locator: it asks for bytes, dangles, and has no spare.
 fn is_lost(spares: &Spares, one: &Checked) -> bool
     ensures { result ≡ is_lost_by spares.now one.now }
 {
-    one.status.is_dangling() && spares.of_one(one).is_empty()
+    !asks_for_nothing(&one.locator) && one.status.is_dangling() && spares.of_one(one).is_empty()
 }
 
 /// The number of the first locator without a payload, if there is one.
@@ -23,8 +33,8 @@ pub(crate) fn first_lost(spares: &Spares, own: &[Checked]) -> Option<usize>
     own.iter().position(|one| is_lost(spares, one))
 }
 
-/// The payload for a locator: that of its chunk if the locator is sound or hidden, or else that of its first
-/// spare.
+/// The payload for a locator: no bytes if it asks for none; or else that of its chunk if the locator is sound
+/// or hidden, or that of its first spare.
 fn payload_for<D: PageSource>(
     alloc: Global,
     disk: &D,
@@ -34,6 +44,9 @@ fn payload_for<D: PageSource>(
     requires { HasPayloadLeft (D.image disk.now) spares.now one.now }
     ensures { IfOk result (λ payload. IsPayloadBy (D.image disk.now) spares.now one.now payload.items) }
 {
+    if asks_for_nothing(&one.locator) {
+        return Ok(Vec::new(alloc));
+    }
     if !one.status.is_dangling() {
         return payload_at(alloc, disk, &one.locator);
     }

@@ -1,6 +1,6 @@
 //! Reads one shard of a disk: its entry in the shard map, and the payloads for the locators of that entry.
 
-ghost use Rattle.std.specs.Prelude.{◌≡◌, ◌≤◌, IfOk, List, ℕ};
+ghost use Rattle.std.specs.Prelude.{◌≡◌, ◌≤◌, All, IfOk, List, ℕ};
 ghost use Rattle.scrub_disk.specs.Image.{Image};
 ghost use Rattle.scrub_run.specs.declared.shard_id.ShardId.{ShardId};
 ghost use Rattle.scrub_check.specs.Named.{named_by_shard};
@@ -9,11 +9,12 @@ ghost use Rattle.scrub_report.specs.Answer.{AreTakingsBy};
 ghost use Rattle.scrub_report.specs.Parts.{IsScan};
 ghost use Rattle.scrub_shard.specs.Bytes.{BytesValue};
 ghost use Rattle.scrub_shard.specs.Shard.{HaveContentsOfEntry, IsAnswerOf, IsLostInEntry, IsShardAnswer};
+ghost use Rattle.scrub_shard.specs.steps.Payloads.{CanBeRead, IsAnswerWith};
 ghost use Rattle.scrub_shard.specs.declared.shard.ShardAnswer.{ShardAnswer};
 ghost use Rattle.scrub_shard.specs.declared.shard.ShardAnswer.TheVariants.{Found, PayloadLost};
 
 use crate::payloads::{bytes_for, first_lost};
-use scrub_check::{Named, Spares, check_all, name_shard, read_all_runs};
+use scrub_check::{Checked, Named, Spares, check_all, name_shard, read_all_runs};
 use scrub_disk::{OutOfMemory, PageSource};
 use scrub_merge::{Binding, merge_by_threads};
 use scrub_pool::{Gate, Takings};
@@ -50,6 +51,13 @@ impl ShardBytes {
         self.is_doubtful
     }
 
+    /// The bytes.
+    pub fn bytes(&self) -> &[u8]
+        ensures { result.now ≡ self.now.bytes }
+    {
+        self.bytes.as_slice()
+    }
+
     /// The bytes, handed out.
     pub fn into_bytes(self) -> Vec<u8>
         ensures { result.items ≡ self.bytes }
@@ -63,8 +71,8 @@ impl ShardBytes {
 pub enum ShardAnswer {
     /// The shard map has no such shard: its newest readable entry says deleted, or no readable run has one.
     NoSuchShard,
-    /// The locator of this number, from 0 in the order of the entry, dangles and has no spare. It is the
-    /// first such.
+    /// The payload for the locator of this number, from 0 in the order of the entry, is lost: the locator asks
+    /// for bytes, dangles and has no spare. It is the first such.
     PayloadLost(usize),
     /// The payloads of all its locators.
     Found(ShardBytes),
@@ -79,7 +87,27 @@ fn own_locators(alloc: Global, binding: &Binding) -> Result<Vec<Named>, OutOfMem
     Ok(own)
 }
 
-/// The answer by an entry of the shard map. No payload is read unless each locator has one.
+/// The answer by the locators of an entry. No payload is read unless each locator has one.
+pub(crate) fn answer_by<D: PageSource>(
+    alloc: Global,
+    disk: &D,
+    spares: &Spares,
+    own: &[Checked],
+    is_doubtful: bool,
+) -> Result<ShardAnswer, OutOfMemory>
+    requires { All (CanBeRead (D.image disk.now) spares.now) own.now }
+    ensures { IfOk result (IsAnswerWith (D.image disk.now) spares.now is_doubtful own.now) }
+{
+    match first_lost(spares, own) {
+        Some(number) => Ok(ShardAnswer::PayloadLost(number)),
+        None => Ok(ShardAnswer::Found(ShardBytes {
+            bytes: bytes_for(alloc, disk, spares, own)?,
+            is_doubtful,
+        })),
+    }
+}
+
+/// The answer by an entry of the shard map.
 fn entry_answer<R: Threads + Sync, D: PageSource>(
     rt: &R,
     alloc: Global,
@@ -94,13 +122,7 @@ fn entry_answer<R: Threads + Sync, D: PageSource>(
     let names = own_locators(alloc, binding)?;
     let own = check_all(rt, alloc, disk, plan, all, &names)?;
     let spares = Spares::of(alloc, all, &own)?;
-    match first_lost(&spares, &own) {
-        Some(number) => Ok(ShardAnswer::PayloadLost(number)),
-        None => Ok(ShardAnswer::Found(ShardBytes {
-            bytes: bytes_for(alloc, disk, &spares, &own)?,
-            is_doubtful: binding.doubtful(),
-        })),
-    }
+    answer_by(alloc, disk, &spares, &own, binding.doubtful())
 }
 
 /// The answer for a shard of a scanned disk.
@@ -161,9 +183,14 @@ pub fn bytes_are_as_the_entry_says()
         HaveContentsOfEntry image id found.bytes }
 {}
 
-/// A law: if the payload for a locator is lost, the locator's length is 0, or no chunk in the tiling of an
-/// extent in use has its length and SHA-256.
+/// A law: if the payload for a locator is lost, its length and SHA-256 aren't those of no bytes, and no chunk in
+/// the tiling of an extent in use has them.
 pub fn a_lost_payload_is_nowhere()
     ensures { (image : Image) (id : ShardId) (number : ℕ) → IsShardAnswer image id (PayloadLost number) →
         IsLostInEntry image id number }
+{}
+
+/// A law: there is an answer for each shard of an image. With `one_shard_answer`, there is exactly one.
+pub fn each_shard_has_an_answer()
+    ensures { (image : Image) (id : ShardId) → (a : ShardAnswer) × IsShardAnswer image id a }
 {}

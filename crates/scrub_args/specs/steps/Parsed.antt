@@ -93,7 +93,8 @@ abbrev pub is_disk_command : Text → Bool
 is_disk_command name =
     bytes_eq name (codes "scan") || (bytes_eq name (codes "index")
     || (bytes_eq name (codes "locators")
-    || (bytes_eq name (codes "summary") || bytes_eq name (codes "reclaimable"))))
+    || (bytes_eq name (codes "shards")
+    || (bytes_eq name (codes "summary") || bytes_eq name (codes "reclaimable")))))
 
 -- whether the command is one of them to which the generation of the last superblock can be given
 abbrev pub is_dated_command : Text → Bool

@@ -14,6 +14,7 @@ ghost use Rattle.scrub_cli.specs.Scan.{IsDiskAnswer, acceptance};
 ghost use Rattle.scrub_cli.specs.SizesListed.{AreSizesListed};
 ghost use Rattle.scrub_cli.specs.Superblock.{AreSuperblocksListed};
 
+use crate::commands::shards::shards;
 use crate::process::outcome::Outcome;
 use scrub_args::{AcceptedDoubts, VERSION, Wanted};
 use scrub_disk::{OutOfMemory, PageSource, RawImage};
@@ -29,7 +30,7 @@ use std::thread::Threads;
 /// The whole answer of a command, in memory.
 #[derive(Drop)]
 pub struct Answer {
-    /// The bytes for the output: lines, each with its line feed, or an index.
+    /// The bytes for the output: lines, each with its line feed, an index, a shard or an archive.
     pub text: Vec<u8>,
     /// How the run ends once all of it is written.
     pub outcome: Outcome,
@@ -138,6 +139,7 @@ pub fn disk_answer<R: Threads + Wait + Sync, D: PageSource>(
             let (listing, takings) = list_locators(rt, alloc, disk, workers, &NoGate)?;
             Ok((Answer::new(listing.text, listing.is_clean), takings))
         }
+        Wanted::Shards => shards(rt, alloc, disk, workers),
         Wanted::Summary(last) => {
             let (summary, takings) = list_summary(rt, alloc, disk, workers, &NoGate, *last)?;
             Ok((Answer::new(summary.text, summary.is_clean), takings))

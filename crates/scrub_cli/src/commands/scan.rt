@@ -1,5 +1,5 @@
-//! The commands on a whole disk in an image file: `scan`, `index`, `locators`, `summary` and `reclaimable`,
-//! which scan it, and `superblocks`, which reads its extent 0. For `manifest` see `manifest`.
+//! The commands on a whole disk in an image file: `scan`, `index`, `locators`, `shards`, `summary` and
+//! `reclaimable`, which scan it, and `superblocks`, which reads its extent 0. For `manifest` see `manifest`.
 
 ghost use Rattle.std.specs.Prelude.{◌≤◌, IfOk, MatchResult};
 ghost use Rattle.scrub_disk.specs.Parted.{image_of};

@@ -1,7 +1,7 @@
 //! Raw images and maps in files of the system. Contracts don't say what a file holds, only how often an image
 //! was read and how often that failed.
 
-ghost use Rattle.std.specs.Prelude.{◌≡◌, ◌↔◌, ◌⊎◌, ◌*◌, ◌≤◌, ◌^◌, IsTrue, None};
+ghost use Rattle.std.specs.Prelude.{◌≡◌, ◌↔◌, ◌⊎◌, ◌*◌, ◌≤◌, ◌^◌, IfSome, IsTrue, None, length};
 ghost use Rattle.scrub_cli.specs.FileKind.{IsBlockDevice, IsRegularFile};
 ghost use Rattle.scrub_cli.specs.KnownFiles.{file, map_file};
 
@@ -41,6 +41,24 @@ impl FileImage {
     }
 }
 
+/// How many tries a read gets if signals interrupt it.
+const TRIES: u32 = 8;
+
+/// Reads from a file, from a byte offset on, into the front of `out`, and returns how many bytes. A read that
+/// a signal interrupts is tried again.
+fn read_again(file: &File, out: &mut [u8], offset: u64) -> Option<usize>
+    ensures { IfSome result (λ count. count ≤ length out.new) }
+{
+    for _ in 0..TRIES {
+        match file.read_at(out, offset) {
+            Ok(count) => return Some(count),
+            Err(error) if error.kind() == ErrorKind::Interrupted => {}
+            Err(_) => return None,
+        }
+    }
+    None
+}
+
 impl RawImage for FileImage {
     ghost bytes = { λ _. None };
 
@@ -56,9 +74,9 @@ impl RawImage for FileImage {
 
     fn read_at(&mut self, offset: u64, out: &mut [u8]) -> Result<usize, RawFault> {
         self.reads += 1;
-        match self.file.read_at(out, offset) {
-            Ok(count) => Ok(count),
-            Err(_) => {
+        match read_again(&self.file, out, offset) {
+            Some(count) => Ok(count),
+            None => {
                 self.failures += 1;
                 Err(RawFault)
             }

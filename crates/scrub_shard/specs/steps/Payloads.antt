@@ -1,6 +1,6 @@
 -- Steps of the code: payloads by the spares that were found.
-use Rattle.std.specs.Prelude.{◌≡◌, ◌<◌, ◌==◌, ◌&&◌, ℕ, Bool, List, MatchBool, All, length}
-use Rattle.std.specs.List.{AllZip, flat_map}
+use Rattle.std.specs.Prelude.{◌≡◌, ◌<◌, ◌==◌, ◌&&◌, ℕ, Bool, false, List, None, Some, MatchBool, All, length, not}
+use Rattle.std.specs.List.{AllZip, flat_map, position}
 use Rattle.scrub_disk.specs.Image.{Image}
 use Rattle.scrub_scan.specs.declared.standing.Standing.{Standing}
 use Rattle.scrub_scan.specs.Standing.{Stands}
@@ -8,20 +8,28 @@ use Rattle.scrub_check.specs.declared.statuses.checked.Checked.{Checked}
 use Rattle.scrub_check.specs.Checked.{is_dangling}
 use Rattle.scrub_check.specs.ChunkRun.{StandsThere}
 use Rattle.scrub_check.specs.Spares.{spares_by}
-use Rattle.scrub_shard.specs.Shard.{IsPayloadOf}
+use Rattle.scrub_shard.specs.Shard.{IsPayloadOf, asks_for_nothing}
+use Rattle.scrub_shard.specs.declared.shard.ShardAnswer.{ShardAnswer}
+use Rattle.scrub_shard.specs.declared.shard.ShardAnswer.TheVariants.{NoSuchShard, PayloadLost, Found}
 
--- a locator dangles, and has no spare among these chunks
+-- a locator asks for bytes, dangles, and has no spare among these chunks
 abbrev pub is_lost_by : List Standing → Checked → Bool
-is_lost_by found c = is_dangling c.status && length (spares_by found c) == 0
+is_lost_by found c = not (asks_for_nothing c.locator) && (is_dangling c.status && length (spares_by found c) == 0)
 
 -- spares that can be read, at least one
 pub record AreReadable (image : Image) (spares : List Standing) : Type 0 where
   pub some : 0 < length spares
   pub stand : All (Stands image) spares
 
--- a payload is left for the locator: its chunk is there, or it has spares among these chunks
+-- a payload is left for the locator: it asks for no bytes, its chunk is there, or it has spares among these chunks
 abbrev pub HasPayloadLeft : Image → List Standing → Checked → Type 0
-HasPayloadLeft image found c = MatchBool (is_dangling c.status) (AreReadable image (spares_by found c)) (StandsThere image c.locator)
+HasPayloadLeft image found c =
+    MatchBool (asks_for_nothing c.locator) (Unit {0})
+    (MatchBool (is_dangling c.status) (AreReadable image (spares_by found c)) (StandsThere image c.locator))
+
+-- a payload is left for the locator unless it is lost
+abbrev pub CanBeRead : Image → List Standing → Checked → Type 0
+CanBeRead image found c = is_lost_by found c ≡ false → HasPayloadLeft image found c
 
 -- the payload for a locator, by the spares among these chunks
 abbrev pub IsPayloadBy : Image → List Standing → Checked → List ℕ → Type 0
@@ -32,3 +40,10 @@ pub record AreBytesBy (image : Image) (found : List Standing) (own : List Checke
   pub payloads : List (List ℕ)
   pub each : AllZip (IsPayloadBy image found) own payloads
   pub joined : bytes ≡ flat_map (λ payload. payload) payloads
+
+-- the answer by the locators of an entry, by the spares among these chunks
+abbrev pub IsAnswerWith : Image → List Standing → Bool → List Checked → ShardAnswer → Type 0
+IsAnswerWith image found doubtful own NoSuchShard = ⊥
+IsAnswerWith image found doubtful own (PayloadLost number) = position (is_lost_by found) own ≡ Some number
+IsAnswerWith image found doubtful own (Found bytes) =
+    (position (is_lost_by found) own ≡ None) × AreBytesBy image found own bytes.bytes × (bytes.is_doubtful ≡ doubtful)

@@ -6,7 +6,7 @@ pub returns-in-Ok : goal.returns-in-Ok
 returns-in-Ok g c = inl (record {
   status = c.status.ensures;
   whole = rw c.deref.ensures.value at c.in-Ok.ensures.whole;
-  warns = c.warn.ensures;
+  warns = c.warn.ensures.front;
 })
 
 pub returns-in-Err : goal.returns-in-Err
@@ -14,5 +14,5 @@ returns-in-Err g c = inr (record {
   count = c.in-Err.fault.written;
   short = rw c.deref.ensures.value at c.in-Err.ensures.short;
   part = rw c.deref.ensures.value at c.in-Err.ensures.part;
-  reported = c.end.ensures;
+  reported = c.end_output.ensures;
 })

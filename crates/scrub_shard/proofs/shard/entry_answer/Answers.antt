@@ -1,28 +1,32 @@
--- A payload is lost, or all of them are read.
-use Rattle.std.proofs.Common.{◌≡◌, ◌∙◌, List, sym, subst}
-use Rattle.scrub_check.specs.declared.statuses.checked.Checked.{Checked}
-use Rattle.scrub_check.specs.Spares.{AreSpares}
-use Rattle.scrub_shard.specs.steps.Payloads.{AreBytesBy, HasPayloadLeft}
-use Rattle.scrub_shard.proofs.Answered.{can_be_read, found_answer, lost_answer}
+-- The locators of the entry have the spares that were found for them.
+use Rattle.std.proofs.Common.{◌≡◌, ◌∙◌, List, subst}
+use Rattle.std.proofs.lemmas.Result.{IfOk-weaker}
+use Rattle.scrub_check.specs.declared.named.Named.{Named}
+use Rattle.scrub_check.specs.Checked.{AreChecked}
+use Rattle.scrub_shard.specs.Shard.{IsAnswerOf}
+use Rattle.scrub_shard.specs.steps.Payloads.{IsAnswerWith}
+use Rattle.scrub_shard.proofs.Answered.{answer_of}
+use Rattle.scrub_shard.proofs.Lost.{all_can_be_read, have_spares}
 use Rattle.scrub_shard.proofs.shard.entry_answer.Goals as goal
 
-pub returns-in-Some : goal.returns-in-Some
-returns-in-Some g c =
-    lost_answer (g.D.PageSource.image c.args.disk.now) c.args.plan.now c.args.all.now.extents c.args.binding.now c.deref.result.now
-    c.in_ok-own.own.items c.in_ok-spares.spares (c.deref.ensures.value ∙ c.in_ok-names.ensures) c.in_ok-own.ensures
-    (rw c.deref-2.ensures.value at c.in_ok-spares.ensures) c.in-Some.number (rw c.deref-3.ensures.value at c.in-Some.ensures)
-
-pub bytes_for-requires-after_bounds : goal.bytes_for-requires-after_bounds
-bytes_for-requires-after_bounds g c κs within =
-    rw c.deref-in-None.ensures.value
-    (can_be_read (g.D.PageSource.image c.args.disk.now) c.args.plan.now c.args.all.now.extents c.args.binding.now c.deref.result.now
-    c.in_ok-own.own.items c.in_ok-spares.spares (c.deref.ensures.value ∙ c.in_ok-names.ensures) c.in_ok-own.ensures
-    (rw c.deref-2.ensures.value at c.in_ok-spares.ensures) c.requires (rw c.deref-3.ensures.value at c.in-None.ensures))
+pub answer_by-requires-after_bounds : goal.answer_by-requires-after_bounds
+answer_by-requires-after_bounds g c κs within =
+    let all = c.args.all.now.extents in
+    let own = c.in_ok-own.own.items in
+    rw c.deref-3.ensures.value
+    (all_can_be_read (g.D.PageSource.image c.args.disk.now) c.args.plan.now all c.in_ok-spares.spares own c.requires c.in_ok-own.ensures.statuses
+    (have_spares all c.in_ok-spares.spares own (rw c.deref-2.ensures.value at c.in_ok-spares.ensures)))
 
 pub returns : goal.returns
 returns g c =
-    found_answer (g.D.PageSource.image c.args.disk.now) c.args.plan.now c.args.all.now.extents c.args.binding.now c.deref.result.now
-    c.in_ok-own.own.items c.in_ok-spares.spares (c.deref.ensures.value ∙ c.in_ok-names.ensures) c.in_ok-own.ensures
-    (rw c.deref-2.ensures.value at c.in_ok-spares.ensures) c.in_ok-bytes_for-in-None.field-0.items c.doubtful.result
-    (rw c.deref-3.ensures.value at c.in-None.ensures) (rw c.deref-in-None.ensures.value at c.in_ok-bytes_for-in-None.ensures)
-    c.doubtful.ensures
+    let image = g.D.PageSource.image c.args.disk.now in
+    let plan = c.args.plan.now in
+    let all = c.args.all.now.extents in
+    let own = c.in_ok-own.own.items in
+    let found = c.in_ok-spares.spares in
+    let b = c.args.binding.now in
+    let checked = subst (λ (ns : List Named). AreChecked image plan ns own) (c.deref.ensures.value ∙ c.in_ok-names.ensures) c.in_ok-own.ensures in
+    let same = have_spares all found own (rw c.deref-2.ensures.value at c.in_ok-spares.ensures) in
+    IfOk-weaker c.answer_by.result (IsAnswerWith image found b.doubtful own) (IsAnswerOf image plan all b)
+    (λ a x. answer_of image plan all found b own a checked same x)
+    (rw (c.deref-3.ensures.value, c.doubtful.ensures) at c.answer_by.ensures)

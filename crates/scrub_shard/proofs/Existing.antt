@@ -1,0 +1,150 @@
+-- There is an answer for each shard of an image, and so there is an archive of all of them.
+use Rattle.std.proofs.Common.{◌≡◌, ◌⊎◌, ◌<◌, ◌++◌, ◌∷◌, [], ℕ, suc, Bool, true, false, List, MatchBool, Option, Some, None, Contains, length, map, refl, arith, ap, inl, inr}
+use Rattle.std.specs.List.{All, AllZip, flat_map, position}
+use Rattle.std.proofs.lemmas.List.Elements.{All-cons, All-head, All-nil}
+use Rattle.scrub_disk.specs.Image.{Image}
+use Rattle.scrub_frame.proofs.Decisions.{some_element}
+use Rattle.scrub_scan.specs.declared.standing.Standing.{Standing}
+use Rattle.scrub_scan.specs.Standing.{Stands}
+use Rattle.scrub_run.specs.declared.shard_id.ShardId.{ShardId}
+use Rattle.scrub_merge.specs.Binding.{BindingValue}
+use Rattle.scrub_merge.proofs.MapsThere.{decided_id}
+use Rattle.scrub_check.specs.declared.statuses.checked.Checked.{Checked}
+use Rattle.scrub_check.specs.Checked.{is_dangling}
+use Rattle.scrub_check.specs.ChunkRun.{HasPayloadThere, StandsThere}
+use Rattle.scrub_check.specs.Named.{named_by_shard}
+use Rattle.scrub_check.specs.Spares.{frames, spares_by}
+use Rattle.scrub_check.specs.WholeScan.{IsWholeScan}
+use Rattle.scrub_check.proofs.StatusThere.{some_checked}
+use Rattle.scrub_report.specs.Scrubbed.{IsScrubbed, Scrubbed}
+use Rattle.scrub_report.proofs.Existing.{some_scrub}
+use Rattle.scrub_report.proofs.ResetPlans.{whole_but}
+use Rattle.scrub_shard.specs.Archive.{Answered, IsArchive, archive_of, members, run_remarks, shard_remarks, superblock_remarks}
+use Rattle.scrub_shard.specs.Shard.{HasFirstPayload, IsAnswerIn, IsAnswerOf, IsBoundBy, IsMapped, IsShardAnswer, Mapped, asks_for_nothing}
+use Rattle.scrub_shard.specs.steps.Payloads.{AreReadable, CanBeRead, HasPayloadLeft, IsAnswerWith, IsPayloadBy, is_lost_by}
+use Rattle.scrub_shard.specs.declared.archiving.Remark.{Remark}
+use Rattle.scrub_shard.specs.declared.shard.ShardAnswer.{ShardAnswer}
+use Rattle.scrub_shard.specs.declared.shard.ShardAnswer.TheVariants.{NoSuchShard, PayloadLost, Found}
+use Rattle.scrub_shard.proofs.Answered.{answer_of, answered_in}
+use Rattle.scrub_shard.proofs.Joined.{HasItsSpares}
+use Rattle.scrub_shard.proofs.Lost.{all_can_be_read, all_left}
+
+-- ---- payloads
+
+payload_left : (image : Image) (found : List Standing) (c : Checked) → HasPayloadLeft image found c →
+    (payload : List ℕ) × IsPayloadBy image found c payload
+payload_left image found c = asked (asks_for_nothing c.locator)
+  where
+    first : (ss : List Standing) → 0 < length ss → All (Stands image) ss → (payload : List ℕ) × HasFirstPayload image ss payload
+    first [] some stand = absurd (omega (arith, some))
+    first (s ∷ ss) some stand = let there = All-head (Stands image) s ss stand in (there.payload, there.has)
+
+    by : (b : Bool) → MatchBool b (AreReadable image (spares_by found c)) (StandsThere image c.locator) →
+        (payload : List ℕ) × MatchBool b (HasFirstPayload image (spares_by found c) payload) (HasPayloadThere image c.locator payload)
+    by true h = first (spares_by found c) h.some h.stand
+    by false h = (h.stands.payload, record { form = h.form; has = h.stands.has })
+
+    asked : (b : Bool) →
+        MatchBool b (Unit {0})
+        (MatchBool (is_dangling c.status) (AreReadable image (spares_by found c)) (StandsThere image c.locator)) →
+        (payload : List ℕ) × MatchBool b (payload ≡ [])
+        (MatchBool (is_dangling c.status) (HasFirstPayload image (spares_by found c) payload) (HasPayloadThere image c.locator payload))
+    asked true h = ([], refl)
+    asked false h = by (is_dangling c.status) h
+
+payloads_left : (image : Image) (found : List Standing) (own : List Checked) → All (HasPayloadLeft image found) own →
+    (payloads : List (List ℕ)) × AllZip (IsPayloadBy image found) own payloads
+payloads_left image found [] left = ([], tt)
+payloads_left image found (c ∷ cs) left =
+    let first = payload_left image found c (left 0 c (omega arith)) in
+    let rest = payloads_left image found cs (λ k d here. left (suc k) d (omega (arith, here))) in
+    (first.0 ∷ rest.0, (first.1, rest.1))
+
+-- the answer by locators that can be read unless they are lost
+some_answer_with : (image : Image) (found : List Standing) (doubtful : Bool) (own : List Checked) → All (CanBeRead image found) own →
+    (a : ShardAnswer) × IsAnswerWith image found doubtful own a
+some_answer_with image found doubtful own readable = by (position (is_lost_by found) own) refl
+  where
+    by : (o : Option ℕ) → position (is_lost_by found) own ≡ o → (a : ShardAnswer) × IsAnswerWith image found doubtful own a
+    by (Some n) e = (PayloadLost n, e)
+    by None e =
+        let payloads = payloads_left image found own (all_left image found own readable e) in (
+          Found (record { bytes = flat_map (λ p. p) payloads.0; is_doubtful = doubtful }),
+          (e, record { payloads = payloads.0; each = payloads.1; joined = refl }, refl),
+        )
+
+-- ---- the answer
+
+module _ (image : Image) (s : Scrubbed) (is : IsScrubbed image s) where
+  -- what is found up to the shard map
+  mapped : Mapped
+  mapped = record { choice = s.choice; plan = s.plan; all = s.all; read = s.read; bindings = s.bindings }
+
+  are_mapped : IsMapped image mapped
+  unfolding mapped
+  are_mapped = record { choice = is.choice; plan = is.plan; all = is.all; read = is.read; bindings = is.bindings }
+
+  whole : IsWholeScan image s.plan s.all
+  whole = whole_but [] s.choice s.plan image s.all is.choice is.plan is.all
+
+  some_answer_of : (b : BindingValue) → (a : ShardAnswer) × IsAnswerOf image s.plan s.all b a
+  some_answer_of b =
+      let own = some_checked image s.plan (named_by_shard b) in
+      let same : All (HasItsSpares s.all (frames s.all)) own.0 = λ k d here. refl in
+      let answer =
+      some_answer_with image (frames s.all) b.doubtful own.0
+      (all_can_be_read image s.plan s.all (frames s.all) own.0 whole own.1.statuses same) in
+      (answer.0, answer_of image s.plan s.all (frames s.all) b own.0 answer.0 own.1 same answer.1)
+
+  some_answer_in : (id : ShardId) → (a : ShardAnswer) × IsAnswerIn image mapped id a
+  unfolding mapped
+  some_answer_in id = by (some_element (λ (b : BindingValue). b.id ≡ id) (λ b. decided_id b.id id) s.bindings)
+    where
+      by : ((b : BindingValue) × Contains s.bindings b × (b.id ≡ id)) ⊎ ((b : BindingValue) → Contains s.bindings b → b.id ≡ id → ⊥) →
+          (a : ShardAnswer) × IsAnswerIn image (record { choice = s.choice; plan = s.plan; all = s.all; read = s.read; bindings = s.bindings }) id a
+      by (inl (b, among, named)) =
+          let a = some_answer_of b in
+          (a.0, answered_in image (record { choice = s.choice; plan = s.plan; all = s.all; read = s.read; bindings = s.bindings }) id b a.0 (record { among = among; named = named }) a.1)
+      by (inr none) = (NoSuchShard, λ b bound. none b bound.among bound.named)
+
+pub some_shard_answer : (image : Image) (id : ShardId) → (a : ShardAnswer) × IsShardAnswer image id a
+some_shard_answer image id =
+    let s = some_scrub [] image in
+    let a = some_answer_in image s.0 s.1 id in
+    (a.0, record { found = mapped image s.0 s.1; mapped = are_mapped image s.0 s.1; answer = a.1 })
+
+-- ---- all shards
+
+-- the answers for the shards of some bindings
+answers_for : Image → List BindingValue → List Answered
+answers_for image bs = map (λ b. record { id = b.id; answer = (some_shard_answer image b.id).0 }) bs
+
+answers_are : (image : Image) (bs : List BindingValue) →
+    (map (λ a. a.id) (answers_for image bs) ≡ map (λ b. b.id) bs) ×
+    All (λ a. IsShardAnswer image a.id a.answer) (answers_for image bs)
+unfolding answers_for
+answers_are image [] = (refl, All-nil (λ a. IsShardAnswer image a.id a.answer))
+answers_are image (b ∷ bs) =
+    let rest = answers_are image bs in
+    let one = some_shard_answer image b.id in (
+      ap (λ is. b.id ∷ is) rest.0,
+      All-cons (λ a. IsShardAnswer image a.id a.answer) (record { id = b.id; answer = one.0 }) (answers_for image bs) one.1 rest.1,
+    )
+
+pub some_archive : (image : Image) → (tar : List ℕ) × (remarks : List Remark) × IsArchive image tar remarks
+unfolding mapped
+some_archive image =
+    let s = some_scrub [] image in
+    let answers = answers_for image s.0.bindings in
+    let are = answers_are image s.0.bindings in (
+      archive_of (members answers),
+      superblock_remarks s.0.plan.has_superblock ++ run_remarks s.0.read.states ++ shard_remarks answers,
+      record {
+        found = mapped image s.0 s.1;
+        mapped = are_mapped image s.0 s.1;
+        answers = answers;
+        answered = record { ids = are.0; each = are.1 };
+        tar_is = refl;
+        remarks_are = refl;
+      },
+    )
