@@ -1,637 +1,709 @@
-"""Tests view/report.html in headless Chromium.
+"""Tests view/report.html: what it says, lays out and refuses, under node; and in headless Chromium that it does so on the screen.
 
-The picture must never look better than the disk. So the disks of lib/pictured.py are opened, alone and with each choice of the
-outputs of superblocks, locators and reclaimable. Each count is compared, the verdict with its computed colour, the headline, and the
-pixels of the overview. Nothing on the screen may be green unless the verdict is sound. The same is done with the reports of
-examples/README.md and with made-up disks.
-
-The tests also hover over items and follow links. They try each way to open a file, files that can't be opened, outputs that don't
-fit, rows of disks without a report, and rows of summaries. They measure how long reports of 100,000 items and of 65,536 extents take. Wrong pages are
-opened too, and each has to be found wrong. If the variable SHARDSCRUB_SCREENSHOTS names a folder, screenshots go there.
+The page judges nothing. So each verdict has to be the first line of summary, and each doubt, extent to reset and room a line of
+reclaimable; these are compared for many disks with lib/reference.py, and what is drawn with lib/picture.py. Pages with a planted
+mistake are tried too, and each has to be found wrong. If the variable SHARDSCRUB_SCREENSHOTS names a folder, screenshots go there.
 """
 import json
+import os
 import random
 import re
 import subprocess
-from collections import Counter
-from itertools import islice
+from itertools import combinations
 
 from lib import picture
-from lib.browser import WINDOW
-from lib.cases import add_tests
-from lib.made_up import Made, Tended
-from lib.page_case import PAGE, PageCase
-from lib.picture import OUTPUTS, items_of
-from lib.pictured import (LOOKED_AT, Pictured, disk_of, example_reports, fitting_locators, lines_to_accept, looked_at, made_up_report,
-                          most_rows, written)
-from lib.program import program
-from lib.reference import Image, choose
-from lib.summaries import examples, made_up, summary_of
-from lib.wrong_pages import OF_SPARES_AND_ROOMS, WRONG_CONTRADICTIONS, WRONG_PAGES, WRONG_SUMMARIES
+from lib.browser import Browser
+from lib.cases import Case, add_tests
+from lib.page import DISKS, PAGE, file, script_in, text_of_page, value
+from lib.pictured import Pictured, disks, made_up_report, written
+from lib.program import TOP, need, program
+from lib.summaries import image_of, listed, summary_of
+from lib.wrong_pages import WRONG_PAGES
 
-ITEMS = 100_000
-# Of each of two sorts.
-MADE_UP = 60
-# The longest times that are right, in milliseconds: for a draw, and from a report's text to its picture.
-MOST_DRAW, MOST_OPENING = 250, 5000
-# The disks that are opened with outputs that don't fit.
-MISFITTED = ("in-order", "flipped-bit", "tail", "no-superblock", "hidden", "spare-at-risk", "spare-accepted", "spare-is-safe",
-             "spare-and-tail", "full", "room-behind-zeros", "tail-accepted-in-part", "tails-accepted", "remains", "remains-accepted",
-             "not-the-last")
+POLICY = ("default-src 'none'; script-src 'unsafe-inline'; style-src 'unsafe-inline'; connect-src 'self'; base-uri 'none'; "
+          "form-action 'none'")
+# Each choice of the outputs beside a report.
+CHOICES = [some for count in range(5) for some in combinations(["summary", "superblocks", "locators", "reclaimable"], count)]
+# A sound disk.
+SOUND = Pictured(image_of(listed()[0]))
 
 
-def first_report():
-    return next(iter(example_reports().values()))
+def files_of(name, disk, outputs):
+    """The files of a disk: its report, and these outputs."""
+    return [file(f"{name}.json", written(disk.report)), *(file(f"folder/{name}.{output}", disk.outputs[output]) for output in outputs)]
 
 
-def listed_disks(browser):
-    """The texts of the chooser by the numbers of their rows, in the chooser's order."""
-    options = browser.value("[...document.getElementById('disks').options].map((one) => [Number(one.value), one.textContent])")
-    return {index: text for index, text in options}
+def rows_of(name, disk):
+    """The rows of a disk, as view/row prints them."""
+    lines = [line.split(" ") for line in disk.outputs["summary"].splitlines()]
+    summary = ",".join(f'"{key}":{value}' if index else f'"{key}":"{value}"' for index, (key, value) in enumerate(lines))
+    head = {"disk": name, "status": 0, "text": ""}
+    return {"summary": json.dumps(head)[:-1] + f",{summary}}}\n", "scan": json.dumps(head | disk.report) + "\n",
+            "reclaimable": json.dumps(head | {"lines": [line.split(" ") for line in disk.outputs["reclaimable"].splitlines()]}) + "\n"}
 
 
-def choose(browser, index):
-    """Chooses the disk of this row."""
-    browser.value(f"(choice => {{ choice.value = {index}; choice.dispatchEvent(new Event('change')); }})(document.getElementById('disks'))")
+class PageCase(Case):
+    """Tests of the page, or of a script with a planted mistake: then failed checks are counted in `failures`."""
+    script, failures = None, None
+
+    def value(self, expression, **given):
+        return value(expression, self.script, **given)
+
+    def same(self, what, found, wanted):
+        if self.failures is None:
+            super().same(what, found, wanted)
+        else:
+            self.failures += found != wanted
+
+    def throws(self, call, **given):
+        return self.value(f"thrown(() => {call})", **given) or ""
 
 
-def badness(row):
-    """A key that sorts rows, the worst one first: without an answer, wrong, in doubt or unknown, sound; then by broken shards and by
-    unreadable pages."""
-    if "verdict" in row:
-        return ["", "wrong", "doubt", "sound"].index(row["verdict"]), -int(row["shards_broken"]), -int(row["unreadable_pages"])
-    if "super" in row:
-        unreadable = len(row["super"]["bad"]) + sum(len(extent["bad"]) for extent in row["extents"])
-        return 2 if row["clean"] else 1, -len(row["broken"]), -unreadable
-    return 0, 0, 0
+# The picture of the disk with the name a.
+PICTURE = f"pictureOf({DISKS}.get('a').answers)"
+SHOWN = """[...%s.values()].map((disk) => ({name: disk.name, verdict: verdictText(disk), entry: entryOf(disk, 0),
+    lines: Object.fromEntries(Object.entries(disk.answers).flatMap(([command, {lines}]) => lines ? [[command, lines]] : []))}))""" % DISKS
 
 
-class Disks(PageCase):
-    """The disks of lib/pictured.py."""
+class Answers(PageCase):
+    """What is said of a disk is what the program said."""
 
-    def check_disk(self, name):
-        disk = looked_at(name)
-        self.check_program(name, disk)
-        is_great = disk.report["geometry"]["extents"] > 1000
-        for outputs in ({}, disk.outputs) if is_great else self.choices(disk.outputs):
-            what = f"with {', '.join(outputs) or 'its report alone'}"
-            shown = self.open(disk.report, outputs, name)
-            self.check_picture(what, shown, disk.report, outputs)
-            self.check_without_superblock(what, disk.report)
-            self.browser.call("Input.dispatchMouseEvent", type="mouseMoved", x=1, y=1)
-            if len(outputs) in (0, len(OUTPUTS)):
-                self.screenshot(f"{name}-{'all' if outputs else 'report'}")
-        self.check_hovering(name, disk.report, 40)
-        self.check_colours(name, disk.report)
-        self.check_marks(name, disk.report)
-        self.check_spares_and_rooms(name, disk)
-        self.check_links(name)
-        self.check_overview_clicks(name, disk)
+    def check_shown(self, what, shown, disk, outputs):
+        summary = dict(line.split(" ") for line in disk.outputs["summary"].splitlines())
+        entry, has = shown["entry"], outputs.__contains__
+        verdict = f"verdict {summary['verdict']}" if has("summary") else "not judged: open summary"
+        self.same(f"{what}: the verdict", (shown["verdict"], entry["standing"]),
+                  (verdict, summary["verdict"] if has("summary") else "not judged"))
+        self.same(f"{what}: the lines", shown["lines"], {name: disk.outputs[name].splitlines() for name in outputs})
+        words = [line.split(" ") for line in disk.outputs["reclaimable"].splitlines()] if has("reclaimable") else None
+        self.same(f"{what}: the numbers", [entry[key] for key in ("broken", "unreadable", "gain", "doubts")],
+                  [int(summary["shards_broken"]), int(summary["unreadable_pages"]),
+                   sum(int(free) for word, _, free, *_ in (one + [0, 0] for one in words) if word == "reclaim") if words is not None else None,
+                   sum(word == "doubt" for word, *_ in words or [])])
 
-    def check_overview_clicks(self, what, disk):
-        """Checks that a click on a cell leads to the first of its worst extents."""
-        grid = self.browser.shown()["overview"]
-        box = self.browser.value("(({left, top}) => ({left, top}))(document.getElementById('overview').getBoundingClientRect())")
-        names = list(picture.CLASSES)
-        of_extents = [names.index(name) for name in picture.classes(disk.report, disk.outputs)]
-        for cell in {0, grid["cells"] // 2, grid["cells"] - 1}:
-            some = of_extents[cell * grid["perCell"]:(cell + 1) * grid["perCell"]]
-            right = cell * grid["perCell"] + some.index(min(some))
-            x = box["left"] + (cell % grid["columns"] + .5) * grid["cell"]
-            y = box["top"] + (cell // grid["columns"] + .5) * grid["cell"]
-            for kind in ("mousePressed", "mouseReleased"):
-                self.browser.call("Input.dispatchMouseEvent", type=kind, x=x, y=y, button="left", clickCount=1)
-            here = self.browser.text("here")
-            self.check(f"{what}: a click on cell {cell} leads to extent {right}", re.match(rf"extent {right}\b", here), here)
+    def test_each_choice_of_outputs(self):
+        """Neither the report nor the other outputs change the verdict or a line."""
+        for some in CHOICES if self.failures is None else CHOICES[::15]:
+            files = [one for name, disk in disks().items() for one in files_of(name, disk, some)]
+            for shown, (name, disk) in zip(self.value(SHOWN, files=files), disks().items(), strict=True):
+                self.same("the disk", shown["name"], name)
+                self.check_shown(f"{name} with {some}", shown, disk, some)
+        verdicts = {disk.outputs["summary"].splitlines()[0].split()[1] for disk in disks().values()}
+        self.same("the verdicts that occur", verdicts, {"sound", "doubt", "wrong"})
 
-    def check_program(self, what, disk):
-        """Checks that the program prints what this disk is opened with."""
-        image = self.room / "image"
-        image.write_bytes(disk.raw)
-        sizes = [str(word) for name, key in (("--page", "page"), ("--pages", "pages"), ("--extents", "extents"))
-                 for word in (name, disk.report["geometry"][key])]
-        for command, right in {"scan": written(disk.report), **disk.outputs}.items():
-            own = disk.options() if command == "reclaimable" else []
-            done = subprocess.run([program(), command, *sizes, *own, image, *(f"{e}:{g}" for e, g in disk.unreadable)],
-                                  capture_output=True, encoding="utf-8", stdin=subprocess.DEVNULL)
-            self.check(f"{what}: {command} prints what the page is opened with", done.stdout == right, done.stderr)
+    def test_rows(self):
+        """Rows of any commands of a disk are one entry: its answers are those of its files."""
+        for commands in (["summary"], ["reclaimable", "summary"], ["scan", "summary", "reclaimable"]):
+            files = [file(f"{command}.jsonl", "".join(rows_of(*pair)[command] for pair in disks().items())) for command in commands]
+            for shown, (name, disk) in zip(self.value(SHOWN, files=files), disks().items(), strict=True):
+                self.check_shown(f"{name}, rows of {commands}", shown, disk, [one for one in commands if one != "scan"])
+
+    def test_the_rows_of_view_row(self):
+        need("jq")
+        rows = {command: [subprocess.run([TOP / "view/row", command, line], cwd=TOP, capture_output=True, encoding="utf-8", stdin=subprocess.DEVNULL,
+                                         env={**os.environ, "SHARDSCRUB": str(program())}).stdout for line in listed()]
+                for command in ("summary", "scan", "reclaimable")}
+        shown = self.value(SHOWN, files=[file(f"{command}.jsonl", "".join(some)) for command, some in rows.items()])
+        for one, line in zip(shown, listed(), strict=True):
+            name = line.split("\t")[0]
+            wanted = "no answer" if name in ("failing", "missing") else summary_of(line)["verdict"]
+            self.same(name, (one["name"], one["entry"]["standing"]), (name, wanted))
+
+    def test_great_numbers_keep_their_digits(self):
+        line = f"superblock_generation {2 ** 64 - 1}"
+        disk = SOUND
+        key = '"superblock_generation":'
+        row = re.sub(key + "[0-9]+", line.replace("superblock_generation ", key), rows_of("a", disk)["summary"])
+        self.same("of a row", line in self.value(SHOWN, files=[file("a.jsonl", row)])[0]["lines"]["summary"], True)
+        report = written(made_up_report(2, 64, 2, 1))
+        text = self.value(f"factsText({PICTURE})", files=[file("a.json", report)])
+        self.same("of a report", f"generation {2 ** 64 - 1}," in text, True)
+
+    def test_places_of_lines(self):
+        """A line of reclaimable leads to the place that it names."""
+        uuid, shard = "11111111-1111-1111-1111-111111111111", f"shard {1:032x}"
+        places = {"doubt no-superblock": None, "doubt tie": None, "doubt last 1 2": None, "accepted superblock-stray 3": [0, 3 * 256],
+                  "doubt superblock-lost 99": None, "doubt run-lost 0 no_frame": [10, 0], "doubt run-lost 7 no_frame": None,
+                  f"accepted spare 5 9 3 {uuid} {shard} 41": [5, 9], "doubt remains 2 100 1": [2, 100], "doubt tail 1 300 13": [1, 300],
+                  "doubt tail-lost 4 2 5": [4, 2 * 256], "reclaim 7 12": [7, 0], f"move 7 50 3 {uuid} {shard} 41": [7, 50],
+                  "room 3 155 869": [3, 155], "last-room 12 1 2": None}
+        report = made_up_report(12, 256, 16, 1) | {"runs": [{"entries": None, "extent": 10, "offset": 0, "state": "no_frame"}]}
+        found = self.value(f"lines.map((line) => placeOfLine(line, {PICTURE}) ?? null)", lines=list(places),
+                           files=[file("a.json", written(report))])
+        for (line, right), place in zip(places.items(), found, strict=True):
+            self.same(line, place and [place["extent"], place["offset"]], right)
 
 
-add_tests(Disks, Disks.check_disk, [(name, name) for name in LOOKED_AT])
+DRAWN = f"""[...{DISKS}.values()].map((disk) => pictureOf(disk.answers)).map((picture) => ({{
+    pieces: picture.rows.map((row) => [...row.kind].map((kind, at) => [kind, row.start[at], row.stop[at]])),
+    damage: picture.damage.filter(({{isDamage}}) => isDamage).map(({{title, entries}}) =>
+        [title, entries.map(({{places}}) => places.map(({{extent, offset}}) => [extent, offset]))]),
+    others: picture.damage.filter(({{isDamage}}) => !isDamage).map(({{title, entries}}) => [title, entries.length]),
+    classes: picture.rows.map(classOf), overview: overviewLegendOf(picture.rows.map(classOf)).map(({{is}}) => is),
+    legend: legendOf(picture.rows).map(({{style, text}}) => [KINDS.indexOf(style), text]), labels: picture.rows.map(labelOf),
+    rooms: picture.rows.map(({{room, isListed}}) => [room, isListed]),
+    shards: picture.locators && shardSizes(picture.locators).map(({{owner, bytes, chunks}}) => [owner, bytes, chunks]),
+    said: picture.rows.map((row) => [...row.start].map((start, at) => (start + row.stop[at]) / 2)
+        .map((middle) => described(picture, row, middle, middle + .1, 0))),
+    marks: picture.rows.map((row) => [...row.hidden, ...row.dangling]
+        .map(({{offset}}) => described(picture, row, offset, offset + 1, 0).join()))}}))"""
 
 
-class Reports(PageCase):
-    """The reports of examples/README.md, and of made-up disks."""
+class Pictures(PageCase):
+    """What is drawn of a disk is what its report and its outputs have."""
 
-    def test_examples(self):
-        reports = example_reports()
-        self.true("the page of examples has reports", len(reports) > 5, len(reports))
-        for number, (command, report) in enumerate(reports.items(), 1):
-            self.check_example(number, command, report)
+    def check_picture(self, what, drawn, report, outputs):
+        right = picture.pieces(report, outputs)
+        self.same(f"{what}: the pieces", [[[picture.KINDS[kind], start, stop] for kind, start, stop in some] for some in drawn["pieces"]], right)
+        self.same(f"{what}: the damage", dict(drawn["damage"]), {title: [[list(place) for place in places] for places in found]
+                                                                 for title, found in picture.damage(report, outputs).items()})
+        tails = sum(one["tail"] > 0 for one in report["extents"])
+        others = {title: count for title, count in (("Tails", tails), ("Doubtful shards", len(report["doubtful"]))) if count}
+        self.same(f"{what}: tails and doubtful shards", dict(drawn["others"]), others)
+        self.same(f"{what}: the overview", [picture.CLASSES[one] for one in drawn["classes"]], picture.classes(report, outputs))
+        all_pieces = [(kind, stop - start) for some in right for kind, start, stop in some]
+        bytes_of = {name: [length for kind, length in all_pieces if kind == name] for name in picture.KINDS[1:]}
+        self.same(f"{what}: the kinds in the legend", [(kind, text.split(": ")[-1]) for kind, text in drawn["legend"] if kind > 0],
+                  [(kind, f"{len(some)}, {picture.short_size(sum(some))}") for kind, some in enumerate(bytes_of.values(), 1) if some])
+        marks = self.marks(report, outputs)
+        self.same(f"{what}: the rest of the legend", [text for kind, text in drawn["legend"] if kind < 0],
+                  [f"{name}: {count}" for name, count in marks.items() if count])
+        self.same(f"{what}: the legend of the overview", drawn["overview"],
+                  sorted({picture.CLASSES.index(one) for one in picture.classes(report, outputs)}))
+        lines = picture.lines_of(outputs, "reclaimable")
+        rooms = {int(words[1]): dict(word=words[0], offset=int(words[2]), bytes=int(words[3]))
+                 for words in lines if words[0] in ("room", "last-room")}
+        listed_extents = {int(words[1]) for words in lines if words[0] == "reclaim"}
+        self.same(f"{what}: the rooms and the extents to reset", drawn["rooms"],
+                  [[rooms.get(extent), extent in listed_extents] for extent in range(len(right))])
+        self.check_texts(what, drawn, report, outputs)
 
-    def check_example(self, number, command, report):
-        name, disk = f"{number:02}", disk_of(command)
-        outputs = disk.outputs
-        self.check(f"{command}: the report is that of the image", disk.report == report)
-        shown = self.open(report, {}, name)
-        self.check_picture(command, shown, report, {})
-        self.check_hovering(command, report, 40)
-        self.check_colours(command, report)
-        self.check_marks(command, report)
-        self.check_without_superblock(command, report)
-        self.check_links(command)
-        shown = self.open(report, outputs, name)
-        self.check_picture(f"{command}, with outputs", shown, report, outputs)
-        owners = {}
-        for words in picture.locators_of(outputs):
-            owners.setdefault((int(words[2]), words[3]), []).append(f"{words[0]} {words[1]}")
-        self.check_hovering(f"{command}, with outputs", report, 40, owners)
-        self.screenshot(f"example-{name}")
+    def marks(self, report, outputs):
+        """How many there are of what isn't a piece, by its name in the legend."""
+        sizes, words = report["geometry"], [line[0] for line in picture.lines_of(outputs, "reclaimable")]
+        on_disk = lambda name: sum(one["extent"] < sizes["extents"] and one["offset"] < sizes["page"] * sizes["pages"] for one in report[name])
+        return {"extent not in the open files": len(report["retired"]) + ("superblocks" not in outputs),
+                "tail, from its first byte on": sum(one["tail"] > 0 for one in report["extents"]),
+                "room for copies": words.count("room"), "last room for copies": words.count("last-room"), "twin, above the bar": len(report["twins"]),
+                "hidden chunk, below the bar": on_disk("hidden"), "place of a dangling locator": on_disk("dangling"),
+                "write pointer": len(report["extents"]) if report["super"]["page"] is not None else 0}
 
-    def test_made_up_disks(self):
-        disks = {}
-        for turn in range(MADE_UP):
-            for kind, more in ((Made, ""), (Tended, ", tended")):
-                made = kind(random.Random(turn))
-                unreadable = made.make()
-                image = Image(bytes(made.raw), made.p, made.n, made.e, unreadable)
-                # No doubt is accepted, each second one by its line, each by its line, or some by --last, which may be wrong.
-                lines = lines_to_accept(image)
-                last = None if turn % 4 < 3 else (choose(image)["generation"] or 0) + (turn % 8 == 7)
-                disks[f"made-up disk {turn}{more}"] = Pictured(image, ((), lines[::2], lines, ())[turn % 4], last)
-        seen = Counter()
-        for turn, (name, disk) in enumerate(disks.items()):
-            outputs = disk.outputs if turn % 2 else list(self.choices(disk.outputs))[turn // 2 % 8]
-            shown = self.open(disk.report, outputs)
-            seen[picture.verdict(disk.report, outputs)] += 1
-            if outputs == disk.outputs:
-                seen.update({" ".join(line.split()[:2 if line[0] in "ad" else 1]) for line in outputs["reclaimable"].splitlines()})
-            self.check_picture(f"{name} with {', '.join(outputs)}", shown, disk.report, outputs)
-            if turn % 8 == 1:
-                self.check_spares_and_rooms(name, disk)
-            if turn % 10 == 0:
-                self.check_hovering(name, disk.report, 20)
-                self.check_colours(name, disk.report)
-                self.check_marks(name, disk.report)
-                self.check_without_superblock(name, disk.report)
-                self.check_links(name)
-        for words in ("reclaim", "move", "room", "last-room", "doubt spare", "accepted spare", "doubt remains", "doubt last", "doubt tail",
-                      "accepted tail"):
-            self.check(f"made-up disks: some have '{words}'", seen[words] > 0)
+    def check_texts(self, what, drawn, report, outputs):
+        """What is said of each item and mark, with the owners of live chunks and the spares of others."""
+        owners, spares, shards, last = {}, {}, {}, None
+        for words in picture.lines_of(outputs, "locators"):
+            if words[0] == "spare":
+                spares[int(words[1]), int(words[2])] = last
+                continue
+            last = f"{words[0]} {words[1]}"
+            if words[6] in ("sound", "hidden") and words[0] == "shard":
+                shards.setdefault(last, []).append(int(words[4]))
+            if words[6] == "sound":
+                owners.setdefault((int(words[2]), int(words[3])), []).append(last)
+        for extent, some in enumerate(picture.pieces(report, outputs)):
+            for (kind, start, stop), said in zip(some, drawn["said"][extent], strict=True):
+                item = f" {start} {stop}" if extent and kind not in ("lost", "noise") else ""
+                self.same(f"{what}: extent {extent}, {kind} at {start}", said[0].startswith(f"extent {extent}: ") and item in said[0], True)
+                if kind == "live" and "locators" in outputs:
+                    self.same(f"{what}: owners of extent {extent} at {start}", said[2], f"named by {', '.join(owners[extent, start][:5])}")
+                if (extent, start) in spares:
+                    self.same(f"{what}: a spare in extent {extent} at {start}",
+                              f"spare of what {spares[extent, start]} names in" in ",".join(said), True)
+        for one in report["hidden"] + report["dangling"]:
+            # Five are described.
+            is_many = sum(other["extent"] == one["extent"] for other in report["hidden"] + report["dangling"]) > 5
+            if not is_many and one["extent"] < len(drawn["marks"]) and one["offset"] < report["geometry"]["page"] * report["geometry"]["pages"]:
+                right = (f"{one['owner']} names {one['uuid']} at {one['offset']}: {one['reason']}" if "reason" in one
+                         else f"{one['uuid']}, named by {one['owner']}")
+                self.same(f"{what}: {right}", right in ",".join(drawn["marks"][one["extent"]]), True)
+        sizes = sorted(([owner, sum(lengths), len(lengths)] for owner, lengths in shards.items()), key=lambda one: (-one[1], one[0]))
+        self.same(f"{what}: the shards by size", drawn["shards"], sizes if "locators" in outputs else None)
+
+    def test_disks(self):
+        for some in ((), ("superblocks",), ("locators",), CHOICES[-1]) if self.failures is None else ((), CHOICES[-1]):
+            files = [one for name, disk in disks().items() for one in files_of(name, disk, some)]
+            for (name, disk), drawn in zip(disks().items(), self.value(DRAWN, files=files), strict=True):
+                self.check_picture(f"{name} with {some}", drawn, disk.report, {output: disk.outputs[output] for output in some})
+        reports = [(disk.report, disk.outputs) for disk in disks().values()]
+        self.same("the kinds that occur", {kind for pair in reports for some in picture.pieces(*pair) for kind, _, _ in some}, set(picture.KINDS[1:]))
+        self.same("the classes that occur", {one for pair in reports for one in picture.classes(*pair)}, set(picture.CLASSES))
+
+    def test_search(self):
+        """Each chunk is found by its UUID, and each shard by its identifier, also by their beginnings."""
+        disk = disks()["made-up-17"]
+        locators = [line.split() for line in disk.outputs["locators"].splitlines() if not line.startswith("spare")]
+        for outputs in ([], ["locators"]):
+            wanted = {words[3] for _, words in picture.items_of(disk.report) if picture.is_chunk(words)}
+            wanted |= {words[1] for words in locators if words[0] == "shard"} if outputs else {one["owner"][6:] for one in disk.report["dangling"]}
+            texts = sorted(wanted)
+            found = self.value(f"(() => {{ const picture = {PICTURE}; return texts.map((text) => ["
+                               "searched(picture, text), searched(picture, ` ${text.toUpperCase().slice(0, 3)}`), "
+                               "searched(picture, text.replaceAll('-', ''), 1)]); })()",
+                               texts=texts, files=files_of("a", disk, outputs))
+            for text, (whole, beginning, one) in zip(texts, found, strict=True):
+                lines = [entry["text"] for entry in whole]
+                self.same(f"{text} with {outputs}", [text in line for line in lines], [True] * max(1, len(lines)))
+                self.same(f"the beginning of {text} with {outputs}", [entry for entry in whole if entry not in beginning], [])
+                self.same(f"other than {text}", [entry for entry in beginning if not re.search(rf"\b{text[:3]}", entry["text"])], [])
+                self.same(f"the first of {text}", one, whole[:1])
+        others = self.value(f"texts.map((text) => searched({PICTURE}, text).length)",
+                            texts=["", "0", "00", "xyz", "0" * 33, "f" * 8], files=files_of("a", disk, []))
+        self.same("what isn't the beginning of one", others, [0] * 6)
+
+    def test_large_reports(self):
+        """100,000 items, and 65,536 extents, are laid out within seconds."""
+        for extents, page, pages, items in ((1001, 4096, 1024, 100), (65536, 64, 2, 1)):
+            report = made_up_report(extents, page, pages, items)
+            counts, took = self.value(f"""(() => {{ const begun = seconds(), picture = {PICTURE};
+                for (const row of picture.rows.slice(0, 50)) columnsOf(row, {{from: 0, span: picture.size}}, 1000);
+                return [countedKinds(picture.rows), seconds() - begun]; }})()""", files=[file("a.json", written(report))])
+            live, orphans = counts[2]["count"], counts[3]["count"]
+            self.same(f"{extents} extents", [live + orphans, orphans], [(extents - 1) * items, -(-(extents - 1) * items // 3)])
+            self.same(f"{extents} extents: soon enough", took < 10, True)
+
+
+class Layout(PageCase):
+    """The layout as numbers."""
+
+    def test_columns(self):
+        """Each pixel has the kind that takes most of it, and the worst damage in it, even if many pieces share it."""
+        choice = random.Random(1)
+        for turn in range(40):
+            bounds, width = sorted(choice.sample(range(1, 1000), choice.choice([3, 40, 400]))), choice.choice([7, 50, 333])
+            pieces = [{"kind": choice.randrange(1, 12), "start": first, "stop": stop, "line": "", "isTwin": choice.random() < .1}
+                      for first, stop in zip(bounds, bounds[1:]) if choice.random() < .9]
+            view = choice.choice([{"from": 0, "span": 1000}, {"from": 300, "span": 100}])
+            found = self.value("columnsOf(newRow(1, pieces, {}), view, width)", pieces=pieces, view=view, width=width)
+            for x in range(width):
+                left, right = (view["from"] + at * view["span"] / width for at in (x, x + 1))
+                share = lambda one: max(0, min(right, one["stop"]) - max(left, one["start"]))
+                here = [one for one in pieces if share(one) > 1e-9]
+                of_kinds = {kind: sum(share(one) for one in here if one["kind"] == kind) for kind in {one["kind"] for one in here}}
+                most = found["most"][x]
+                self.same(f"turn {turn}, pixel {x}", (found["damage"][x], abs(of_kinds.get(most, 0) - max(of_kinds.values(), default=0)) < 1e-3),
+                          (max([one["kind"] for one in here if one["kind"] >= 7], default=0), True))
+                self.same(f"turn {turn}, pixel {x}: a twin", found["twins"][x], int(any(one["isTwin"] for one in here)))
+
+    def test_stretches(self):
+        self.same("stretches", self.value("stretchesOf([0, 3, 3, 0, 4, 3])"), [[3, 1, 3], [4, 4, 5], [3, 5, 6]])
+
+    def test_views(self):
+        for bytes_, first, span, right in ((1000, -5, 100, [0, 100]), (1000, 950, 100, [900, 100]), (1000, 10, 1, [10, 32]),
+                                           (1000, 3, 5000, [0, 1000]), (20, 5, 5, [0, 20])):
+            self.same(f"{first}, {span} of {bytes_}", list(self.value(f"viewOf({bytes_}, {first}, {span})").values()), right)
+
+    def test_overview(self):
+        """All cells fit, as large as they can be; each extent is in a cell, which shows the first class in it."""
+        for count, width, height in ((1, 900, 300), (12, 900, 300), (4000, 900, 300), (65536, 900, 300), (65536, 300, 60)):
+            grid, cells = self.value("""(() => { const grid = gridOf(count, width, height), classes = Array.from({length: count}, (_, at) => at * 7919 % 9);
+                return [grid, Array.from({length: grid.cells}, (_, at) => cellOf(grid, classes, at))]; })()""", count=count, width=width, height=height)
+            lines = -(-grid["cells"] // grid["columns"])
+            self.same(f"{count}: it fits", grid["columns"] * grid["cell"] <= width and lines * grid["cell"] <= height, True)
+            larger = grid["cell"] + 1
+            self.same(f"{count}: no larger one fits", grid["cell"] == 14 or (width // larger) * (height // larger) < count, True)
+            self.same(f"{count}: the extents of the cells",
+                      [extent for one in cells for extent in range(one["first"], one["last"] + 1)], list(range(count)))
+            right = [min(at * 7919 % 9 for at in range(one["first"], one["last"] + 1)) for one in cells]
+            self.same(f"{count}: the classes", [(one["is"], one["extent"] * 7919 % 9) for one in cells], [(is_, is_) for is_ in right])
+
+    def test_keys_in_the_overview(self):
+        grid = {"columns": 5, "cells": 13}
+        moves = {(0, "ArrowLeft"): 0, (0, "ArrowUp"): 0, (0, "ArrowRight"): 1, (4, "ArrowRight"): 5, (1, "ArrowDown"): 6, (7, "ArrowDown"): 12,
+                 (9, "ArrowDown"): 9, (12, "ArrowRight"): 12, (12, "ArrowUp"): 7, (6, "Home"): 0, (6, "End"): 12, (6, "x"): None}
+        found = self.value("moves.map(([from, key]) => movedCell(grid, from, key))", grid=grid, moves=[list(move) for move in moves])
+        self.same("the cells", found, list(moves.values()))
+
+    def test_arrow_keys(self):
+        """To the right they reach each piece in order, and to the left each in the opposite order."""
+        for name in ("several findings", "rescued"):
+            walked = self.value(f"""(() => {{ const {{rows}} = {PICTURE}, walk = (at, direction) => {{
+                const found = [];
+                for (let next = at; (next = steppedPiece(rows, next, direction)) && found.length < 1e4;) found.push([next.extent, rows[next.extent].start[next.index]]);
+                return found; }}, last = rows.length - 1;
+                return [walk({{extent: 0, index: -1}}, 1), walk({{extent: last, index: rows[last].start.length}}, -1)]; }})()""",
+                                files=files_of("a", disks()[name], ["superblocks"]))
+            pieces = picture.pieces(disks()[name].report, disks()[name].outputs)
+            right = [[extent, start] for extent, some in enumerate(pieces) for _, start, _ in some]
+            self.same(name, walked, [right, right[::-1]])
+
+    def test_selections(self):
+        """A place selects the hidden chunk that begins there, or else the piece with the byte, or else the byte."""
+        pieces = [{"kind": 2, "start": 0, "stop": 50, "line": ""}, {"kind": 8, "start": 64, "stop": 128, "line": ""}]
+        found = self.value("[0, 49, 50, 64, 70, 200].map((at) => selectionAt(newRow(3, pieces, {hidden: [{offset: 70, length: 5}]}), at))",
+                           pieces=pieces)
+        self.same("selections", [[one["from"], one["to"], one["index"]] for one in found],
+                  [[0, 50, 0], [0, 50, 0], [50, 51, 0], [64, 128, 1], [70, 113, 1], [200, 201, 1]])
+
+    def test_the_worst_of_a_pixel_is_shown(self):
+        pieces = [{"kind": kind, "start": start, "stop": stop, "line": ""}
+                  for kind, start, stop in ((2, 0, 90), (8, 90, 91), (7, 91, 99), (3, 99, 200))]
+        found = self.value("ranges.map(([from, to]) => shownIn(newRow(1, pieces, {}), from, to))", pieces=pieces,
+                           ranges=[[0, 90], [0, 200], [91, 120], [95, 200], [200, 300]])
+        self.same("the pieces", [[one["shown"], one["count"]] for one in found], [[0, 1], [1, 4], [2, 2], [2, 2], [-1, 0]])
+
+
+class Fleet(PageCase):
+    """The table of many disks."""
+
+    SORTED = "columns.map(([column, isReversed]) => sortedEntries(entries, column, isReversed).map(({name}) => name))"
+
+    def entries(self, rows, commands=SORTED, **given):
+        return self.value(f"(() => {{ const entries = [...{DISKS}.values()].map((disk) => entryOf(disk, 1e12)); return {commands}; }})()",
+                          files=[file("rows.jsonl", "".join(rows), 1e12 - 7200e3)], **given)
+
+    def fleet(self, count):
+        """Rows of so many disks, of each verdict, among them some without an answer or without a summary."""
+        some = sorted({disk.outputs["summary"].splitlines()[0]: name for name, disk in disks().items()}.values())
+        names = [f"sd{number}" for number in range(count)]
+        rows = []
+        for number, name in enumerate(names):
+            of = rows_of(name, disks()["several findings"] if number % 10 == 3 else disks()[some[number % len(some)]])
+            if number % 8 == 5:
+                rows.append(json.dumps({"disk": name, "status": 3, "text": "shardscrub: image too long"}) + "\n")
+            else:
+                rows += [of["reclaimable"], *([of["summary"]] if number % 8 else [])]
+        random.Random(count).shuffle(rows)
+        return names, rows
+
+    def test_forty_and_four_thousand_disks(self):
+        """Each disk is one entry, the worst first: by verdict, then broken shards, then unreadable pages."""
+        for count in (40, 4000):
+            names, rows = self.fleet(count)
+            entries, texts, [worst, best], took = self.entries(rows, """(() => { const begun = seconds(), sorted = [false, true].map((isReversed) =>
+                sortedEntries(entries, 'standing', isReversed)); return [sorted[0], [countsText(entries), sorted[0].map(cellsOf)],
+                sorted.map((some) => some.map(({name}) => name)), seconds() - begun]; })()""")
+            order = ["no answer", "wrong", "not judged", "doubt", "sound"]
+            digits = lambda name: int(name[2:])
+            key = lambda one: (order.index(one["standing"]), -(one["broken"] or 0), -(one["unreadable"] or 0), digits(one["name"]))
+            self.same(f"{count} disks", sorted(worst, key=digits), names)
+            self.same(f"{count} disks: the worst first", worst, [one["name"] for one in sorted(entries, key=key)])
+            self.same(f"{count} disks: the best first", [entries[worst.index(name)]["standing"] for name in best],
+                      [one["standing"] for one in entries][::-1])
+            counted = {one: sum(entry["standing"] == one for entry in entries) for one in order}
+            self.same(f"{count} disks: each verdict occurs", min(counted.values()) > 0, True)
+            self.same(f"{count} disks: the counts", texts[0],
+                      f"{count:,} disks: " + ", ".join(f"{number:,} {one}" for one, number in counted.items()))
+            self.same(f"{count} disks: ages", {cells[5] for cells in texts[1]}, {"2 h"})
+            self.same(f"{count} disks: soon enough", took < 2, True)
+
+    def test_columns(self):
+        """A click sorts by a column, another one the other way round. What isn't known comes last at first."""
+        numbers = {"a10": (1, 0, 5), "a9": (3, 7, 0), "b": (0, 2, 9)}
+        rows = [row for name, (broken, unreadable, free) in numbers.items() for row in (
+            rows_of(name, SOUND)["summary"].replace('"shards_broken":0', f'"shards_broken":{broken}')
+            .replace('"unreadable_pages":0', f'"unreadable_pages":{unreadable}'),
+            json.dumps({"disk": name, "status": 0, "text": "", "lines": [["reclaim", "1", str(free)], ["reclaim", "2", "1"]]}) + "\n")]
+        rows.append('{"disk":"c","status":4,"text":""}\n')
+        wanted = {"name": ["a9", "a10", "b", "c"], "broken": ["a9", "a10", "b", "c"], "unreadable": ["a9", "b", "a10", "c"],
+                  "gain": ["b", "a10", "a9", "c"]}
+        found = self.entries(rows, columns=[[column, is_reversed] for column in wanted for is_reversed in (False, True)])
+        self.same("the orders", found, [some for names in wanted.values() for some in (names, names[::-1])])
+        found = self.entries(rows, columns=[["standing", False], ["standing", True]])
+        self.same("by the verdict", found, [["c", "a9", "a10", "b"], ["a9", "a10", "b", "c"]])
+        cells = self.entries(rows, "sortedEntries(entries, 'name', false).map(cellsOf)")
+        self.same("cells", cells, [["a9", "sound", "3", "7", "1 byte", "2 h"], ["a10", "sound", "1", "0", "6 bytes", "2 h"],
+                                   ["b", "sound", "0", "2", "10 bytes", "2 h"], ["c", "no answer", "–", "–", "–", "2 h"]])
+
+    def test_ages(self):
+        ages = {0: "0 s", 119e3: "119 s", 120e3: "2 min", 7199e3: "119 min", 7200e3: "2 h", 172799e3: "47 h", 172800e3: "2 d", 864e8: "1,000 d"}
+        self.same("texts", self.value("ages.map(ageText)", ages=list(ages)), list(ages.values()))
+        files = [file("a.summary", SOUND.outputs["summary"], 5000), file("a.reclaimable", "", 3000), file("b.reclaimable", "")]
+        found = self.value(f"[...{DISKS}.values()].map((disk) => entryOf(disk, 9000).age)", files=files)
+        self.same("that of the oldest file, if it is known", found, [6000, None])
+
+    def test_disks_without_an_answer(self):
+        """A disk without any answer, or without one of summary or scan, has none; a refused reclaimable alone isn't that."""
+        for what, rows, standing in (
+                ("no image", [{"status": 3, "text": "x"}], "no answer"),
+                ("no image, for all commands", [{"status": 3, "text": "x"}] * 2 + [{"status": 3, "text": "x", "lines": None}], "no answer"),
+                ("reclaimable was refused alone", [{"status": 2, "text": "x", "lines": None}], "no answer"),
+                ("reclaimable was refused", [{"status": 2, "text": "x", "lines": None}, SOUND.report], "not judged"),
+                ("rows of reclaimable alone", [{"status": 0, "text": "", "lines": []}], "not judged")):
+            text = "".join(json.dumps({"disk": "a", "status": 0, "text": ""} | row) + "\n" for row in rows)
+            shown = self.value(SHOWN, files=[file("a.jsonl", text)])
+            self.same(what, [one["entry"]["standing"] for one in shown], [standing])
+            self.same(f"{what}: the verdict", shown[0]["verdict"], "no answer" if standing == "no answer" else "not judged: open summary")
+
+    def test_opened_later(self):
+        """Other answers are added to a disk. A second answer of a command begins it anew, so that no old verdict stays beside new ones."""
+        sound, wrong = SOUND, disks()["several findings"]
+        first, report = rows_of("a", sound)["summary"], [file("a.json", written(wrong.report))]
+        none = [file("rows.jsonl", '{"disk":"a","status":3,"text":"shardscrub: image too long"}\n')]
+        refused = [file("rows.jsonl", '{"disk":"a","status":2,"text":"","lines":null}\n')]
+        for what, later, right in (("a report", [report], ["summary", "scan"]), ("two reports", [report, report], ["scan"]),
+                                   ("no answer", [none], []), ("a refused reclaimable", [refused], ["summary"])):
+            found = self.value("Object.keys(later.reduce((all, files) => withAnswers(all, answersOf(files)), new Map()).get('a').answers)",
+                               later=[[file("rows.jsonl", first)], *later])
+            self.same(f"a summary, and later {what}", found, right)
+
+
+def summary_row(*changes):
+    row = rows_of("x", SOUND)["summary"]
+    for old, new in changes:
+        row = re.sub(old, new, row)
+    return row
+
+
+HOSTILE = (
+    ("a list", "wrong.json", "[1]\n", "it isn't a report"),
+    ("half a report", "wrong.json", written(SOUND.report)[:200], "it isn't JSON, or it is cut short"),
+    ("a report without a key", "wrong.json", written({key: SOUND.report[key] for key in SOUND.report if key != "twins"}), "no key twins"),
+    ("an unknown item", "wrong.json", written(SOUND.report).replace('"chunk ', '"lump ', 1), "isn't understood"),
+    ("an extent that is left out", "wrong.json", written(SOUND.report | {"extents": SOUND.report["extents"][1:]}), "the report lacks extent 1"),
+    ("a line between two reports", "wrong.json", written(SOUND.report) + "image too long\n" + written(SOUND.report), "line 2"),
+    ("a word of a locator that is left out", "wrong.txt", "run 0 2 0 117 sound\n", "line 1 isn't a line of locators"),
+    ("an unknown state", "wrong.txt", "record 0 SSB1 1 new\n", "line 1 isn't a line of superblocks"),
+    ("an unknown doubt", "wrong.txt", "doubt tail 1 1 1\ndoubt rain\n", "line 2 isn't a line of reclaimable"),
+    ("half a line", "wrong.txt", "record 0 SSB1 1 counts\ndamaged 4", "isn't whole"),
+    ("a move without its bytes", "wrong.txt", "reclaim 1 9\nmove 1 0 3 11111111-1111-1111-1111-111111111111 run 0\n",
+     "line 2 isn't a line of reclaimable"),
+    ("a spare of no copy", "wrong.txt", "run 0 2 0 117 11111111-1111-1111-1111-111111111111 no_frame\n"
+     "spare 3 0 117 11111111-1111-1111-1111-111111111111 0\n", "line 2 isn't a line of locators"),
+    ("sizes", "wrong.txt", "0 SSB1 6 64 16 5\n", "the output of sizes"),
+    ("a manifest", "wrong.txt", "retired\nruns lost 0 hidden 0\ntotal 0 0\n", "the output of manifest, which this page doesn't show"),
+    ("a manifest without a superblock", "wrong.txt", "no-superblock\n", "the output of manifest, which"),
+    ("a summary that is cut short", "wrong.txt", "verdict sound\npage_bytes 64\n", "it isn't a whole summary: it has no extent_pages"),
+    ("two images that were compared", "wrong.txt", "written 2 42\nunsafe\n", "the output of compare, which this page doesn't show"),
+    ("something else", "wrong.txt", "hello\n", "neither a report nor an output"),
+    ("an empty file of no known kind", "wrong.txt", "", "name doesn't say what it is"),
+    ("a word of every object", "wrong.txt", "constructor\n", "neither a report nor an output"),
+    ("a summary without its last number", "x.jsonl", summary_row((',"chunks_to_move":', ',"chunks":')), "it has no chunks, chunks_to_move"),
+    ("a summary without its verdict's word", "x.jsonl", summary_row(('"verdict":"[a-z]*"', '"verdict":""')), "it has no verdict"),
+    ("an unknown verdict", "x.jsonl", summary_row(('"verdict":"[a-z]*"', '"verdict":"fine"')), "it has no verdict"),
+    ("a list with a verdict", "x.jsonl", summary_row(('"verdict":"[a-z]*"', '"verdict":["sound"]')), "it has no verdict"),
+    ("half a number", "x.jsonl", summary_row(('"tails":([0-9]*)', r'"tails":\1.5')), "it has no tails"),
+    ("a number below zero", "x.jsonl", summary_row(('"runs_lost":0', '"runs_lost":-1')), "it has no runs_lost"),
+    ("a number as text", "x.jsonl", summary_row(('"runs_lost":0', '"runs_lost":"0"')), "it has no runs_lost"),
+    ("a number twice", "x.jsonl", summary_row(('"runs_lost":0', '"runs_lost":0,"runs_lost":1')), "it has no runs_lost"),
+    ("a row that is cut short", "x.jsonl", summary_row()[:-5] + "\n", "it isn't JSON, or it is cut short"),
+    ("a summary after a right one", "x.jsonl", summary_row() + summary_row(('"tails":', '"tail":')), "line 2: it isn't a whole summary"),
+    ("two summaries of one disk", "x.jsonl", summary_row() * 2, "two answers of summary for the disk x"),
+    ("a summary with one more line", "x.summary", SOUND.outputs["summary"] + "more 1\n", "more lines than a summary"),
+    ("a row with a line that isn't one", "x.jsonl", '{"disk":"x","status":0,"text":"","lines":[["reclaim","1"]]}\n',
+     "line 1 isn't a line of reclaimable"),
+    ("a report whose list is none", "x.json", written(SOUND.report | {"extents": None}), "a list is missing"),
+    ("a report without pages", "x.json", written(SOUND.report | {"super": None}), "a list is missing"),
+    ("a report with other sizes", "x.json", written(SOUND.report | {"geometry": {"extents": 2 ** 40, "page": 64, "pages": 1}}),
+     "aren't those of a disk"),
+)
 
 
 class Files(PageCase):
-    """Ways to open files, and files that can't be opened."""
+    """Files that can't be opened."""
+
+    def check_refused(self, case):
+        what, name, text, right = case
+        fault = self.throws(f"[...{DISKS}.values()].map((disk) => pictureOf(disk.answers))",
+                            files=[file("right.json", written(SOUND.report)), file(name, text)])
+        self.same(f"{what} is refused", right in fault and (name in fault or "disk x" in fault or "report" in fault or "extent" in fault), True)
+
+    def test_names(self):
+        """A file is of the disk with its name; an empty one is recognized by its ending."""
+        for name, text, right in (("a/b/sda.1.locators", "", ["sda.1", "locators"]), ("sda", "record 0 SSB1 1 counts\n", ["sda", "superblocks"]),
+                                  ("x.reclaimable", "", ["x", "reclaimable"]), ("x.txt", "lost 3\n", ["x", "superblocks"]),
+                                  ("y.json", written(SOUND.report), ["y", "scan"])):
+            self.same(name, [[one["disk"], one["command"]] for one in self.value("answersOf(files)", files=[file(name, text)])], [right])
+        found = self.value("answersOf(files)", files=[file("y.jsonl", written(SOUND.report) * 2)])
+        self.same("lines without names", [one["disk"] for one in found], ["y, line 1", "y, line 2"])
+
+    def test_addresses(self):
+        """Only paths of the page's own origin are opened."""
+        own, page = ("disk.json", "/a/disk.json", "../x.json?y#z", "http://a.org/x", "//a.org/x"), "http://a.org/b/report.html?x"
+        others = ("//b.org/x", "http://b.org/x.json", "https://a.org/x", "http://a.org:81/x", "data:text/plain,x", "javascript:x",
+                  "blob:http://a.org/x", "file:///x", "\\\\b.org/x", "http://a.org.b.org/")
+        found = self.value("paths.map((path) => isOwn(path, page))", paths=[*own, *others], page=page)
+        self.same("the origins", found, [True] * len(own) + [False] * len(others))
+
+
+add_tests(Files, Files.check_refused, [(case[0], case) for case in HOSTILE])
+
+
+def lightness(colour):
+    """The lightness L* of a colour, from 0 to 100."""
+    linear = [part / 12.92 if part <= .04045 else ((part + .055) / 1.055) ** 2.4 for part in (int(colour[at:at + 2], 16) / 255 for at in (1, 3, 5))]
+    return 116 * sum(weight * part for weight, part in zip((.2126, .7152, .0722), linear)) ** (1 / 3) - 16
+
+
+class Looks(PageCase):
+    """The text of the page."""
+
+    def test_the_policy(self):
+        """The policy is the first thing after the character set, and the page has no address of another origin and makes no code of texts."""
+        page = text_of_page()
+        policies = re.findall(r'<head>\n<meta charset="utf-8">\n<meta http-equiv="Content-Security-Policy" content="([^"]*)">\n', page)
+        self.same("the policy", policies, [POLICY])
+        self.same("addresses", re.findall(r"https?://[^\s\"'`]+|//[\w.-]+\.\w+/|src=", page), [])
+        self.same("code of texts", re.findall(r"innerHTML|outerHTML|insertAdjacent|document\.write|\beval\(|new Function", page), [])
+        self.same("events of a mouse", re.findall(r"\bmouse(?:down|up|move|leave|over)\b", page), [])
+
+    def test_the_style(self):
+        """Dark if the reader wants it, but not on paper, where no bar is cut; long words are broken; bars can be dragged by touch, and the
+        overview can be reached by keys."""
+        page = text_of_page()
+        rules = (r"@media screen and \(prefers-color-scheme: dark\) \{\n    :root:not\(\.printing\)",
+                 r"@media print \{[^@]*#print canvas[^{]*\{ break-inside: avoid; \}",
+                 r"  body \{[^}]*overflow-wrap: anywhere;", r"#bars \{[^}]*touch-action: pan-y;", r'<canvas id="overview" tabindex="0"')
+        self.same("rules that aren't there", [rule for rule in rules if not re.search(rule, page)], [])
+        light, dark = (set(re.findall(r"--[a-z-]+(?=:)", rule)) for rule in re.findall(r":root[^{]*\{([^}]*)\}", page))
+        self.same("colours that dark lacks", light - dark, set())
+
+    def test_colours(self):
+        """Greys differ without colour, and nothing but a verdict is green."""
+        kinds, classes, others = self.value("[KINDS.filter(Boolean), CLASSES, [TAIL, UNSHOWN, ...Object.values(ROOMS), TWIN, HIDDEN, DANGLING]]")
+        papers = re.findall(r"--paper: (#\w+)", text_of_page())
+        self.same("papers", len(papers), 2)
+        groups = {"plain kinds": [one["fill"] for one in kinds if "hatch" not in one] + [others[2]["fill"]],
+                  "damage": [one["fill"] for one in kinds if "hatch" in one],
+                  "other hatched ones": [one["fill"] for one in others[:4] if "hatch" in one]}
+        groups |= {f"the overview on {paper}": [one["fill"] or paper for one in classes] for paper in papers}
+        for what, colours in groups.items():
+            greys = sorted(map(lightness, colours))
+            self.same(f"{what}: greys", [(low, high) for low, high in zip(greys, greys[1:]) if high - low < 5], [])
+        for colour in [one[key] for one in kinds + classes + others for key in ("fill", "hatch") if one.get(key)]:
+            red, green, blue = (int(colour[at:at + 2], 16) for at in (1, 3, 5))
+            self.same(f"{colour} is no green", green > red + 20 and green > blue + 20, False)
+
+
+class InBrowser(Case):
+    """The page on a screen. At the end of a test it may not have reported an error."""
+
+    @classmethod
+    def setUpClass(cls):
+        cls.browser = Browser()
+        cls.addClassCleanup(cls.browser.close)
+
+    def tearDown(self):
+        self.same("errors of the page", self.browser.errors(), [])
+
+    def open(self, name, texts, place=""):
+        """Opens files by the address, and returns what is shown."""
+        for ending, text in texts.items():
+            self.browser.put(f"{name}.{ending}", text)
+        return self.browser.open(f"{self.browser.site}/report.html?{'&'.join(f'{name}.{ending}' for ending in texts)}{place}")
+
+    def files(self, name):
+        return {"json": written(disks()[name].report), **disks()[name].outputs}
+
+    def verdict(self):
+        """The text of the verdict and its class, and whether its colour is another one than that of other texts."""
+        return self.browser.value("((one) => [one.textContent, one.className.trim(), getComputedStyle(one).color !== "
+                                  "getComputedStyle(document.body).color])(document.getElementById('verdict'))")
 
     def test_ways_to_open(self):
-        """Opens the page as a file of the system. Then it can't read other files by itself."""
-        browser, report = self.browser, first_report()
-        outputs = {"locators": "".join(line + "\n" for line in fitting_locators(report))}
-        alone, both = picture.expected_of(report, {}), picture.expected_of(report, outputs)
-        json_file, locators = self.put("01.json", written(report)), self.put("01.locators", outputs["locators"])
-        for way, put in (("the file picker", browser.choose_files), ("drag and drop", browser.drop_files)):
-            browser.open(PAGE.as_uri())
-            self.check(f"by {way}: the commands are shown before anything is open",
-                       "shardscrub superblocks --page P" in browser.text("empty"))
-            put(json_file)
-            self.check_counts(f"by {way}", browser.shown(), alone)
-            browser.forget()
-            put(locators)
-            self.check_counts(f"locators by {way} later", browser.shown(), both)
-            browser.open(PAGE.as_uri())
-            put(locators, json_file)
-            self.check_counts(f"both by {way}", browser.shown(), both)
-            browser.open(PAGE.as_uri())
-            put(locators)
-            self.check(f"locators alone by {way}: the report is asked for", "Open the report" in browser.shown()["fault"])
-            put(json_file)
-            self.check_counts(f"the report by {way} later", browser.shown("drawn"), both)
-            browser.forget()
-            put(json_file)
-            self.check_counts(f"the report once more by {way}: the earlier outputs are closed", browser.shown(), alone)
+        """By the picker and by drag and drop, on a page that was opened as a file; other files of the disk later."""
+        paths = [self.browser.put(f"one.{ending}", text) for ending, text in self.files("flipped-bit").items()]
+        for put in (self.browser.choose_files, self.browser.drop_files):
+            self.browser.open(PAGE.as_uri())
+            put(paths[0])
+            self.same("the report", (self.browser.state(), self.verdict()), ("answer main", ["not judged: open summary", "verdict", False]))
+            put(*paths[1:])
+            self.same("the outputs", (self.browser.state(), self.verdict()), ("answer main", ["verdict doubt", "verdict doubt", True]))
+        lines = disks()["flipped-bit"].outputs["reclaimable"].splitlines()
+        shown = self.browser.value("[...document.querySelectorAll('#doubts code, #resets code, #rooms code')].map((one) => one.textContent)")
+        self.same("the lines of reclaimable", shown, lines)
+        self.same("a file isn't read by itself", self.browser.open(PAGE.as_uri() + "?one.json"), "fault")
+        self.same("the page says so", "Choose the files above" in self.browser.text("fault"), True)
 
     def test_what_cannot_be_opened(self):
-        browser, report = self.browser, first_report()
-        cases = (
-            ("a list", "wrong.json", "[1]\n", "it isn't a report"),
-            ("half a report", "wrong.json", written(report)[:200], "it isn't JSON, or it is cut short"),
-            ("a report without a key", "wrong.json", written({key: report[key] for key in report if key != "twins"}), "no key twins"),
-            ("an unknown item", "wrong.json", written(report).replace('"chunk ', '"lump ', 1), "isn't understood"),
-            ("an extent that is left out", "wrong.json", written(report | {"extents": report["extents"][1:]}),
-             "the report lacks extent 1"),
-            ("a line between two reports", "wrong.json", written(report) + "image too long\n" + written(report), "line 2"),
-            ("a word of a locator that is left out", "wrong.txt", "run 0 2 0 117 sound\n", "line 1 isn't a line of locators"),
-            ("an unknown state", "wrong.txt", "record 0 SSB1 1 new\n", "line 1 isn't a line of superblocks"),
-            ("an unknown doubt", "wrong.txt", "doubt tail 1 1 1\ndoubt rain\n", "line 2 isn't a line of reclaimable"),
-            ("half a line", "wrong.txt", "record 0 SSB1 1 counts\ndamaged 4", "isn't whole"),
-            ("a move without its bytes", "wrong.txt", "reclaim 1 9\nmove 1 0 3 11111111-1111-1111-1111-111111111111 run 0\n",
-             "line 2 isn't a line of reclaimable"),
-            ("a spare of no copy", "wrong.txt", "run 0 2 0 117 11111111-1111-1111-1111-111111111111 no_frame\n"
-             "spare 3 0 117 11111111-1111-1111-1111-111111111111 0\n", "line 2 isn't a line of locators"),
-            ("sizes", "wrong.txt", "0 SSB1 6 64 16 5\n", "the output of sizes"),
-            ("a manifest", "wrong.txt", "retired\nruns lost 0 hidden 0\ntotal 0 0\n", "the output of manifest, which this page doesn't draw"),
-            ("a manifest without a superblock", "wrong.txt", "no-superblock\n", "the output of manifest, which"),
-            ("a summary", "wrong.txt", "verdict sound\npage_bytes 64\n", "the output of summary, which this page doesn't draw"),
-            ("two images that were compared", "wrong.txt", "written 2 42\nunsafe\n", "the output of compare, which this page doesn't draw"),
-            ("something else", "wrong.txt", "hello\n", "neither a report nor an output"),
-            ("an empty file of no known kind", "wrong.txt", "", "name doesn't say what it is"),
-        )
-        for what, name, text, right in cases:
-            self.put(name, text)
-            browser.open(f"{self.site}/report.html?{name}")
-            fault = browser.shown().get("fault") or ""
-            self.check(f"{what} is refused", right in fault and browser.text("fault") == fault.strip(), fault)
-            self.check(f"{what}: no picture is shown", browser.value("document.querySelector('main').hidden"
-                                                                    " && document.getElementById('answer').hidden"))
-        browser.open(f"{self.site}/report.html?no-such.json")
-        self.check("a path without a file is refused", "404" in browser.shown()["fault"])
-        browser.open(PAGE.as_uri() + "?no-such.json")
-        self.check("a file of the system isn't read by itself, and the page says so",
-                   "Choose the report above" in browser.shown()["fault"])
-        self.put("right.json", written(report))
-        self.put("one.superblocks", "")
-        self.put("two.superblocks", "")
-        browser.open(f"{self.site}/report.html?right.json&one.superblocks&two.superblocks")
-        self.check("two outputs of one command are refused", "second output of superblocks" in browser.shown()["fault"])
-        shown = self.open(report | {"clean": not report["clean"]}, {})
-        self.check("a report that contradicts itself is never sound", "contradicts itself" in shown["fault"]
-                   and shown["verdict"]["is"] == ("wrong" if report["clean"] else "doubt"), shown)
-        browser.forget()
-        browser.choose_files(self.put("half.json", written(report)[:100]))
-        self.check("a file that is refused later leaves the picture, with the fault above", "JSON" in browser.shown()["fault"]
-                   and not browser.value("document.querySelector('main').hidden"))
+        for what, name, text, right in HOSTILE[:19]:
+            self.browser.put(name, text)
+            self.browser.open(f"{self.browser.site}/report.html?{name}")
+            self.same(what, right in self.browser.text("fault"), True)
+            self.same(f"{what}: no picture", self.browser.value("document.getElementById('disk').checkVisibility()"), False)
+        for path, right in (("none.json", "404"), ("http://localhost:1/x.json", "another origin"), ("//localhost:1/x.json", "another origin")):
+            self.browser.open(f"{self.browser.site}/report.html?{path}")
+            self.same(path, right in self.browser.text("fault"), True)
+        violated = self.browser.value("""new Promise((done) => {
+            document.addEventListener('securitypolicyviolation', (event) => done(event.effectiveDirective));
+            fetch('http://localhost:1/').catch(() => setTimeout(() => done(null), 1000)); })""")
+        self.same("the policy", violated, "connect-src")
 
-    def test_rows_of_disks(self):
-        """Opens a file with a row for each disk. A row without a report is wrong."""
-        browser, reports = self.browser, example_reports()
-        rows = [{"disk": name, "status": 0 if report["clean"] else 1, "text": "", **report} for name, report in reports.items()]
-        unanswered = [{"disk": "too-long", "status": 3, "text": "shardscrub: image too long"},
-                      {"disk": "no-memory", "status": 4, "text": ""}, {"disk": "unbuilt", "status": 70, "text": "shardscrub: no rt"}]
-        rows[1:1] = unanswered[:1]
-        rows += unanswered[1:]
-        self.put("disks.jsonl", "".join(map(written, rows)))
-        browser.open(f"{self.site}/report.html?disks.jsonl")
-        self.check("the first row without a report is opened", browser.shown()["name"] == "too-long", browser.shown())
-        listed = listed_disks(browser)
-        self.check("each row is in the chooser", sorted(listed) == list(range(len(rows))) and all(
-            listed[index].startswith(row["disk"] + ": ") for index, row in enumerate(rows)), listed)
-        worst = sorted(range(len(rows)), key=lambda index: badness(rows[index]))
-        self.check("the worst one comes first", list(listed) == worst, (list(listed), worst))
-        for index, row in enumerate(rows):
-            what = f"row {index}, {row['disk']}"
-            choose(browser, index)
-            shown = browser.shown()
-            self.check(f"{what}: its name is shown", browser.text("name") == f"{row['disk']} (disks.jsonl)", browser.text("name"))
-            if "super" in row:
-                self.check_counts(what, shown, picture.expected_of(row, {}))
-                self.check_verdict(what, shown, picture.verdict(row, {}))
-                self.check(f"{what}: it isn't called wrong in the chooser unless it is",
-                           listed[index].endswith(": wrong") == (not row["clean"]), listed[index])
-            else:
-                self.check_verdict(what, shown, "wrong")
-                text = browser.text("verdict")
-                self.check(f"{what}: its status and its text are shown, and no picture", f"status {row['status']}" in text
-                           and row["text"] in text and browser.value("document.querySelector('main').hidden"), text)
-                self.check(f"{what}: the chooser has its status", listed[index].endswith(f"no report, status {row['status']}"))
-        choose(browser, 1)
-        self.screenshot("row-without-report")
-        wrong = {"disk": "x", "status": 1 if rows[0]["clean"] else 0, **reports[rows[0]["disk"]]}
-        self.put("row.jsonl", written(wrong))
-        browser.open(f"{self.site}/report.html?row.jsonl")
-        self.check("a status that isn't the report's is a contradiction",
-                   "contradicts itself" in (browser.shown()["fault"] or ""))
+    def test_a_fleet(self):
+        """Forty and four thousand rows: a click on a title sorts them, one on a disk opens it."""
+        for count in (40, 4000):
+            names, rows = Fleet().fleet(count)
+            self.same("the table", self.open("rows", {"jsonl": "".join(rows)}), "fleet")
+            shown = lambda: self.browser.value("[...document.querySelectorAll('#disks tr td:first-child')].map((one) => one.textContent)")
+            self.same("all disks", sorted(shown()), sorted(names))
+            self.browser.screenshot(f"fleet-{count}")
+            self.browser.value("document.querySelectorAll('#columns button')[0].click()")
+            self.same("by name", shown(), names)
+            self.browser.value("document.querySelectorAll('#disks tr')[1].click()")
+            self.same("the disk", self.browser.text("name"), names[1])
+            self.browser.value("document.getElementById('all').click()")
+            self.same("all disks again", shown(), names)
+        self.browser.resize(420)
+        heights = self.browser.value("[...document.querySelectorAll('#disks tr')].map((one) => one.offsetHeight)")
+        self.browser.resize(1400)
+        self.same("each row is one line in a narrow window, too", max(heights) < 40, True)
 
-    def test_summaries_that_cannot_be_opened(self):
-        """One without a key, with a number that isn't one, or with another verdict. No picture and no verdict is shown."""
-        whole = summary_row("x", summary_of(examples()[-1]))
-        for what, text, right in (
-                ("a summary without its last number", whole.replace(',"chunks_to_move":', ',"chunks":'), "no key chunks, chunks_to_move"),
-                ("a summary without its verdict's word", re.sub('"verdict":"[a-z]*"', '"verdict":""', whole), "no key verdict"),
-                ("an unknown verdict", re.sub('"verdict":"[a-z]*"', '"verdict":"fine"', whole), "no key verdict"),
-                ("half a number", re.sub('"tails":([0-9]*)', r'"tails":\1.5', whole), "no key tails"),
-                ("a number below zero", re.sub('"runs_lost":', '"runs_lost":-', whole.replace('"runs_lost":0', '"runs_lost":1')),
-                 "no key runs_lost"),
-                ("a number as text", whole.replace('"runs_lost":0', '"runs_lost":"0"'), "no key runs_lost"),
-                ("a number twice", whole.replace('"runs_lost":0', '"runs_lost":0,"runs_lost":1'), "no key runs_lost"),
-                ("a row that is cut short", whole[:-5] + "\n", "it isn't JSON, or it is cut short"),
-                ("a summary after a right one", whole + whole.replace('"tails":', '"tail":'), "line 2: it isn't a summary")):
-            self.put("wrong.jsonl", text)
-            self.browser.open(f"{self.site}/report.html?wrong.jsonl")
-            fault = self.browser.shown().get("fault") or ""
-            self.check(f"{what} is refused", right in fault, (fault, right))
-            self.check(f"{what}: nothing is shown", self.browser.value(
-                "['answer', 'summary'].every((name) => document.getElementById(name).hidden) && document.querySelector('main').hidden"))
-
-    def test_keys_and_buttons(self):
-        browser = self.browser
-        self.put("01.json", written(first_report()))
-        browser.open(f"{self.site}/report.html?01.json")
-        browser.shown()
-        here = lambda: browser.text("here").split("\n")[0]
+    def test_keys_and_pointer(self):
+        browser, here = self.browser, lambda: self.browser.text("here").split("\n")[0]
+        self.open("one", self.files("one-shard"), "#2:0")
+        self.same("an address leads to its place", here()[:9], "extent 2:")
         browser.value("document.getElementById('scroll').focus()")
+        for key, code, right in (("ArrowLeft", 37, "extent 1: chunk 0"), ("ArrowRight", 39, "extent 2: chunk 0"),
+                                 ("ArrowUp", 38, "extent 1: chunk 0")):
+            browser.press(key, code)
+            self.same(key, here()[:len(right)], right)
+        browser.press("+", 187)
+        self.same("+ zooms in", browser.value("new Promise((done) => setTimeout(done, 50))") or browser.text("range")[:6], "bytes ")
+        browser.press("0", 48)
+        browser.value("document.getElementById('overview').focus()")
+        browser.press("End", 35)
+        browser.press("Enter", 13)
+        self.same("the overview by keys", here()[:9], "extent 2:")
+        browser.point("mouseMoved", 1, 10)
+        self.same("under the pointer", browser.text("tip")[:17], "extent 1: chunk 0")
+        browser.point("mousePressed", 1, 10)
+        browser.point("mouseReleased", 1, 10)
+        self.same("a press selects", here()[:17], "extent 1: chunk 0")
+        browser.press("/", 191)
+        self.same("the search", browser.value("document.activeElement.id"), "wanted")
 
-        def press(key, code):
-            for kind in ("keyDown", "keyUp"):
-                browser.call("Input.dispatchKeyEvent", type=kind, key=key, windowsVirtualKeyCode=code,
-                             **({"text": key} if len(key) == 1 and kind == "keyDown" else {}))
+    def test_dark_and_paper(self):
+        """Dark if the reader wants it; paper is light, and has each bar as a picture of its own."""
+        self.open("one", self.files("several findings"))
+        self.browser.screenshot("light")
+        grounds = []
+        for scheme in ("light", "dark"):
+            self.browser.call("Emulation.setEmulatedMedia", features=[{"name": "prefers-color-scheme", "value": scheme}])
+            grounds.append(self.browser.value("getComputedStyle(document.body).backgroundColor"))
+        self.browser.screenshot("dark")
+        self.same("the grounds", grounds, ["rgb(243, 245, 247)", "rgb(13, 15, 18)"])
+        self.browser.value("window.dispatchEvent(new Event('beforeprint'))")
+        bars = self.browser.value("document.querySelectorAll('#print canvas').length")
+        self.same("the bars on paper", bars, disks()["several findings"].report["geometry"]["extents"])
+        self.browser.call("Emulation.setEmulatedMedia", media="print")
+        on_paper = "['#tools', '#numbers button'].map((one) => document.querySelector(one).checkVisibility())"
+        self.same("paper says how many lines it leaves out", self.browser.value(on_paper), [False, True])
+        self.browser.call("Emulation.setEmulatedMedia", media="")
+        self.same("a page of paper", self.browser.call("Page.printToPDF")["data"][:4], "JVBE")
+        self.browser.value("window.dispatchEvent(new Event('afterprint'))")
+        self.same("none is left", self.browser.value("document.querySelectorAll('#print canvas').length"), 0)
+        self.browser.call("Emulation.setEmulatedMedia", features=[])
 
-        for key, code, right in (("ArrowRight", 39, "extent 0: page 0"), ("ArrowRight", 39, "extent 1: chunk 0"),
-                                 ("ArrowRight", 39, "extent 2: chunk 0"), ("ArrowLeft", 37, "extent 1: chunk 0"),
-                                 ("ArrowDown", 40, "extent 2: chunk 0"), ("ArrowUp", 38, "extent 1: chunk 0")):
-            press(key, code)
-            self.check(f"{key} goes to '{right}'", here().startswith(right), here())
-        whole = browser.text("range")
-        press("+", 187)
-        browser.settle()
-        self.check("+ zooms in", browser.text("range").startswith("bytes "), browser.text("range"))
-        press("0", 48)
-        browser.settle()
-        self.check("0 shows whole extents", browser.text("range") == whole, browser.text("range"))
-        for button in ("nearer", "farther"):
-            browser.value(f"document.getElementById('{button}').click()")
-        browser.settle()
-        self.check("zooming in and out shows whole extents", browser.text("range") == whole, browser.text("range"))
-        self.put("tail.json", written(looked_at("tail").report))
-        browser.open(f"{self.site}/report.html?tail.json#2:0")
-        browser.shown()
-        top = browser.value("document.getElementById('scroll').scrollTop")
-        self.check("an address that names a place leads there, not to the first finding", top == 0 and here().startswith("extent 2:"),
-                   (top, here()))
-
-
-def summary_row(name, summary):
-    """The row of summary of a disk, as view/row prints it."""
-    keys = {"disk": json.dumps(name), "status": str(int(summary["verdict"] != "sound")), "text": '""'}
-    keys |= summary | {"verdict": f'"{summary["verdict"]}"'}
-    return "{" + ",".join(f'"{key}":{value}' for key, value in keys.items()) + "}\n"
-
-
-def contradicted(summary):
-    """Summaries whose verdict is better or worse than their numbers, or doesn't agree with their status: what is wrong, and the row."""
-    # With --last a disk may be in doubt whatever its numbers are.
-    for verdict in {"sound", "doubt", "wrong"} - {summary["verdict"], *["doubt"] * (summary["verdict"] == "sound")}:
-        yield f"the verdict is {verdict}", summary_row("x", summary | {"verdict": verdict})
-    yield "another status", re.sub('"status":([01])', lambda found: f'"status":{1 - int(found[1])}', summary_row("x", summary))
-    if summary["verdict"] != "wrong":
-        for name in ("superblock_tie", "unreadable_pages", "runs_lost", "locators_hidden", "locators_dangling", "shared_places",
-                     "torn_items", "noise_items", "lost_items"):
-            yield f"{name} is 1", summary_row("x", summary | {name: "1"})
-        yield "no superblock", summary_row("x", summary | {"superblocks": "0"})
-    if summary["verdict"] == "sound":
-        for name in ("superblocks_damaged", "superblocks_stray"):
-            yield f"{name} is 1", summary_row("x", summary | {name: "1"})
-
-
-class Summaries(PageCase):
-    """Rows of summary. A sound disk is shown as sound, and no other."""
-
-    def check_summaries(self):
-        """Opens rows of summary, one of scan, and one of each without an answer."""
-        summaries = {line.split("\t")[0]: summary_of(line) for line in [*examples(), *islice(made_up(self.room), 8)]}
-        summaries = {name: summary for name, summary in summaries.items() if summary is not None}
-        sound = next(summary for summary in summaries.values() if summary["verdict"] == "sound")
-        summaries["another superblock than the last one"] = sound | {"verdict": "doubt"}
-        rows = {name: summary_row(name, summary) for name, summary in summaries.items()}
-        rows["no answer"] = written({"disk": "no answer", "status": 3, "text": "shardscrub: image too long"})
-        report = first_report()
-        rows["a report"] = written({"disk": "a report", "status": 0 if report["clean"] else 1, "text": "", **report})
-        self.put("disks.jsonl", "".join(rows.values()))
-        self.browser.open(f"{self.site}/{self.page}?disks.jsonl")
-        self.check("the disk without an answer is opened", self.browser.shown().get("name") == "no answer", self.browser.shown())
-        names, listed = list(rows), listed_disks(self.browser)
-        worst = sorted(names, key=lambda name: badness(json.loads(rows[name])))
-        self.check("all disks are listed, the worst first", [names[index] for index in listed] == worst, listed)
-        choose(self.browser, names.index("a report"))
-        self.check("a report is drawn", self.browser.shown().get("state") == "drawn", self.browser.shown())
-        for index, name in enumerate(names):
-            if self.failures:
-                return
-            if name in summaries:
-                choose(self.browser, index)
-                self.check_summary(name, summaries[name], listed.get(index, ""))
-        for name in ("no answer", "a report"):
-            choose(self.browser, names.index(name))
-            self.check(f"{name}: no summary stays", self.browser.value("document.getElementById('summary').hidden"
-                                                                       " && !document.getElementById('numbers').children.length"))
-        self.put("disks.jsonl", "".join(row for name, row in rows.items() if name in summaries))
-        self.browser.open(f"{self.site}/{self.page}?disks.jsonl")
-        right = next(name for name in worst if name in summaries)
-        self.check("the worst summary is opened", self.browser.shown().get("name") == right, (self.browser.shown(), right))
-
-    def check_summary(self, name, summary, listed):
-        shown, browser = self.browser.shown(), self.browser
-        self.check(f"{name}: a summary is shown, and no picture",
-                   shown["state"] == "summary" and browser.value("document.querySelector('main').hidden && !disk"), shown)
-        self.check(f"{name}: its name", browser.text("name") == f"{name} (disks.jsonl)", browser.text("name"))
-        self.check_verdict(name, shown, summary["verdict"])
-        word = {"wrong": "wrong", "doubt": "in doubt", "sound": "sound"}[summary["verdict"]]
-        self.check(f"{name}: its word in the chooser", listed == f"{name}: {word}", listed)
-        numbers = browser.value("[...document.querySelectorAll('#numbers div')].map((one) => [...one.children].map((part) => part.textContent))")
-        right = [[key.replace("_", " "), value] for key, value in list(summary.items())[1:]]
-        self.check(f"{name}: its numbers, to the last digit", numbers == right, (numbers, right))
-        text = browser.text("verdict-text")
-        self.check(f"{name}: its tails are named", ("have tails" in text or "has a tail" in text) == (summary["tails"] != "0"), text)
-        for key in ("shards_broken", "unreadable_pages"):
-            found = f"{key.replace('_', ' ')}: {int(summary[key]):,}."
-            self.check(f"{name}: its {key} are named", (found in text) == (summary[key] != "0"), text)
-        sizes = "--page {page_bytes} --pages {extent_pages} --extents {extents} ".format(**summary)
-        self.check(f"{name}: the commands have its sizes", browser.text("summary").count(sizes) == 4, browser.text("summary"))
-
-    def check_contradictions(self):
-        """A summary that contradicts itself is wrong."""
-        summaries = [summary for summary in map(summary_of, examples()) if summary is not None]
-        for verdict in ("sound", "doubt", "wrong"):
-            summary = next(one for one in summaries if one["verdict"] == verdict)
-            for what, row in contradicted(summary):
-                if self.failures:
-                    return
-                self.put("x.jsonl", row)
-                self.browser.open(f"{self.site}/{self.page}?x.jsonl")
-                self.check_verdict(f"{verdict}, but {what}", self.browser.shown(), "wrong")
-                word = self.browser.text("verdict-word")
-                self.check(f"{verdict}, but {what}: it says so", "contradicts itself" in word, word)
-
-    def test_summaries(self):
-        self.check_summaries()
-        self.screenshot("row-of-summary")
-
-    def test_contradictions(self):
-        self.check_contradictions()
-
-
-class WrongSummaries(Summaries):
-    """Pages with a changed place, which show a summary as better than it is, or out of its order."""
-    page = "wrong.html"
-    test_summaries = test_contradictions = None
-
-    def check_page(self, wrong):
-        _, old, new = wrong
-        text = PAGE.read_text(encoding="utf-8")
-        self.same("how often the page has the place", text.count(old), 1)
-        self.put("wrong.html", text.replace(old, new))
-        self.failures = 0
-        (self.check_contradictions if wrong in WRONG_CONTRADICTIONS else self.check_summaries)()
-        self.browser.errors()
-        self.true("it is seen to be wrong", self.failures > 0)
-
-
-add_tests(WrongSummaries, WrongSummaries.check_page, [(wrong[0], wrong) for wrong in WRONG_CONTRADICTIONS + WRONG_SUMMARIES])
-
-
-def changed(line):
-    """The line with one changed word, for each word that can be compared. A report has no owner of a locator or of a move, and
-    doesn't say how many spares there are."""
-    words = line.split(" ")
-    kept = 2 if words[0] in ("run", "shard") else 1
-    for index in range(kept, len(words)):
-        word = words[index]
-        if (words[0], index) in (("move", 5), ("move", 6), ("spare", 5)) or words[:2] == ["doubt", "last"] and index == 3:
-            continue
-        if word.isdigit():
-            other = str(int(word) + 1)
-        elif word in ("SSB1", "SSB2"):
-            continue
-        else:
-            other = {"counts": "older", "older": "counts", "damaged": "stray", "sound": "hidden", "hidden": "sound"}.get(word, word[::-1])
-        if other != word:
-            yield " ".join([*words[:index], other, *words[index + 1:]])
-
-
-class Misfits(PageCase):
-    """Outputs that don't fit the open report."""
-
-    def check_disk(self, name):
-        """Opens all outputs with a line left out, given twice, or with a changed word. None of these may fit or look sound."""
-        disk = looked_at(name)
-        self.open(disk.report, {})
-        for output, text in disk.outputs.items():
-            lines = text.splitlines()
-            for index, line in enumerate(lines[:12]):
-                # Only digests show that a spare is missing, and neither locators nor a report has them. But the doubt shows it.
-                is_needed = not line.startswith("spare ") or f"{line.rsplit(' ', 1)[0]} " in disk.outputs["reclaimable"]
-                for instead in (*[[]] * is_needed, [line, line], *([one] for one in changed(line))):
-                    other = "".join(one + "\n" for one in lines[:index] + instead + lines[index + 1:])
-                    self.check_misfit(f"{name}: {instead} instead of '{line}' doesn't fit", disk.outputs | {output: other})
-        self.check_misfits_of_spares_and_rooms(name, disk.outputs)
-
-    def test_outputs_of_another_disk(self):
-        disk = looked_at("in-order")
-        shown = self.open(disk.report, disk.outputs | {"superblocks": "record 0 SSB1 40 counts\n"})
-        self.check("a superblock of another generation: no verdict is sound", shown["verdict"]["is"] == "doubt"
-                   and "superblocks doesn't fit" in self.browser.text("fault"), shown)
-        self.check("outputs of another disk: they are named", "doesn't fit" in self.browser.text("opened"))
-
-    def check_misfit(self, what, outputs):
-        """Opens outputs beside the open report. They may not fit, and nothing may look sound."""
-        files = [{"name": f"x.{name}", "text": text} for name, text in outputs.items()]
-        shown = self.browser.value(f"(openTexts({json.dumps(files)}), "
-                                   "(({misfits, fault, verdict}) => ({misfits, fault, is: verdict?.is}))"
-                                   "(JSON.parse(document.getElementById('shown').textContent)))")
-        is_seen = shown.get("misfits") or "isn't a line" in (shown["fault"] or "")
-        self.check(what, is_seen and shown.get("is") != "sound", shown)
-        self.browser.value("outputs = {}, openRow(0)")
-
-    def check_misfits_of_spares_and_rooms(self, what, outputs):
-        """Opens outputs with lines of rooms, of spares and of accepted doubts that don't fit."""
-        lines, kinds = outputs["reclaimable"], [line.split()[:2] for line in outputs["reclaimable"].splitlines()]
-        without_locators = {name: text for name, text in outputs.items() if name != "locators"}
-        for name, old, new in (("a room in a listed extent", "\nlast-room ", "\nroom "),
-                               ("a last room in an extent that stays", "\nroom ", "\nlast-room "),
-                               ("an open doubt beside listed extents", "accepted ", "doubt ")):
-            if old in lines and ("reclaim" in dict(kinds) or old != "accepted "):
-                self.check_misfit(f"{what}: {name} doesn't fit", outputs | {"reclaimable": lines.replace(old, new, 1)})
-        if any(word == "doubt" for word, _ in kinds):
-            self.check_misfit(f"{what}: a room beside an open doubt doesn't fit", outputs | {"reclaimable": lines + "room 3 155 869\n"})
-        spare = next((line for line in lines.splitlines(True) if line.split()[1] == "spare"), None)
-        if spare:
-            rest, (*_, owner, count) = lines.replace(spare, ""), spare.split()
-            if rest.startswith("accepted tail"):
-                self.check_misfit(f"{what}: a spare behind a tail doesn't fit", outputs | {"reclaimable": rest + spare})
-            live = f"{spare.split()[0]} spare 5 0 21 {'-'.join(('71' * 4, *['71' * 2] * 3, '71' * 6))} shard {owner} 59\n"
-            for name, other in (("of another shard", spare.replace(owner, f"{2:032x}")), ("that is given twice", spare * 2),
-                                ("with its payload's bytes", spare.replace(f" {count}\n", " 21\n")), ("that is a live chunk", live)):
-                self.check_misfit(f"{what}: a spare {name} doesn't fit, without locators", without_locators | {"reclaimable": other + rest})
-
-
-add_tests(Misfits, Misfits.check_disk, [(name, name) for name in MISFITTED])
-
-
-class Large(PageCase):
-    """The largest reports, and how long they take."""
-
-    def check_times(self, what, shown, lines):
-        took = shown["milliseconds"]
-        print(f"{what}, {lines:,} lines of outputs: prepared in {took['prepared']:.0f} ms, listed in {took['listed']:.0f}, "
-              f"drawn in {took['drawn']:.0f}", flush=True)
-        self.check(f"{what}: opened soon enough", sum(took.values()) <= MOST_OPENING, took)
-
-    def check_drawing(self, what, *expressions):
-        timed = ("(() => {{ const begun = performance.now(); for (let turn = 0; turn < 20; turn++) {{ {} }}"
-                 " return (performance.now() - begun) / 20; }})()")
-        for part, expression in expressions:
-            took = self.browser.value(timed.format(expression))
-            print(f"    {part}: {took:.1f} ms", flush=True)
-            self.check(f"{what}: {part} in {MOST_DRAW} ms", took <= MOST_DRAW, took)
-
-    def test_many_items(self):
-        browser, report = self.browser, made_up_report(ITEMS)
-        lines = fitting_locators(report)
-        what = f"{len(items_of(report)):,} items in {report['geometry']['extents']:,} extents"
-        for outputs in ({}, {"locators": "".join(line + "\n" for line in lines)}):
-            shown = self.open(report, outputs, "many")
-            self.check_picture(what, shown, report, outputs)
-            self.check_times(what, shown, sum(map(len, outputs.values())) and len(lines))
-        self.check_drawing("many items", ("whole extents", "draw();"), ("a sixteenth of them", "view = {from: 3e5, span: 65536}; draw();"),
-                           ("a page", "view = {from: 3e5, span: 4096}; draw();"), ("the overview", "drawOverview();"),
-                           ("what is under the mouse, 1,000 times", "for (let x = 160; x < 1160; x++) "
-                            "pixelAt(600, 600) && describe(disk.rows[1], x * 800, x * 800 + 900, 9);"))
-        browser.value("show(0, disk.size)")
-        self.check_links(what)
-        for name, place in (("many-items", ""), ("many-items-end", "#999:4000000")):
-            browser.open(f"{self.site}/report.html?many.json&many.locators{place}")
-            browser.shown()
-            self.screenshot(name)
-
-    def test_many_extents(self):
-        """Opens 65,536 extents: a real disk, which has no superblock, and a made-up report with one. In a small window several
-        extents share a cell."""
-        disk, (report, outputs) = looked_at("most-extents"), most_rows()
-        for what, report, outputs in (("65,536 extents without a superblock", disk.report, disk.outputs),
-                                      ("65,536 extents with a superblock, made up", report, outputs)):
-            shown = self.open(report, outputs, "extents")
-            self.check_picture(what, shown, report, outputs)
-            self.check(f"{what}: a cell for each extent", shown["overview"]["perCell"] == 1, shown["overview"])
-            self.check_times(what, shown, sum(len(text.splitlines()) for text in outputs.values()))
-            self.check_drawing(what, ("the bars", "draw();"), ("the overview", "drawOverview();"))
-        self.screenshot("extents-made-up")
-        self.addCleanup(self.browser.resize, *WINDOW)
-        self.browser.resize(1000, 600)
-        shown = self.open(report, outputs, "extents")
-        self.check_overview(f"{what}, in a small window", shown, report, outputs)
-        self.check(f"{what}, in a small window: several extents share a cell", shown["overview"]["perCell"] > 1,
-                   shown["overview"])
-        self.screenshot("extents-small-window")
+    def test_legends(self):
+        """They have no kind that isn't there."""
+        self.open("one", self.files("one-shard"))
+        texts = self.browser.value("[...document.querySelectorAll('#legend li')].map((one) => one.textContent.split(':')[0])")
+        self.same("the legend", texts, ["live chunk", "page with the superblock that counts", "write pointer"])
 
 
 class WrongPages(PageCase):
-    """Pages with a changed place, which look better than the disk or count wrongly. The checks have to find each."""
-    page = "wrong.html"
+    """Pages with a planted mistake. The test that is named has to find each."""
 
     def check_page(self, wrong):
-        what, old, new, name = wrong
-        text = PAGE.read_text(encoding="utf-8")
-        self.same("how often the page has the place", text.count(old), 1)
-        self.put("wrong.html", text.replace(old, new))
-        disk, self.failures = looked_at(name), 0
-        for outputs in ({}, disk.outputs):
-            shown = self.open(disk.report, outputs, name)
-            self.same("the state of the page", shown.get("state"), "drawn")
-            self.check_picture(what, shown, disk.report, outputs)
-            self.check_without_superblock(what, disk.report)
-            if outputs and name in OF_SPARES_AND_ROOMS:
-                self.check_spares_and_rooms(what, disk)
-        self.browser.errors()
-        self.true("it is seen to be wrong", self.failures > 0)
+        test, old, new = wrong
+        page, (name, method) = text_of_page(), test.split(".")
+        self.assertEqual(page.count(old), 1, "how often the page has the place")
+        case = globals()[name](method)
+        case.script, case.failures = script_in(page.replace(old, new)), 0
+        try:
+            getattr(case, method)()
+        except (RuntimeError, LookupError, ValueError):
+            case.failures += 1
+        self.assertGreater(case.failures, 0, "it isn't seen to be wrong")
 
 
-add_tests(WrongPages, WrongPages.check_page, [(wrong[0], wrong) for wrong in WRONG_PAGES])
+add_tests(WrongPages, WrongPages.check_page, [(what, (test, old, new)) for test, some in WRONG_PAGES.items() for what, old, new in some])

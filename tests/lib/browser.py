@@ -1,12 +1,17 @@
-"""Chromium without a window, driven by Selenium, for tests of a page."""
+"""Chromium without a window, driven by Selenium, and a server of the page and of files that tests put beside it."""
 import base64
 import fcntl
-import json
+import functools
+import http.server
 import os
 import shutil
+import tempfile
+import threading
 import time
 import unittest
+from pathlib import Path
 
+from lib.page import PAGE
 from lib.program import absent, need
 
 try:
@@ -17,7 +22,8 @@ except ImportError:
     webdriver = None
 
 BROWSERS = ("chromium", "chromium-browser", "google-chrome")
-WINDOW = (1400, 900)
+# The name of the variable that names a folder for screenshots.
+SHOTS = "SHARDSCRUB_SCREENSHOTS"
 
 
 def need_browser():
@@ -31,26 +37,36 @@ def need_browser():
     return found
 
 
+class Quiet(http.server.SimpleHTTPRequestHandler):
+    def log_message(self, *_):
+        pass
+
+
 class Browser:
-    def __init__(self, program, room):
+    def __init__(self):
+        program = need_browser()
+        self.folder = tempfile.TemporaryDirectory(prefix="shardscrub-page-")
+        self.room = Path(self.folder.name)
+        shutil.copy(PAGE, self.room)
+        self.server = http.server.ThreadingHTTPServer(("127.0.0.1", 0), functools.partial(Quiet, directory=self.room))
+        threading.Thread(target=self.server.serve_forever, daemon=True).start()
+        self.site = f"http://127.0.0.1:{self.server.server_port}"
         options = webdriver.ChromeOptions()
         options.binary_location = program
-        for word in ("--headless=new", "--hide-scrollbars", "--no-first-run", "--disable-gpu",
-                     "--disable-dev-shm-usage", f"--user-data-dir={room}"):
-            options.add_argument(word)
         # The superuser can't set up Chromium's sandbox.
-        if os.geteuid() == 0:
-            options.add_argument("--no-sandbox")
+        for word in ("--headless=new", "--hide-scrollbars", "--no-first-run", "--disable-gpu", "--disable-dev-shm-usage",
+                     f"--user-data-dir={self.room}/profile", *["--no-sandbox"] * (os.geteuid() == 0)):
+            options.add_argument(word)
         options.set_capability("goog:loggingPrefs", {"browser": "ALL"})
         # Selenium chooses a free port and then starts the driver on it. Of two processes, one waits, so that they choose another.
         with open(__file__, "rb") as lock:
             fcntl.flock(lock, fcntl.LOCK_EX)
             self.driver = webdriver.Chrome(options=options, service=Service(shutil.which("chromedriver")))
-        self.resize(*WINDOW)
+        self.resize(1400)
 
-    def resize(self, width, height):
-        """Gives the page this many pixels."""
-        self.call("Emulation.setDeviceMetricsOverride", width=width, height=height, deviceScaleFactor=1, mobile=False)
+    def resize(self, width):
+        """Gives the page so many pixels in a line."""
+        self.call("Emulation.setDeviceMetricsOverride", width=width, height=900, deviceScaleFactor=1, mobile=False)
 
     def call(self, method, **params):
         """Calls a method of the developer tools, for what Selenium has no name."""
@@ -64,57 +80,43 @@ class Browser:
         """The value of an expression in the page, or what a promise gives."""
         return self.driver.execute_script(f"return ({expression});")
 
+    def put(self, name, text):
+        (self.room / name).write_text(text, encoding="utf-8")
+        return self.room / name
+
     def open(self, address):
-        """Opens an address, without anything left of the page before."""
+        """Opens an address, without anything left of the page before, and waits until something is shown if it names files."""
         self.driver.get("about:blank")
         self.driver.get(address)
-        while self.value("document.readyState === 'complete' && 'pointOf' in window") is not True:
-            time.sleep(.02)
+        return self.state() if "?" in address else None
 
-    def shown(self, state=None):
-        """The numbers that the page shows. Waits until it shows any, in this state if one is given."""
+    def state(self):
+        """What is shown, once something is; forgotten afterwards, so that the next call waits for the next."""
         for _ in range(600):
-            shown = json.loads(self.value("document.getElementById('shown')?.textContent ?? '{}'"))
-            if shown.get("state") and state in (None, shown["state"]):
-                self.settle()
-                return shown
+            if state := self.value("document.body.dataset.state"):
+                self.value("new Promise((done) => requestAnimationFrame(() => requestAnimationFrame(done)))")
+                self.value("delete document.body.dataset.state")
+                return state
             time.sleep(.05)
-        return {}
-
-    def forget(self):
-        """Removes the numbers, so that `shown` waits for the next ones."""
-        self.value("document.getElementById('shown').textContent = '{}'")
-
-    def settle(self):
-        """Waits until the next frame is drawn."""
-        self.value("new Promise(done => requestAnimationFrame(() => requestAnimationFrame(done)))")
+        return None
 
     def text(self, name):
         return self.value(f"document.getElementById('{name}').innerText")
 
-    def hovered(self, extent, byte):
-        """What the page says about a byte under the mouse."""
+    def press(self, key, code):
+        for kind in ("keyDown", "keyUp"):
+            self.call("Input.dispatchKeyEvent", type=kind, key=key, windowsVirtualKeyCode=code,
+                      **({"text": key} if len(key) == 1 and kind == "keyDown" else {}))
+
+    def point(self, kind, extent, byte):
+        """Moves the pointer to a byte of a bar, or presses or releases its button there."""
         x, y = (self.value(f"pointOf({extent}, {byte}).{axis}") for axis in "xy")
-        self.call("Input.dispatchMouseEvent", type="mouseMoved", x=x, y=y)
-        return self.value("document.getElementById('tip').hidden") is False and self.text("tip")
+        self.call("Input.dispatchMouseEvent", type=kind, x=x, y=y, button="none" if kind == "mouseMoved" else "left", clickCount=1)
 
-    def colours(self, extent, byte, until, down):
-        """The colours of up to 12 neighbouring pixels, `down` pixels below the middle of an extent's bar."""
-        return self.value(f"""(() => {{
-            const bars = document.getElementById('bars'), box = bars.getBoundingClientRect(), ratio = devicePixelRatio;
-            const from = pointOf({extent}, {byte}), to = pointOf({extent}, {until});
-            const [x, y] = [from.x - box.left + 2, from.y - box.top + {down}].map((place) => Math.round(place * ratio));
-            const width = Math.max(1, Math.min(12, to.x - from.x - 3)) * ratio;
-            const pixels = bars.getContext('2d').getImageData(x, y, width, 1).data, colours = [];
-            for (let at = 0; at < pixels.length; at += 4) {{
-                colours.push('#' + [...pixels.slice(at, at + 3)].map((part) => part.toString(16).padStart(2, '0')).join(''));
-            }}
-            return colours;
-        }})()""")
-
-    def screenshot(self):
-        """The bytes of a PNG file."""
-        return base64.b64decode(self.driver.get_screenshot_as_base64())
+    def screenshot(self, name):
+        """Keeps a screenshot if the variable names a folder."""
+        if SHOTS in os.environ:
+            Path(os.environ[SHOTS], f"{name}.png").write_bytes(base64.b64decode(self.driver.get_screenshot_as_base64()))
 
     def choose_files(self, *paths):
         self.driver.find_element(By.ID, "files").send_keys("\n".join(map(str, paths)))
@@ -126,3 +128,6 @@ class Browser:
 
     def close(self):
         self.driver.quit()
+        self.server.shutdown()
+        self.server.server_close()
+        self.folder.cleanup()

@@ -52,8 +52,8 @@ def geometry_of(raw, geometry, blocks):
     return tuple(map(int, lines.split()[3:6])) if is_sure else None
 
 
-def summary_of(line):
-    """The verdict and the numbers of the disk of this line, as texts by their names; or None if its sizes aren't found."""
+def image_of(line):
+    """The image of the disk of this line, or None if its sizes aren't found."""
     _, image, *geometry, map_file, lost = line.split("\t")
     raw = (TOP / image).read_bytes()
     blocks = read_map((TOP / map_file).read_bytes()) if map_file != "-" else None
@@ -64,5 +64,10 @@ def summary_of(line):
     unreadable = [tuple(map(int, pair.split(":"))) for pair in lost.split() if pair != "-"]
     if blocks is not None:
         unreadable += [divmod(number, pages) for number in lost_by_map(blocks, page, pages * extents)]
-    text, _ = summary(Image(raw, page, pages, extents, unreadable))
-    return dict(line.split(" ") for line in text.splitlines())
+    return Image(raw, page, pages, extents, unreadable)
+
+
+def summary_of(line):
+    """The verdict and the numbers of the disk of this line, as texts by their names; or None if its sizes aren't found."""
+    image = image_of(line)
+    return image and dict(line.split(" ") for line in summary(image)[0].splitlines())
