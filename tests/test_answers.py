@@ -448,7 +448,7 @@ class Disks(AnswerCase):
 
 # What each help has.
 HELP = {
-    "--help": ["Usage: shardscrub [COMMAND]", "\n  summary ", "\n  scan ", "\n  shard ", "\n  index ", "\n  locators ",
+    "--help": ["Usage: shardscrub [COMMAND]", "\n  summary ", "\n  scan ", "\n  shard ", "\n  shards ", "\n  index ", "\n  locators ",
                "\n  manifest ", "\n  reclaimable ", "\n  compare ", "\n  superblocks ", "\n  sizes ", "\n  items ", "\n  demo ", "Exit status",
                "\n  shardscrub summary examples/one-shard.img", "--extent 1 --pointer 41 examples/one-shard.img"],
     "demo --help": ["Usage: shardscrub demo", "Exit status", "\n  shardscrub demo\n"],
@@ -473,6 +473,9 @@ HELP = {
                      "[EXTENT:PAGE]...", "\n  no such shard ", "\n  payload lost: NUMBER ", "a newer entry may be lost",
                      "Exit status",
                      "\n  shardscrub shard --id 00000000000000000000000000000001 examples/one-shard.img > restored"],
+    "shards --help": ["Usage: shardscrub shards", "--workers <COUNT>", "Without --page, --pages and --extents", "[EXTENT:PAGE]...",
+                      "\n  no superblock ", "\n  run lost: NUMBER STATE ", "\n  payload lost: ID NUMBER ",
+                      "\n  a newer entry may be lost: ID ", "Exit status", "\n  shardscrub shards examples/one-shard.img > shards.tar"],
     "summary --help": ["Usage: shardscrub summary", "--workers <COUNT>", "--last <G>", "[EXTENT:PAGE]...", "\n  verdict WORD ",
                        "\n  candidates candidate_bytes chunks_to_move\n", "Exit status",
                        "\n  shardscrub summary examples/one-shard.img", "\n  verdict sound\n"],

@@ -5,6 +5,9 @@ refusal, which has to give the right answer. Every other run has to end out of m
 for it. The whole right answer is right too, since some refused requests are repeated. Then all later allocations are refused as
 well, and the run has to end out of memory. `STEPS` has the command line with too many allocations to refuse each.
 
+Of runs with workers, and of single calls with workers, each allocation of the started threads is refused in turn, too. Then each of
+these threads has to end before the answer, though it lingers once its work is done.
+
 Single calls are those of the crate scrub_refused_memory, if `rt` has built its program here. Each public function of a library that
 takes an allocator, or can answer out of memory, has to be a call there, or to be made by one of the command lines.
 """
@@ -13,7 +16,7 @@ import shlex
 import unittest
 
 from lib import growths
-from lib.allocations import made, refusing
+from lib.allocations import made, refusing, refusing_of_others
 from lib.cases import Case, RoomCase, add_tests
 from lib.disks import Disk, locator, run, shard, uuid
 from lib.program import TOP
@@ -42,6 +45,8 @@ COMMAND_LINES = {
     "items": "items --page 64 --pages 4 --extents 3 --extent 1 examples/one-chunk.img",
     "locators": f"locators {SEVERAL}",
     "locators with 2 workers": f"locators --workers 2 {SEVERAL}",
+    "shards": f"shards --workers 2 {SEVERAL}",
+    "shards with a spare": f"shards --workers 0 {RETIRING}",
     "locators with a spare": f"locators --workers 0 {RETIRING}",
     "superblocks": f"superblocks {SEVERAL}",
     "superblocks of the second kind": f"superblocks {RETIRING}",
@@ -91,7 +96,9 @@ WITHOUT_REFERENCE = {"", "scan --help", "scan --workers 65"}
 WITH_THREADS = ["scan", "index with 2 workers", "locators", "locators with 2 workers", "reclaimable",
                 "reclaimable with the last generation", "manifest", "manifest with resets", "summary", "summary with 2 workers",
                 "locators by several readers", "scan of many items", "summary of many items",
-                "shard", "lost payload"]
+                "shard", "shards", "lost payload"]
+# Those in which each allocation of such a thread is refused. With many items there are thousands, so these aren't among them.
+WITH_WORKERS = [name for name in WITH_THREADS if "many items" not in name]
 OUT_OF_MEMORY = (4, b"", b"shardscrub: out of memory\n")
 
 
@@ -167,8 +174,10 @@ class Runs(LibraryCase):
             self.true(f"allocation {refused} refused", got in (OUT_OF_MEMORY, whole), got)
             # A run that ended out of memory at once has no later ones.
             if met > refused or got != OUT_OF_MEMORY:
-                got, _ = self.refusing(words, refused, all_later=True)
-                self.same(f"allocation {refused} and all later ones refused", got, OUT_OF_MEMORY)
+                got, met = self.refusing(words, refused, all_later=True)
+                # How many there are depends on which thread takes what.
+                wanted = OUT_OF_MEMORY if met >= refused else whole
+                self.same(f"allocation {refused} and all later ones refused", got, wanted)
         self.true("there are allocations", refused > step)
 
     def check_threads(self, words):
@@ -181,8 +190,22 @@ class Runs(LibraryCase):
         self.true("allocations are refused", refused > 0)
 
 
+    def check_ends(self, words):
+        """Each allocation of the threads but the first one is refused in turn: none of those that were started is left when the
+        answer is written."""
+        words = words.replace(ROOM, f"{self.room}/")
+        whole, ends = refusing(self.program, words, self.library, 0)[0], set()
+        for refused, got, counts in refusing_of_others(self.program, words, self.library):
+            what = f"allocation {refused} of the threads refused" if refused else "without a refusal"
+            self.true(what, got == whole or refused and got == OUT_OF_MEMORY, got)
+            self.true(f"{what}: threads are started, and have ended before the answer", counts and counts.threads > 0 == counts.left, counts)
+            ends.add(got)
+        self.true("some are out of memory", OUT_OF_MEMORY in ends, ends)
+
+
 add_tests(Runs, Runs.check, COMMAND_LINES.items())
 add_tests(Runs, Runs.check_threads, [(f"threads of {name}", COMMAND_LINES[name]) for name in WITH_THREADS])
+add_tests(Runs, Runs.check_ends, [(f"threads end of {name}", COMMAND_LINES[name]) for name in WITH_WORKERS])
 
 
 class Account(Case):
@@ -210,6 +233,10 @@ class Growths(LibraryCase):
         memory."""
         self.true(call, *growths.tried_by_workers(self.library, call))
 
+    def check_ends(self, call):
+        """Each growth of the workers is refused in turn: all that were started have ended before the call answers."""
+        self.true(call, *growths.ended_workers(self.library, call))
+
 
 def load_tests(loader, tests, _):
     """Adds the tests of the calls that the built program makes."""
@@ -217,5 +244,7 @@ def load_tests(loader, tests, _):
         return tests
     calls = growths.calls()
     add_tests(Growths, Growths.check_call, [(f"call {call}", call) for call in calls])
-    add_tests(Growths, Growths.check_workers, [(f"workers {call}", call) for call in filter(growths.starts_workers, calls)])
+    with_workers = list(filter(growths.starts_workers, calls))
+    add_tests(Growths, Growths.check_workers, [(f"workers {call}", call) for call in with_workers])
+    add_tests(Growths, Growths.check_ends, [(f"workers end {call}", call) for call in with_workers])
     return unittest.TestSuite(map(loader.loadTestsFromTestCase, (Runs, Account, Growths)))

@@ -316,14 +316,16 @@ class Package(OfTheRelease):
         return next(data for member, data in self.members(self.package) if member.name == f"./usr/share/{name}")
 
     def test_changelog(self):
-        """It has Debian's form, and each entry of CHANGELOG.md from 1.0.0 on with its day and its words."""
+        """It has Debian's form, and each entry of CHANGELOG.md from 1.0.0 on with its day and its words. No two have the same time."""
         text = gzip.decompress(self.member("doc/shardscrub/changelog.gz")).decode()
         form = r"shardscrub \(([0-9.]+)\) unstable; urgency=medium\n\n((?:  .*\n|\n)+?)\n -- (.*)  (.*)\n\n"
         self.assertRegex(text, rf"\A(?:{form})+\Z")
         source = LINK.sub(r"\1", (TOP / "CHANGELOG.md").read_text(encoding="utf-8")).partition("## Before")[0]
+        entries = re.findall(r"^## ([0-9.]+), (\S+)\n((?:(?!## ).*\n)*)", source, re.M)
+        days = [day for _, day, _ in entries]
         wanted = [(version, re.sub(r"^- ", "* ", body, flags=re.M).split(), FIELDS["Maintainer"],
-                   datetime.fromisoformat(day).strftime("%a, %d %b %Y 00:00:00 +0000"))
-                  for version, day, body in re.findall(r"^## ([0-9.]+), (\S+)\n((?:(?!## ).*\n)*)", source, re.M)]
+                   datetime.fromisoformat(day).strftime(f"%a, %d %b %Y 00:{days[number + 1:].count(day):02}:00 +0000"))
+                  for number, (version, day, body) in enumerate(entries)]
         self.assertGreater(len(wanted), 5)
         self.assertEqual([(version, body.split(), maintainer, day) for version, body, maintainer, day in re.findall(form, text)], wanted)
         self.assertEqual([line for line in text.splitlines() if len(line) > 80 and not line.startswith(" -- ")], [])
@@ -372,6 +374,18 @@ class Package(OfTheRelease):
         package = Path(done("release/package", more={"TMPDIR": str(self.folder)}).strip())
         self.assertEqual(package.read_bytes(), self.package.read_bytes())
         self.assertEqual(os.listdir(self.folder), [package.parent.name])
+
+    def test_lintian(self):
+        """It finds no error."""
+        need("lintian")
+        found = run("lintian", *["--allow-root"] * (os.geteuid() == 0), "--fail-on", "error", self.package)
+        self.assertEqual((found.returncode, found.stdout), (0, ""))
+
+    def test_mandoc(self):
+        """It warns of nothing."""
+        need("mandoc")
+        found = run("mandoc", "-T", "lint", "-W", "warning", "docs/shardscrub.1")
+        self.assertEqual((found.returncode, found.stdout), (0, ""))
 
     def test_man_page(self):
         need("man")

@@ -2,7 +2,7 @@
 the one on the same image with these pages named in the arguments, and that of lib/reference.py.
 
 An image of 4 MiB or more is read by a thread for each processor, 256 KiB at once if it is large enough. If such a read fails, its
-pages are read again one by one.
+pages are read again one by one. A page of 65,536 bytes may take several reads, each of which may fail.
 """
 import os
 import random
@@ -22,10 +22,10 @@ def filled(page, pages, extents, superblocks):
     """A disk with chunks of all sizes, named by the shards of a run, and with superblocks on these pages. Its last three extents
     are empty. Without a superblock each page of the other extents counts in the report."""
     c, disk, entries = random.Random(1), Disk(pages, extents, page), []
-    size = page * pages
+    size, room = page * pages, max(120 * KIB, 6 * page)
     for extent in range(1, extents - 4):
         place = 0
-        while size - place > 120 * KIB:
+        while size - place > room:
             payload = c.randbytes(c.choice([0, 3, 100, page - 38, page, 5 * page, 70 * KIB]))
             chunk = uuid(0) if c.random() < .1 else c.randbytes(16)
             named = disk.chunk(extent, place, chunk, payload, c.choice([disks.frame, disks.sealed_frame]))
@@ -77,15 +77,13 @@ FAILURES = {
 }
 
 
-class Reads(RoomCase):
+class FailingCase(RoomCase):
+    """Tests with the C library whose reads fail."""
+
     @classmethod
     def setUpClass(cls):
         super().setUpClass()
         cls.library = failing_reads.made(cls.room)
-        # Reads of 256 KiB; and one that is read by several threads, but by smaller reads.
-        cls.large, cls.small = Image(cls.room, 4096, 256, 24, []), Image(cls.room, 512, 1024, 20, [3, 300])
-        every = sorted(os.sched_getaffinity(0))
-        cls.processors = [set(every[:1]), set(every)] if len(every) > 1 else [set(every)]
 
     def named(self, image, pages, command):
         """The right answer: that of the reference on the image with these pages named. The program has to give it too, and another
@@ -96,8 +94,19 @@ class Reads(RoomCase):
         self.true("no page named", self.answer(words, image, [])[0] != right)
         return right
 
-    def answer(self, words, image, ranges, touched=False, processors=None, block=None):
-        return failing_reads.run(self.program, words, self.library, image.path, block or image.page, ranges, touched, processors)
+    def answer(self, words, image, ranges, touched=False, processors=None, block=None, **limits):
+        return failing_reads.run(self.program, words, self.library, image.path, block or image.page, ranges, touched, processors,
+                                 **limits)
+
+
+class Reads(FailingCase):
+    @classmethod
+    def setUpClass(cls):
+        super().setUpClass()
+        # Reads of 256 KiB; and one that is read by several threads, but by smaller reads.
+        cls.large, cls.small = Image(cls.room, 4096, 256, 24, []), Image(cls.room, 512, 1024, 20, [3, 300])
+        every = sorted(os.sched_getaffinity(0))
+        cls.processors = [set(every[:1]), set(every)] if len(every) > 1 else [set(every)]
 
     def check(self, image, pages, ranges=None, command=("scan",)):
         """Compares a run in which reads of these pages fail with one in which they are named."""
@@ -175,7 +184,7 @@ class Reads(RoomCase):
         with open(image.path, "ab") as file:
             file.write(b"x")
         self.addCleanup(os.truncate, image.path, size)
-        for ranges, wanted in (([(size, size + 1)], right), ([], (3, b"", b"shardscrub: image too long\n"))):
+        for ranges, wanted in (([(size, size + 1)], right), ([], TOO_LONG)):
             got, _ = self.answer(["scan", *image.sizes, image.path], image, ranges)
             self.same(f"{len(ranges)} bytes can't be read", got, wanted)
 
@@ -192,6 +201,135 @@ class Reads(RoomCase):
             for touched in (False, True):
                 got, _ = self.answer(["sizes", image.path], image, ranges, touched, block=size)
                 self.same(f"blocks {sorted(blocks)}", got, right)
+
+
+# Pages of 65,536 bytes, of which one read asks for four if nothing was read of them yet. From this page on one reader reads four;
+# of three the first one ends behind two of them.
+LARGE, FOUR, PAGE = 65536, 4, 84
+SECTOR = 512
+TOO_LONG = (3, b"", b"shardscrub: image too long\n")
+
+
+def sectors(page, *places, size=SECTOR):
+    """Ranges of this size that begin at these places, counted from the front of a page."""
+    return [(page * LARGE + place, page * LARGE + place + size) for place in places]
+
+
+def met(ranges):
+    """The pages that have a byte in one of these ranges."""
+    return {page for begin, end in ranges for page in range(begin // LARGE, -(-end // LARGE))}
+
+
+# Ranges that can't be read, by the first page of a read of four.
+PARTS_OF_PAGES = {
+    "the first sector of a page": lambda page: sectors(page + 1, 0),
+    "a sector in the middle of a page": lambda page: sectors(page + 2, 20 * KIB),
+    "the last sector of a page": lambda page: sectors(page + 1, LARGE - SECTOR),
+    "the last sector of four pages": lambda page: sectors(page + 3, LARGE - SECTOR),
+    "one byte of a page": lambda page: sectors(page, 40_001, size=1),
+    "several sectors of a page": lambda page: sectors(page + 1, 0, 4096, 33_000, LARGE - SECTOR),
+    "a sector over the bound of two pages": lambda page: sectors(page + 2, -100),
+    "a sector over the bound of two reads": lambda page: sectors(page + FOUR, -SECTOR // 2),
+    "a sector of the first page and one of the third": lambda page: sectors(page, 8192) + sectors(page + 2, 8192),
+    "a sector of all but the third page": lambda page: sectors(page, 0) + sectors(page + 1, 50_000) + sectors(page + 3, 4096),
+    "a sector of each of four pages": lambda page: [each for number in range(FOUR) for each in sectors(page + number, 512 * number)],
+    "a whole page": lambda page: sectors(page + 1, 0, size=LARGE),
+}
+
+
+class LargePages(FailingCase):
+    """Pages of 65,536 bytes: exactly those with a failed read of their own are lost, though other reads, of the same page or of
+    several, gave bytes."""
+
+    @classmethod
+    def setUpClass(cls):
+        super().setUpClass()
+        cls.image = Image(cls.room, LARGE, 16, 16, [])
+
+    def runs(self, words, ranges):
+        """Runs whose reads end at a range or fail as a whole, and give all bytes or 4,096 at most, with one reader and with three."""
+        for readers, most, touched in ((1, None, False), (3, None, True), (3, 4096, False), (1, 4096, True)):
+            what = f"{readers} readers, {most or 'all'} bytes a read, {'touched' if touched else 'begun'}"
+            yield what, *self.answer(words, self.image, ranges, touched, told=readers, most=most)
+
+    def check(self, ranges_of):
+        """The answer is the one with just the pages named that have a byte in a range."""
+        words = ["scan", *self.image.sizes, self.image.path]
+        ranges = ranges_of(PAGE)
+        right = self.named(self.image, met(ranges), ["scan"])
+        for what, got, counts in self.runs(words, ranges):
+            self.same(what, got, right)
+            self.true(f"{what}: a read of each page fails", counts and counts.failed_short >= len(met(ranges)), counts)
+
+    def test_pages_of_one_extent(self):
+        """Commands that load one extent lose the same pages."""
+        first = 2 * self.image.pages
+        ranges = sectors(first + 1, 30_000) + sectors(first + 7, -100)
+        command = ["items", "--extent", "2"]
+        right = self.named(self.image, met(ranges), command)
+        for what, got, _ in self.runs([*command, *self.image.sizes, self.image.path], ranges):
+            self.same(what, got, right)
+
+    def test_a_failed_read_of_four_pages_costs_none_and_one_of_a_page_costs_it(self):
+        """Each of the four is read alone then. If the next read fails too, that costs the first one."""
+        words = ["scan", *self.image.sizes, self.image.path]
+        for times in range(FOUR + 2):
+            lost = range(PAGE, PAGE + max(0, times - 1))
+            ranges = [(PAGE * LARGE, (PAGE + FOUR) * LARGE)]
+            got, counts = self.answer(words, self.image, ranges, touched=True, told=1, times=times)
+            self.same(f"{times} reads fail", got, answered([*words, *self.image.names(lost)]))
+            self.same(f"{times} reads fail, by their size", counts and counts[:2], (min(times, 1), max(0, times - 1)))
+
+    def test_a_byte_behind_the_last_page_is_too_long_whatever_is_lost(self):
+        """Whether pages are named, can't be read, or both: only if that byte can't be read there is an answer."""
+        image, size = self.image, LARGE * self.image.all_pages()
+        ranges = sectors(PAGE + 1, 20 * KIB)
+        words, lost, last = ["scan", *image.sizes, image.path], image.names(met(ranges)), image.names([image.all_pages() - 1])
+        with open(image.path, "ab") as file:
+            file.write(b"x")
+        self.addCleanup(os.truncate, image.path, size)
+        for what, named, failing in (("none named", [], []), ("a page named", lost, []), ("the last page named", last, []),
+                                     ("every page named", image.names(range(image.all_pages())), []),
+                                     ("a page lost", [], ranges), ("the page named and lost", lost, ranges),
+                                     ("a page named, another lost", last, ranges)):
+            for how, got, _ in self.runs([*words, *named], failing):
+                self.same(f"{what}, {how}", got, TOO_LONG)
+        behind = [(size, size + 1)]
+        for how, got, _ in self.runs([*words, *last], ranges + behind):
+            self.same(f"the byte can't be read, {how}", got, answered([*words[:-1], self.cut(size), *lost, *last]))
+
+    def cut(self, size):
+        """The same image without what is behind its last page."""
+        path = self.room / "cut"
+        path.write_bytes(Path(self.image.path).read_bytes()[:size])
+        return str(path)
+
+
+class Interrupted(FailingCase):
+    """A read that a signal interrupts is tried again. Only after eight tries it failed."""
+
+    TRIES = 8
+
+    @classmethod
+    def setUpClass(cls):
+        super().setUpClass()
+        cls.image = Image(cls.room, LARGE, 16, 16, [])
+
+    def test_a_page_is_lost_after_eight_tries(self):
+        """A read of four pages is tried first, then each page of them."""
+        words, ranges = ["scan", *self.image.sizes, self.image.path], [(PAGE * LARGE, (PAGE + FOUR) * LARGE)]
+        for times in (1, 7, 8, 15, 16, 23, 24):
+            lost = range(PAGE, PAGE + max(0, times // self.TRIES - 1))
+            got, counts = self.answer(words, self.image, ranges, touched=True, told=1, times=times, interrupted=True)
+            self.same(f"{times} interruptions", got, answered([*words, *self.image.names(lost)]))
+            tries = (min(times, self.TRIES), max(0, times - self.TRIES))
+            self.same(f"{times} interruptions, by the size of the read", counts and counts[:2], tries)
+
+    def test_reads_that_are_always_interrupted_end(self):
+        """They are as lost as those that fail."""
+        ranges = sectors(PAGE + 1, 20 * KIB)
+        got, _ = self.answer(["scan", *self.image.sizes, self.image.path], self.image, ranges, touched=True, interrupted=True)
+        self.same("always", got, self.named(self.image, met(ranges), ["scan"]))
 
 
 def numbered(size, _):
@@ -329,7 +467,7 @@ class Parted(RoomCase):
     def test_a_byte_behind_the_last_page_is_too_long_for_any_number_of_readers(self):
         self.write(self.image(512, 2048, numbered) + b"x")
         for readers in READERS:
-            self.check((3, b"", b"shardscrub: image too long\n"), readers, None)
+            self.check(TOO_LONG, readers, None)
 
     def test_reads_that_always_fail_load_no_page(self):
         """Nor does a byte behind the last page count then."""
@@ -342,3 +480,4 @@ class Parted(RoomCase):
 
 
 add_tests(Reads, Reads.check_of_large, FAILURES.items())
+add_tests(LargePages, LargePages.check, PARTS_OF_PAGES.items())

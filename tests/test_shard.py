@@ -1,11 +1,15 @@
-"""What `shard` writes of disks that are made by hand.
+"""What `shard` writes of disks that are made by hand, and `shards` of all their shards.
 
 Right answers are written out here from what the command promises: the payloads of the shard's newest entry, in its order, each
 from the place of its locator, or else from its first spare. lib/reference.py has to give the same. Each disk is read with its
-sizes by several numbers of workers, and without the sizes if all its records have the same.
+sizes by several numbers of workers, and without the sizes if all its records have the same. The archive of all shards is read by
+Python's `tarfile`: it has the shard with the same bytes, and the error stream says the same of it.
 """
+import hashlib
+import io
 import random
 import subprocess
+import tarfile
 
 from lib import worked
 from lib.cases import RoomCase
@@ -70,9 +74,23 @@ def rotted(payload=FIRST):
     return disk, chunk
 
 
+def members(archive):
+    """The files of a tar archive, by name, in their order."""
+    with tarfile.open(fileobj=io.BytesIO(archive)) as files:
+        return {file.name: files.extractfile(file).read() for file in files}
+
+
+def lines_of(right, name):
+    """The lines of `shards` about the shard of this name, by the right answer of `shard`."""
+    if right == NONE or not right[2]:
+        return []
+    kind, *number = right[2].decode().removeprefix("shardscrub: ").strip().split(": ")
+    return [" ".join([f"shardscrub: {kind}: {name}", *number])]
+
+
 class ShardCase(RoomCase):
-    def answer(self, *words):
-        done = subprocess.run([self.program, "shard", *words], stdin=subprocess.DEVNULL, capture_output=True, timeout=SECONDS)
+    def answer(self, *words, command="shard"):
+        done = subprocess.run([self.program, command, *words], stdin=subprocess.DEVNULL, capture_output=True, timeout=SECONDS)
         return done.returncode, done.stdout, done.stderr
 
     def write(self, content):
@@ -84,12 +102,28 @@ class ShardCase(RoomCase):
         self.same(what, self.answer(*words), right)
         self.same(f"{what}, by the reference", answered(["shard", *words]), right)
 
+    def check_all(self, what, *words):
+        """Compares the archive of all shards with that of the reference, and returns its files and the lines beside it."""
+        found = self.answer(*words, command="shards")
+        self.same(f"all shards, {what}", found, answered(["shards", *words]))
+        status, printed, said = found
+        self.same(f"the status of all shards, {what}", status, 1 if said else 0)
+        return members(printed), said.decode().splitlines()
+
+    def check_among_all(self, what, right, name, *words):
+        """The archive of all shards has this one, if it has bytes, and the lines beside it say the same of it."""
+        files, lines = self.check_all(what, *words)
+        has_bytes = right[0] == 0 or right[2].startswith(b"shardscrub: a newer")
+        self.same(f"{name} among all shards, {what}", files.get(name), right[1] if has_bytes else None)
+        self.same(f"the lines of {name}, {what}", [line for line in lines if name in line], lines_of(right, name))
+
     def check(self, disk, right, *pairs, identifier=shard(1), sizes_are_found=True, numbers=WORKERS):
         """Compares the answers on a disk, with its sizes and without."""
         image, name = self.write(disk.bytes), identifier.hex()
         given, what = ["--id", name, image, *pairs], " ".join([name, *pairs])
         for workers in numbers:
             self.check_words(f"{what}, {workers} workers", [*disk.geometry(), "--workers", workers, *given], right)
+        self.check_among_all(what, right, name, *disk.geometry(), "--workers", numbers[-1], image, *pairs)
         if sizes_are_found:
             self.check_words(f"{what}, without sizes", given, right)
 
@@ -283,14 +317,31 @@ class Spares(ShardCase):
         disk.chunk(2, 0, uuid(0x22), FIRST + b"x")
         self.check(disk.finish((shard(1), [named])), lost(0))
 
-    def test_an_empty_payload_has_no_spare(self):
-        """However many empty chunks there are, also at its place."""
+    def test_an_empty_payload_is_never_lost(self):
+        """Whatever the status of its locator, and though it has no spare, however many empty chunks there are."""
         disk = Made()
-        disk.chunk(1, 0, uuid(0x11), b"")
+        empty = disk.chunk(1, 0, uuid(0x11), b"")
         disk.chunk(2, 0, uuid(0x22), b"", sealed_frame)
-        disk.chunk(2, 72, uuid(0x33), FIRST)
-        named = [locator(2, 72, uuid(0x33), FIRST), locator(1, 0, uuid(0x12), b"")]
-        self.check(disk.finish((shard(1), named)), lost(1))
+        first = disk.chunk(2, 72, uuid(0x33), FIRST)
+        disk.chunk(4, 0, uuid(0x44), b"")
+        nowhere = [locator(1, 0, uuid(0x12), b""), locator(2, 72, uuid(0x33), b""), locator(1, 500, uuid(0x11), b""),
+                   locator(EXTENTS, 0, uuid(0x11), b""), locator(0, 0, uuid(0x11), b""), locator(4, 0, uuid(0x44), b"")]
+        disk.finish((shard(1), [first, nowhere[0], first]), (shard(2), nowhere), (shard(3), [empty]), retired=[4])
+        self.check(disk, whole(FIRST, FIRST))
+        self.check(disk, whole(), identifier=shard(2))
+        self.check(disk, whole(), "1:0", identifier=shard(3))
+
+    def test_an_empty_payload_of_another_digest(self):
+        """No bytes have it, so the locator has no payload, also where an empty chunk is at its place."""
+        disk = Made()
+        empty = disk.chunk(1, 0, uuid(0x11), b"")
+        wrong = empty[:28] + hashlib.sha256(b"x").digest()
+        self.check(disk.finish((shard(1), [empty, wrong])), lost(1))
+
+    def test_the_digest_of_no_bytes_and_a_length(self):
+        disk = Made()
+        named = locator(1, 0, uuid(0x11), b"")
+        self.check(disk.finish((shard(1), [named[:8] + (1).to_bytes(4, "big") + named[12:]])), lost(0))
 
     def test_the_number_of_the_first_lost_payload(self):
         """At each place of an entry, and of several."""
@@ -554,9 +605,10 @@ PIECES = {
     # The chunk has rotted, and there is a plain copy under another UUID; or it is past the pointer, and there is a sealed copy.
     "rotted": locator(1, 197, ONES, b"fgh"),
     "past": locator(1, 600, ONES, b"ijkl"),
-    # There is no chunk of this content; or it has the wrong UUID for the chunk without a payload.
+    # There is no chunk of this content; it has the wrong UUID for the chunk without a payload; or no bytes have this digest.
     "lost": locator(1, 700, ONES, b"lost"),
-    "lost-empty": locator(1, 159, TWOS, b""),
+    "other-empty": locator(1, 159, TWOS, b""),
+    "lost-empty": locator(1, 159, FOURS, b"")[:28] + b"x" * 32,
 }
 
 # The locators of an entry, and the right answer.
@@ -577,8 +629,9 @@ ENTRIES = [
     ("lost abc", lost(0)),
     ("abc lost", lost(1)),
     ("abc rotted lost de lost", lost(2)),
-    # No copy is sought for an empty payload, though there is a chunk without one.
-    ("lost-empty", lost(0)),
+    # An empty payload is never lost, unless its digest is that of some bytes.
+    ("other-empty", whole()),
+    ("empty other-empty abc other-empty", whole(b"abc")),
     ("empty lost-empty lost", lost(1)),
     # No chunks at all: the run deletes the shard.
     ("", NONE),
@@ -683,6 +736,164 @@ class Words(ShardCase):
         self.check_words("other sizes, given", ["--id", self.NAME.hex(), *geometry(64, 16, 7), image], NONE)
 
 
+# The example of two disks: shard 1 is `abc` and an empty chunk whose frame is gone; the chunk of shard 2 is lost; and on the second
+# disk the newer run is.
+ARCHIVE = "779da5a48c4958760aa8341aff3021892550fc49a3494a79ce869191beda1494"
+FIRST_NAME, SECOND_NAME = shard(1).hex(), shard(2).hex()
+SECOND_LOST = f"shardscrub: payload lost: {SECOND_NAME} 00\n"
+EXAMPLES = [
+    (uuid(0xAA), SECOND_LOST),
+    (uuid(0xCC), f"shardscrub: run lost: 0 wrong_uuid\nshardscrub: a newer entry may be lost: {FIRST_NAME}\n{SECOND_LOST}"),
+]
+
+
+def example(name):
+    """The disk of the example, with this UUID for the chunk of the newest run."""
+    disk = Disk(8, 4)
+    chunk = disk.chunk(1, 0, uuid(0x11), b"abc")
+    newest = run((shard(3), []))
+    older = run((shard(1), [chunk, locator(1, 41, uuid(0x22), b"")]), (shard(2), [locator(1, 41, uuid(0x33), b"de")]))
+    disk.chunk(3, 0, name, newest)
+    behind = disk.chunk(3, 38 + len(newest), uuid(0xBB), older)
+    disk.superblock(0, 1, locator(3, 0, uuid(0xAA), newest), behind)
+    return disk
+
+
+class All(ShardCase):
+    """The archive of all shards."""
+
+    def check_lines(self, disk, right, *pairs):
+        """Compares the lines of `shards` on a disk, by the caller alone and by workers, and returns the files of the archive."""
+        image = self.write(disk.bytes)
+        for workers in "03":
+            files, lines = self.check_all(f"{workers} workers", *disk.geometry(), "--workers", workers, image, *pairs)
+            self.same(f"the lines, {workers} workers", lines, [f"shardscrub: {line}" for line in right])
+        return files
+
+    def test_the_example(self):
+        for name, said in EXAMPLES:
+            disk = example(name)
+            image = self.write(disk.bytes)
+            for words in ([*disk.geometry(), image], [image]):
+                status, printed, error = self.answer(*words, command="shards")
+                self.same("the archive", (status, hashlib.sha256(printed).hexdigest(), error.decode()), (1, ARCHIVE, said))
+                self.same("its files", members(printed), {FIRST_NAME: b"abc"})
+        self.check(example(uuid(0xAA)), whole(b"abc"))
+
+    def test_a_file_is_as_tar_writes_it(self):
+        disk = Made()
+        disk.finish((shard(7), [disk.chunk(1, 0, uuid(0x11), FIRST)]))
+        _, printed, _ = self.answer(*disk.geometry(), self.write(disk.bytes), command="shards")
+        with tarfile.open(fileobj=io.BytesIO(printed)) as files:
+            file, = files.getmembers()
+        self.same("the file", (file.name, file.size, file.mode, file.uid, file.gid, file.mtime, file.type, file.linkname, file.uname),
+                  (shard(7).hex(), len(FIRST), 0o644, 0, 0, 0, tarfile.REGTYPE, "", ""))
+        self.same("the bytes of the archive", len(printed), 512 + 512 + 1024)
+
+    def test_sizes_beside_a_block(self):
+        """Each length around one and two blocks, and none."""
+        lengths = (0, 1, 511, 512, 513, 1023, 1024, 1025)
+        disk = Disk(256, EXTENTS, PAGE)
+        entries = [(shard(n), [disk.chunk(1, disk.pointers[0], uuid(n % 256), bytes([n % 256]) * n)]) for n in lengths]
+        disk.superblock(0, 7, disk.chunk(RUNS, 0, uuid(0xE0), run(*entries)))
+        self.same("the files", self.check_lines(disk, []), {shard(n).hex(): bytes([n % 256]) * n for n in lengths})
+
+    def test_files_rise_by_identifier(self):
+        disk = Made()
+        chunk = disk.chunk(1, 0, uuid(0x11), FIRST)
+        names = [bytes(16), shard(1), shard(256), bytes(range(16)), b"\x10" + bytes(15), b"\xff" * 16]
+        disk.put_run(*((name, [chunk]) for name in names[::2]))
+        disk.finish(*((name, [chunk]) for name in names[1::2]))
+        self.same("the names", list(self.check_lines(disk, [])), [name.hex() for name in names])
+
+    def test_no_superblock(self):
+        disk = Disk(PAGES, EXTENTS, PAGE)
+        disk.chunk(1, 0, uuid(0x11), FIRST)
+        self.same("the files", self.check_lines(disk, ["no superblock"]), {})
+
+    def test_no_shards(self):
+        self.same("the files", self.check_lines(Made().finish(), []), {})
+        disk = Made()
+        disk.put_run()
+        self.same("the files of a run without entries", self.check_lines(disk.finish(), []), {})
+
+    def test_a_deleted_shard(self):
+        disk = Made()
+        chunk = disk.chunk(1, 0, uuid(0x11), FIRST)
+        disk.put_run((shard(1), [chunk]), (shard(2), [chunk]))
+        self.same("the files", self.check_lines(disk.finish((shard(1), [])), []), {shard(2).hex(): FIRST})
+
+    def test_lines_of_each_kind_in_order(self):
+        """Runs by number, and shards by identifier, whatever is said of them."""
+        disk, chunk = rotted(SECOND)
+        good = disk.chunk(2, 0, uuid(0x22), FIRST)
+        disk.put_run((shard(1), [good]), (shard(2), [good, chunk]), (shard(3), [good]), (shard(4), [chunk]))
+        disk.rot(RUNS, disk.put_run((shard(9), [good])))
+        disk.put_run((shard(3), [good, good]))
+        disk.runs.insert(0, locator(EXTENTS, 0, uuid(0xEE), b"a run"))
+        disk.runs.insert(0, disk.chunk(4, 0, uuid(0xE9), run((shard(5), [chunk]), (shard(6), [good]))))
+        lines = ["run lost: 1 out_of_range", "run lost: 3 wrong_digest",
+                 *(f"{what}: {shard(n).hex()}{number}" for n, what, number in (
+                     (1, "a newer entry may be lost", ""), (2, "payload lost", " 01"), (3, "a newer entry may be lost", ""),
+                     (4, "payload lost", " 00"), (5, "payload lost", " 00")))]
+        self.same("the files", self.check_lines(disk.finish(), lines),
+                  {shard(1).hex(): FIRST, shard(3).hex(): FIRST + FIRST, shard(6).hex(): FIRST})
+
+    def test_a_tie_changes_nothing(self):
+        disk = Made()
+        disk.finish((shard(1), [disk.chunk(1, 0, uuid(0x11), FIRST)]))
+        disk.superblock(8, 7)
+        self.same("the files", self.check_lines(disk, []), {shard(1).hex(): FIRST})
+
+    def test_many_shards(self):
+        """Disks by chance, with each kind of wrong thing on some of them; each shard is as `shard` writes it."""
+        for seed in range(12):
+            choice, disk = random.Random(seed), Disk(64, EXTENTS, PAGE)
+            chunks = [disk.chunk(e, disk.pointers[e - 1], choice.randbytes(16), choice.randbytes(choice.choice([0, 3, 60, 512])),
+                                 choice.choice([frame, sealed_frame])) for e in (1, 2, 3) for _ in range(6)]
+            runs = [run(*((shard(n), choice.choices(chunks, k=choice.randrange(5))) for n in sorted(choice.sample(range(20), 7))))
+                    for _ in range(2)]
+            named = [disk.chunk(RUNS - k, 0, uuid(0xE0 + k), payload) for k, payload in enumerate(runs)]
+            for extent in choice.sample(range(1, EXTENTS), choice.randrange(3)):
+                disk.spoil(extent, choice.randrange(400))
+            disk.superblock(0, 7, *named)
+            image, sizes = self.write(disk.bytes), disk.geometry()
+            pairs = [f"{choice.randrange(1, EXTENTS)}:{choice.randrange(8)}" for _ in range(choice.randrange(3))]
+            files, lines = self.check_all(f"disk {seed}", *sizes, image, *pairs)
+            for n in range(20):
+                name = shard(n).hex()
+                status, printed, said = self.answer(*sizes, "--id", name, image, *pairs)
+                right = (status, printed, said)
+                has_bytes = status == 0 or said.startswith(b"shardscrub: a newer")
+                self.same(f"disk {seed}, {name}", files.get(name), printed if has_bytes else None)
+                self.same(f"disk {seed}, lines of {name}", [line for line in lines if name in line], lines_of(right, name))
+
+    def test_faults(self):
+        """They are those of `scan`, and an identifier is refused."""
+        disk = Made()
+        disk.finish((shard(1), [disk.chunk(1, 0, uuid(0x11), FIRST)]))
+        image = self.write(disk.bytes)
+        long = self.room / "long"
+        long.write_bytes(disk.bytes + b"x")
+        for words, status, text in ((["/nothing/here"], 3, "image cannot be opened: /nothing/here"),
+                                    ([*geometry(60, 1, 2), image], 2, "geometry refused: PageSize"),
+                                    ([*disk.geometry(), image, "6:0"], 2, "bad page refused: 6:0"),
+                                    ([*disk.geometry(), "--map", "/nothing/here", image], 3, "map cannot be opened: /nothing/here"),
+                                    ([str(long)], 3, "image too long"), (["/dev/null"], 3, "image cannot be opened: /dev/null")):
+            right = status, b"", f"shardscrub: {text}\n".encode()
+            self.same(" ".join(words), self.answer(*words, command="shards"), right)
+        self.same("an identifier", self.answer("--id", shard(1).hex(), image, command="shards")[0], 2)
+
+    def test_an_output_that_fails(self):
+        """The lines come first, and then that of the output, alone where there are no others."""
+        for name, said in ((None, ""), *EXAMPLES):
+            disk = example(name or uuid(0xAA)) if name else Made().finish()
+            with open("/dev/full", "wb") as full:
+                done = subprocess.run([self.program, "shards", *disk.geometry(), self.write(disk.bytes)], stdout=full,
+                                      stderr=subprocess.PIPE, timeout=SECONDS)
+            self.same("the error stream", (done.returncode, done.stderr.decode()), (3, f"{said}shardscrub: output failed after 0 bytes\n"))
+
+
 class Large(ShardCase):
     """Shards of many bytes."""
 
@@ -720,4 +931,6 @@ class Large(ShardCase):
             found = self.answer(*geometry(page, pages, extents), "--workers", workers, "--id", shard(1).hex(), image)
             self.true(f"{workers} workers", found == right, (found[0], len(found[1]), found[2]))
         self.true("the reference", answered(["shard", "--id", shard(1).hex(), image]) == right)
+        status, printed, said = self.answer(image, command="shards")
+        self.true("all shards", (status, members(printed), said) == (0, {shard(1).hex(): right[1]}, b""))
 

@@ -2,19 +2,21 @@
 threads.
 
 No contract can say what a file gives or what a stream takes, so no proof can replace these tests. Answers on images have to be
-those of lib/reference.py. Tests that need `strace` or a loop device are skipped if there is none.
+those of lib/reference.py. Tests that need `strace` or a loop device are skipped if there is none; that block devices are opened is
+tried without one, too.
 """
 import os
 import random
 import resource
 import shutil
 import signal
+import stat
 import subprocess
 import tempfile
 from pathlib import Path
 from typing import NamedTuple
 
-from lib import disks, reference
+from lib import disks, reference, told_kinds
 from lib.cases import RoomCase, add_tests
 from lib.disks import Disk, frame, geometry, locator, record, shard, uuid
 from lib.program import TOP, need, program
@@ -31,7 +33,7 @@ SEVERAL_IMAGE = TOP / "examples/several-findings.img"
 SHARD_1 = ["--id", f"{1:032}"]
 ON_IMAGE = (["scan", *SEVERAL], ["index", *SEVERAL], ["locators", *SEVERAL], ["superblocks", *SEVERAL], ["summary", *SEVERAL],
             ["manifest", *SEVERAL], ["reclaimable", *SEVERAL], ["items", *SEVERAL, "--extent", "3"],
-            ["shard", *SEVERAL, *SHARD_1], ["sizes"])
+            ["shard", *SEVERAL, *SHARD_1], ["shards", *SEVERAL], ["sizes"])
 
 
 def answer(*words, **more):
@@ -189,7 +191,7 @@ class Files(DiskCase):
         os.remove(path)
 
 
-COMMANDS = (["scan"], ["index"], ["locators"], ["summary"], ["manifest"], ["reclaimable"], ["superblocks"],
+COMMANDS = (["scan"], ["index"], ["locators"], ["shards"], ["summary"], ["manifest"], ["reclaimable"], ["superblocks"],
             ["items", "--extent", "2"], ["shard", *SHARD_1])
 
 
@@ -408,7 +410,7 @@ class Faults(RoomCase):
 
 add_tests(Faults, Faults.check_with_sizes, [(f"{command[0]} with sizes", command[0]) for command in COMMANDS])
 add_tests(Faults, Faults.check_without_sizes, [(f"{command} without sizes", command)
-                                               for command in ("scan", "summary", "locators", "superblocks", "items", "shard")])
+                                               for command in ("scan", "summary", "locators", "shards", "superblocks", "items", "shard")])
 
 
 class Words(RoomCase):
@@ -745,3 +747,49 @@ class Devices(RoomCase):
         for command in ON_IMAGE:
             right = answer(*command, "--map", map_file, image)
             self.same(command[0], answer(*command, "--map", map_device, device), right)
+
+
+class ToldDevices(RoomCase):
+    """Files that a C library of the tests tells to be block devices, or of another kind, where no loop device can be made."""
+    KINDS = {"a folder": stat.S_IFDIR, "a character device": stat.S_IFCHR, "a fifo": stat.S_IFIFO, "a socket": stat.S_IFSOCK,
+             "a link": stat.S_IFLNK, "of no kind": 0}
+
+    @classmethod
+    def setUpClass(cls):
+        super().setUpClass()
+        cls.library = told_kinds.made(cls.room)
+        cls.image, cls.map_file = str(cls.room / "image"), str(cls.room / "map")
+        Path(cls.image).write_bytes(SEVERAL_IMAGE.read_bytes())
+        Path(cls.map_file).write_bytes(b"0 ?\n0 4096 +\n4096 512 -\n")
+
+    def told(self, kind, words, *files):
+        """The answer of a run in which these files are told to be of this kind."""
+        got, count = told_kinds.run(self.program, words, self.library, kind, *files)
+        self.true(f"{' '.join(words)}: each file is told to be of the kind", count >= len(files), count)
+        return got
+
+    def test_what_is_told_to_be_a_block_device_is_an_image(self):
+        """Each command answers as on the file."""
+        short, long = geometry(64, 16, 4), geometry(64, 16, 6)
+        for words in (*ON_IMAGE, ["scan", *short], ["scan", *long], ["items", *long, "--extent", "5"]):
+            self.same(" ".join(words), self.told(stat.S_IFBLK, [*words, self.image], self.image), answer(*words, self.image))
+
+    def test_what_is_told_to_be_a_block_device_is_a_second_image(self):
+        words, second = ["compare", *SEVERAL, self.image], str(self.room / "second")
+        Path(second).write_bytes(Path(self.image).read_bytes())
+        self.same("compare", self.told(stat.S_IFBLK, [*words, second], self.image, second), answer(*words, second))
+
+    def test_what_is_told_to_be_a_block_device_is_a_map(self):
+        for command in ON_IMAGE:
+            words = [*command, "--map", self.map_file, self.image]
+            for files in ([self.map_file], [self.map_file, self.image]):
+                self.same(f"{command[0]}, {len(files)} told", self.told(stat.S_IFBLK, words, *files), answer(*words))
+
+    def test_what_is_told_to_be_neither_a_file_nor_a_block_device_is_refused(self):
+        for what, kind in self.KINDS.items():
+            refusal = (3, b"", f"shardscrub: image cannot be opened: {self.image}\n".encode())
+            for words in ON_IMAGE:
+                self.same(f"{words[0]}, {what}", self.told(kind, [*words, self.image], self.image), refusal)
+            refusal = (3, b"", f"shardscrub: map cannot be opened: {self.map_file}\n".encode())
+            words = ["scan", *SEVERAL, "--map", self.map_file, self.image]
+            self.same(f"a map, {what}", self.told(kind, words, self.map_file), refusal)

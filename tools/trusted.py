@@ -59,7 +59,7 @@ class Code:
 
     def type_text(self, name):
         found = re.search(rf"(?m)^pub(?:\(crate\))? (?:struct|enum|trait) {name}\b", self.text)
-        text = re.sub(r"#\[[^\]]*\]", "", braces(self.text, found.start()))
+        text = re.sub(r"#\[[^\]]*\]|\bby \{[^}]*\}", "", braces(self.text, found.start()))
         model = re.search(rf"(?m)^impl(?:<[^{{]*>)? Model for {name}\b", self.text)
         # If a type has a model, contracts see only the model, and not the fields.
         return text if model is None else braces(self.text, model.start())

@@ -1,7 +1,7 @@
 # Completions of shardscrub for bash. tools/options.py makes this file.
 
 _shardscrub() {
-    local commands="summary scan shard index locators manifest reclaimable compare superblocks sizes items demo help" word=${COMP_WORDS[COMP_CWORD]} command="" options="" repeated="--reset --accept" given=" "
+    local commands="summary scan shard shards index locators manifest reclaimable compare superblocks sizes items demo help" word=${COMP_WORDS[COMP_CWORD]} command="" options="" repeated="--reset --accept" given=" "
     local -i images=0 places=0 i
     local option="" one
     for ((i = 1; i < COMP_CWORD; i++)); do
@@ -22,6 +22,7 @@ _shardscrub() {
         summary) options="--page --pages --extents --workers --last --map --help" images=1 ;;
         scan) options="--page --pages --extents --workers --map --help" images=1 ;;
         shard) options="--page --pages --extents --workers --id --map --help" images=1 ;;
+        shards) options="--page --pages --extents --workers --map --help" images=1 ;;
         index) options="--page --pages --extents --workers --map --help" images=1 ;;
         locators) options="--page --pages --extents --workers --map --help" images=1 ;;
         manifest) options="--page --pages --extents --workers --reset --map --help" images=1 ;;

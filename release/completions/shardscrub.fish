@@ -1,12 +1,13 @@
 # Completions of shardscrub for fish. tools/options.py makes this file.
 
-set -l commands summary scan shard index locators manifest reclaimable compare superblocks sizes items demo help
+set -l commands summary scan shard shards index locators manifest reclaimable compare superblocks sizes items demo help
 set -l none "not __fish_seen_subcommand_from $commands"
 complete -c shardscrub -s h -l help -d 'Print help'
 complete -c shardscrub -n "$none" -f -s V -l version -d 'Print version'
 complete -c shardscrub -n "$none" -f -a summary -d 'Prints one word on whether the disk is all right, and names and numbers for monitoring'
 complete -c shardscrub -n "$none" -f -a scan -d 'Prints a report of the whole disk: what may be reclaimed, what is where, and what is wrong'
 complete -c shardscrub -n "$none" -f -a shard -d 'Writes the bytes of one shard: the payloads of its chunks, one directly after another'
+complete -c shardscrub -n "$none" -f -a shards -d 'Writes a tar archive of all shards, by one scan'
 complete -c shardscrub -n "$none" -f -a index -d 'Prints the index that can be recovered from the disk, in binary, to be written to a file'
 complete -c shardscrub -n "$none" -f -a locators -d 'Lists the named locators: who names which chunk, and the status of each locator'
 complete -c shardscrub -n "$none" -f -a manifest -d 'Lists what the disk holds, wherever it lies: retired extents, and the chunks of each shard'
@@ -36,6 +37,11 @@ complete -c shardscrub -n '__fish_seen_subcommand_from shard' -x -l extents -d '
 complete -c shardscrub -n '__fish_seen_subcommand_from shard' -x -l workers -d 'Workers that scan the disk beside the main thread: 0 to 64 (default: 1)'
 complete -c shardscrub -n '__fish_seen_subcommand_from shard' -x -l id -d 'Identifier of the shard: 32 hexadecimal digits, as locators prints them'
 complete -c shardscrub -n '__fish_seen_subcommand_from shard' -r -F -l map -d 'Map of GNU ddrescue: pages that it doesn'\''t list as rescued are unreadable'
+complete -c shardscrub -n '__fish_seen_subcommand_from shards' -x -a '64 128 256 512 1024 2048 4096 8192 16384 32768 65536' -l page -d 'Bytes of a page: a power of two, 64 to 65536'
+complete -c shardscrub -n '__fish_seen_subcommand_from shards' -x -l pages -d 'Pages of an extent: 1 to 65536, and at most 67108864 bytes in an extent'
+complete -c shardscrub -n '__fish_seen_subcommand_from shards' -x -l extents -d 'Extents of the disk: 2 to 65536, and at most 4294967296 bytes on the disk'
+complete -c shardscrub -n '__fish_seen_subcommand_from shards' -x -l workers -d 'Workers that scan the disk beside the main thread: 0 to 64 (default: 1)'
+complete -c shardscrub -n '__fish_seen_subcommand_from shards' -r -F -l map -d 'Map of GNU ddrescue: pages that it doesn'\''t list as rescued are unreadable'
 complete -c shardscrub -n '__fish_seen_subcommand_from index' -x -a '64 128 256 512 1024 2048 4096 8192 16384 32768 65536' -l page -d 'Bytes of a page: a power of two, 64 to 65536'
 complete -c shardscrub -n '__fish_seen_subcommand_from index' -x -l pages -d 'Pages of an extent: 1 to 65536, and at most 67108864 bytes in an extent'
 complete -c shardscrub -n '__fish_seen_subcommand_from index' -x -l extents -d 'Extents of the disk: 2 to 65536, and at most 4294967296 bytes on the disk'

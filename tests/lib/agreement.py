@@ -8,11 +8,13 @@ from typing import NamedTuple
 BEGINS = {"chunk": 22, "sealed": 54}
 DOUBT = b"shardscrub: a newer entry may be lost\n"
 NONE = b"shardscrub: no such shard\n"
+# The length and the digest of no bytes.
+EMPTY = "0", sha256(b"").hexdigest()
 
 
 class Locator(NamedTuple):
     """A locator of a shard, as the manifest has it: its number in the entry, the length and the digest of the payload, and
-    whether it dangles without a spare."""
+    whether it dangles without a spare, and asks for bytes."""
     number: str
     length: int
     digest: str
@@ -28,7 +30,7 @@ class Listed:
             if words[0] == "shard":
                 _, identifier, number, length, digest, *rest = words
                 of_shard = self.shards.setdefault(identifier, [])
-                of_shard.append(Locator(number, int(length), digest, rest[-1] == "none"))
+                of_shard.append(Locator(number, int(length), digest, rest[-1] == "none" and (length, digest) != EMPTY))
 
     def payloads(self):
         """The payload of each chunk in the items."""
@@ -55,7 +57,7 @@ class Listed:
         if lost:
             first = lost[0]
             yield "the number is that of the first lost payload", error == f"shardscrub: payload lost: {first.number}\n".encode()
-            yield "no chunk has the lost payload", first.length == 0 or not any(
+            yield "no chunk has the lost payload", not any(
                 len(payload) == first.length and sha256(payload).hexdigest() == first.digest for payload in self.payloads())
 
     def laws_of_bytes(self, locators, printed):

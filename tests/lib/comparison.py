@@ -1,5 +1,5 @@
 """Compares a program with the reference on made-up disks, byte for byte: report, index, summary, named locators with spares,
-manifests with resets, superblocks, items, what may be reclaimed, sizes, bytes of shards, and the status and error stream of each;
+manifests with resets, superblocks, items, what may be reclaimed, sizes, bytes of one shard and of all, and the status and error stream of each;
 with the sizes and, where they may be left out, without them; with right and wrong generations for --last. Some disks have a map of
 GNU ddrescue, and some of these maps are refused. Some texts to accept, extents, pointers and identifiers are refused, too. What
 `shard` prints also has to agree with what the program prints by `manifest` and `scan`."""
@@ -10,14 +10,14 @@ import subprocess
 from collections import Counter
 from typing import NamedTuple
 
-from lib.agreement import Listed
+from lib.agreement import EMPTY, Listed
 from lib.disks import geometry
 from lib.made_up import Made, Tended
 from lib.reference import ACCEPTABLE, answered, choose, disk_of, frame_at, read_arguments, read_run, refusal, scrub
 
-COMMANDS = ("scan", "index", "summary", "locators", "superblocks", "manifest", "reclaimable", "sizes", "items", "shard")
+COMMANDS = ("scan", "index", "summary", "locators", "shards", "superblocks", "manifest", "reclaimable", "sizes", "items", "shard")
 # Those for which the sizes may be left out, except `items` and `shard`, which need more.
-LOOKING = ("scan", "summary", "locators", "superblocks")
+LOOKING = ("scan", "summary", "locators", "shards", "superblocks")
 # How many known shards of a disk are asked for.
 MOST_SHARDS = 3
 # Texts that aren't an identifier.
@@ -147,7 +147,7 @@ def calls(c, disk):
     doubts = [line.partition(" ")[2] for line in listed if line.startswith("doubt ")]
     accepted, resets = option("--accept", texts_to_accept(c, doubts)), extents_to_reset(c, disk.made.e)
     last, other = (["--last", str(generation_for_last(c, disk))] for _ in range(2))
-    yield from (Words(command, [], shared) for command in ("scan", "index", "summary", "locators", "superblocks"))
+    yield from (Words(command, [], shared) for command in ("scan", "index", "summary", "locators", "shards", "superblocks"))
     yield from (Words("manifest", option("--reset", extents), shared) for extents in ([], *resets))
     yield from (Words("reclaimable", own, shared) for own in ([], accepted, last, other + accepted))
     yield Words("summary", c.choice([last, other]), c.choice([shared, disk.without_sizes()]))
@@ -182,7 +182,8 @@ def kinds_of_shard(listed, identifier, error, deleted):
         return {"no superblock" if listed == [["no-superblock"]] else "deleted" if identifier in deleted else "unknown"}
     locators = [words for words in listed if words[:2] == ["shard", identifier]]
     places = {"sound": "sound", "hidden": "hidden"}
-    kinds = {places.get(words[5], words[-1]) + " of length 0" * (words[3] == "0") for words in locators}
+    kinds = {"nowhere, of no bytes" if words[-1] == "none" and tuple(words[3:5]) == EMPTY
+             else places.get(words[5], words[-1]) + " of length 0" * (words[3] == "0") for words in locators}
     if "payload lost" in error:
         return {"lost of length 0" if kind == "none of length 0" else "lost" for kind in kinds if kind.startswith("none")}
     return kinds | ({"doubtful"} if error else {"not doubtful"})
@@ -225,6 +226,8 @@ def count(seen, report, disk, calls):
         seen[f"{call.command}{with_option}{without}: status {status}"] += 1
         if call.of_shard:
             of_shards |= kinds_of_shard(listed, call.of_shard, error.decode(), deleted)
+        elif call.command == "shards":
+            seen.update(f"shards{without}: {kind}" for kind in {line.split(":")[1].strip() for line in error.decode().splitlines()})
         elif call.command not in ("scan", "index", "shard"):
             kinds = {kind_of(call.command, line.split()) for line in printed.decode().splitlines()}
             seen.update(f"{call.command}{without}: {kind}" for kind in kinds - {None})

@@ -2,7 +2,7 @@
 
 Some ranges of the image's bytes can't be read. A read fails if it begins in such a range; one that begins before it ends there,
 as the page cache of Linux does it. With `touched` a read that meets such a range at all fails as a whole, as some devices and
-file systems do it. If `times` are given, only so many reads fail.
+file systems do it. If `times` are given, only so many reads fail. With `interrupted` a read fails as if a signal had interrupted it.
 
 A read gives `most` bytes at most. The program is told of `told` processors, whatever the machine has.
 """
@@ -27,7 +27,7 @@ LIBRARY = r"""
 
 static ssize_t (*real_pread)(int, void *, size_t, off_t);
 static off_t begins[MOST], ends[MOST];
-static int ranges, whole, told;
+static int ranges, whole, told, fault = EIO;
 static ino_t image;
 static size_t page, most;
 static long times;
@@ -43,6 +43,7 @@ __attribute__((constructor)) static void begin(void) {
     image = given("IMAGE", 0);
     page = given("PAGE", 0);
     whole = getenv("TOUCHED") != NULL;
+    if (getenv("INTERRUPTED")) fault = EINTR;
     most = given("AT_MOST", 1L << 40);
     times = given("TIMES", 1L << 40);
     told = given("PROCESSORS", 0);
@@ -71,7 +72,7 @@ long sysconf(int name) {
 
 static ssize_t fail(size_t size) {
     __atomic_add_fetch(size > page ? &failed_long : &failed_short, 1, __ATOMIC_SEQ_CST);
-    errno = EIO;
+    errno = fault;
     return -1;
 }
 
@@ -108,10 +109,11 @@ class Counts(NamedTuple):
     threads: int
 
 
-def run(program, words, library, image, page, ranges, touched, processors=None, *, most=None, times=None, told=None):
+def run(program, words, library, image, page, ranges, touched, processors=None, *, most=None, times=None, told=None,
+        interrupted=False):
     """The status and both outputs of a run on these processors, and its counts; None in their place if it didn't end by itself."""
     given = {"IMAGE": os.stat(image).st_ino, "PAGE": page, "FAILING": ",".join(f"{begin}-{end}" for begin, end in ranges),
-             "TOUCHED": "1" if touched else None, "AT_MOST": most, "TIMES": times, "PROCESSORS": told}
+             "TOUCHED": "1" if touched else None, "INTERRUPTED": "1" if interrupted else None, "AT_MOST": most, "TIMES": times, "PROCESSORS": told}
     given = {name: str(value) for name, value in given.items() if value is not None}
     got, numbers = preloaded.run(program, words, library, given, processors)
     return got, Counts(*numbers) if numbers else None

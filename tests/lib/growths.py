@@ -8,7 +8,7 @@ import re
 import subprocess
 from collections import Counter
 
-from lib.allocations import refusing
+from lib.allocations import refusing, refusing_of_others
 from lib.program import TOP
 
 PROGRAM = TOP / "crates/scrub_refused_memory/out/scrub_refused_memory"
@@ -82,6 +82,7 @@ IN_RUNS = {
     "list_reclaimable": "reclaimable",
     "compare": "compare",
     "read_shard": "shard",
+    "read_shards": "shards",
 }
 # The crates whose public functions are in this account.
 LIBRARIES = ["sha_lanes"] + [
@@ -180,3 +181,16 @@ def tried_by_workers(library, call):
     """Whether a call ended out of memory if each growth of its workers was refused, and how it ended."""
     got, refused = refusing(PROGRAM, f"{call} answered", library, NONE_REFUSED, all_others=True)
     return got == REFUSED and refused > 0, f"{got}, {refused} growths refused"
+
+
+def ended_workers(library, call):
+    """Whether all threads that a call started had ended when it answered, with each growth of theirs refused in turn, and how the call
+    ended. A run that meets no refusal has to be right."""
+    ends, left = Counter(), 0
+    for refused, got, counts in refusing_of_others(PROGRAM, f"{call} answered", library):
+        if not counts:
+            return False, f"{got}, without counts"
+        left += counts.left + (counts.threads == 0)
+        ends["right" if got == RIGHT else "refused" if refused and got == REFUSED else "wrong"] += 1
+    is_right = left == ends["wrong"] == 0 and ends["refused"] > 0
+    return is_right, f"one growth of the workers refused, or none: {dict(ends)}; threads left: {left}"

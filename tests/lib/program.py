@@ -26,8 +26,8 @@ NO_PROGRAM = 70
 PACKAGES = {
     "bash": "bash", "cc": "gcc", "chromedriver": "chromium-driver", "chromium": "chromium", "ddrescue": "gddrescue", "dpkg": "dpkg",
     "dpkg-deb": "dpkg", "dpkg-parsechangelog": "dpkg-dev", "fish": "fish", "flock": "util-linux", "git": "git", "groff": "groff-base",
-    "jq": "jq", "losetup": "mount", "make": "make", "man": "man-db", "objdump": "binutils", "parallel": "parallel",
-    "promtool": "prometheus", "python3": "python3", "sqlite3": "sqlite3", "strace": "strace",
+    "jq": "jq", "lintian": "lintian", "losetup": "mount", "make": "make", "man": "man-db", "mandoc": "mandoc", "node": "nodejs",
+    "objdump": "binutils", "parallel": "parallel", "promtool": "prometheus", "python3": "python3", "sqlite3": "sqlite3", "strace": "strace",
     "systemd-analyze": "systemd", "zsh": "zsh",
     "Python's jsonschema": "python3-jsonschema", "Python's selenium": "python3-selenium", "Python's yaml": "python3-yaml",
 }
