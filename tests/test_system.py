@@ -533,16 +533,18 @@ class Streams(RoomCase):
             self.same(" ".join(words), self.answer_without_reader(words), (3, b"shardscrub: output failed after 0 bytes\n"))
 
     def test_nothing_to_write_cannot_fail(self):
-        """A shard without bytes, whole and doubtful; a lost payload; and no shard."""
-        disk = Disk(4, 4)
+        """A shard without bytes, with its chunk and without, sure and doubtful; a lost payload; and no shard."""
+        disk = Disk(8, 4)
         disk.chunk(1, 0, uuid(0x11), b"")
-        entries = (shard(1), [locator(1, 0, uuid(0x11), b"")]), (shard(2), [locator(1, 0, uuid(0x12), b"")])
+        entries = ((shard(1), [locator(1, 0, uuid(0x11), b"")]), (shard(2), [locator(1, 0, uuid(0x12), b"de")]),
+                   (shard(4), [locator(1, 0, uuid(0x12), b"")]))
         older = disk.chunk(2, 0, uuid(0x22), disks.run(*entries))
         for newer, runs in ((b"", [older]), (self.DOUBT, [locator(3, 0, uuid(0x33), b"lost"), older])):
             disk.superblock(0, 1, *runs)
             path = written(self.room / "nothing", [(0, bytes(disk.bytes))], len(disk.bytes))
-            for number, right in ((1, (1 if newer else 0, newer)), (2, (1, b"shardscrub: payload lost: 00\n")),
-                                  (3, (1, b"shardscrub: no such shard\n"))):
+            empty = (1 if newer else 0, newer)
+            for number, right in ((1, empty), (2, (1, b"shardscrub: payload lost: 00\n")),
+                                  (3, (1, b"shardscrub: no such shard\n")), (4, empty)):
                 words = ["shard", *disk.geometry(), "--id", shard(number).hex(), path]
                 self.same(f"shard {number} of {len(runs)} runs", answer(*words), (right[0], b"", right[1]))
                 self.same(f"shard {number} of {len(runs)} runs, full", self.answer_to_full(words), right)
