@@ -1,11 +1,11 @@
 -- Shards with a dangling locator, found among the owners of the dangling ones.
-use Rattle.std.proofs.Common.{◌≡◌, ◌&&◌, ◌||◌, Bool, true, false, None, List, [], ◌∷◌, get_or, suc, arith, refl, sym, ◌∙◌, ap, if◌then◌else◌}
+use Rattle.std.proofs.Common.{◌≡◌, ◌&&◌, ◌||◌, Bool, true, false, None, List, [], ◌∷◌, suc, arith, refl, sym, ◌∙◌, ap, if◌then◌else◌}
 use Rattle.std.specs.Ordering.{eq_by_cmp}
 use Rattle.std.specs.Str.{bytes_eq}
 use Rattle.std.specs.List.{AllPairs, Contains, filter_map, list_any, cons_option}
 use Rattle.std.specs.List.Sorted.{IsStrictlySortedBy}
 use Rattle.std.specs.declared.cmp.Ordering.TheVariants.{Less}
-use Rattle.std.proofs.lemmas.List.Elements.{All-contains_itself, recursion_from_All}
+use Rattle.std.proofs.lemmas.List.Elements.{recursion_from_All}
 use Rattle.std.proofs.lemmas.List.Folds.{Any-from_list_any, list_any_at}
 use Rattle.std.proofs.lemmas.Map.Keys.{Less-from_sorted}
 use Rattle.std.proofs.lemmas.Map.Text.{is_eq-slice_cmp}
@@ -80,6 +80,8 @@ pub broken_found : (checked : List Checked) (ids : List ShardId) → AreDistinct
     AreBrokenShards checked ids
 broken_found checked ids distinct = record {
   rising = λ i j d lt within. Less-from_sorted id_cmp ids i j d distinct.rising lt within;
-  each = λ k d lt. owner_broken checked (get_or ids k d) ((distinct.same (get_or ids k d)).0 (All-contains_itself ids k d lt));
-  all = λ id broken. (distinct.same id).1 (among_owners checked id broken);
+  exact = λ id. (
+    λ there. owner_broken checked id ((distinct.same id).0 there),
+    λ broken. (distinct.same id).1 (among_owners checked id broken),
+  );
 }

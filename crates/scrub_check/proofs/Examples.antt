@@ -118,6 +118,6 @@ sound image a = (
       joined = (refl, refl);
       each = All-cons (IsItem (extent_of image 1 41)) (Chunk Plain 0 41 ones 3 (sha256 abc)) [] (record {
         below = lit< tt;
-        fits = (refl, (abc, record { frame = stands image 41 a (omega arith); length = refl; stop = refl; digest_is = refl }));
+        fits = (abc, stands image 41 a (omega arith), refl, refl, refl);
       }) (All-nil (IsItem (extent_of image 1 41)));
     }

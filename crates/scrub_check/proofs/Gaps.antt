@@ -19,7 +19,7 @@ pub gap_pages : (image : Image) (e start size page first last : ℕ) → HasWhol
     page ≡ image.geometry.page → first ≡ start / page → last ≡ (start + size - 1) / page →
     LiesBetween (unreadable_pages image e) first last → HasGap (byte image e) start size
 gap_pages image e start size page first last whole he fits some hp hf hl (q, there, low, high) =
-    let pos : 0 < page = omega (arith, hp, image.geometry.page_size.least) in
+    let pos : 0 < page = omega (arith, hp, image.geometry.page_least) in
     let is = filtered_is (λ p. is_none (image.page e p)) 0 image.geometry.pages q there in
     let place =
     place_in_page q start (start + size) page pos (omega (arith, some)) (omega (arith, low, hf)) (omega (arith, high, hl)) in
@@ -37,7 +37,7 @@ pub pages_gap : (image : Image) (e start size page first last : ℕ) → HasWhol
     page ≡ image.geometry.page → first ≡ start / page → last ≡ (start + size - 1) / page →
     HasGap (byte image e) start size → LiesBetween (unreadable_pages image e) first last
 pages_gap image e start size page first last whole he fits some hp hf hl gap =
-    let pos : 0 < page = omega (arith, hp, image.geometry.page_size.least) in
+    let pos : 0 < page = omega (arith, hp, image.geometry.page_least) in
     let inside : gap.place < extent_bytes image.geometry = omega (arith, gap.high, fits) in
     let none : is_none (image.page e (gap.place / image.geometry.page)) ≡ true =
     page_byte image e gap.place (image.page e (gap.place / image.geometry.page)) whole he inside refl gap.unreadable in

@@ -1,6 +1,6 @@
 -- A candidate keeps each chunk that a locator into its extent points to.
-use Rattle.std.proofs.Common.{◌≡◌, ◌⊎◌, inl, inr, ◌==◌, ◌&&◌, ◌||◌, ℕ, Bool, true, false, not, cond, List, [], ◌∷◌, Option, Some, MatchOption, get_or, map, nat_lt, arith, refl, sym, ◌∙◌, ap, subst, if◌then◌else◌}
-use Rattle.std.specs.List.{All, Contains, filter}
+use Rattle.std.proofs.Common.{◌≡◌, ◌⊎◌, inl, inr, ◌==◌, ◌&&◌, ◌||◌, ◌*◌, ℕ, Bool, true, false, not, cond, List, [], ◌∷◌, Option, Some, MatchOption, get_or, map, nat_lt, arith, refl, sym, ◌∙◌, ap, subst, if◌then◌else◌}
+use Rattle.std.specs.List.{All, Contains, filter, list_all}
 use Rattle.std.proofs.lemmas.Bool.{eq-eqb, false≢true}
 use Rattle.std.specs.List.Sorted.{IsPermutation}
 use Rattle.std.proofs.lemmas.List.Elements.{All-head, All-tail, All-map, All-filter, All-contains, All-contains_itself, filter_passes}
@@ -24,15 +24,19 @@ use Rattle.scrub_check.specs.declared.statuses.status.Status.{Status}
 use Rattle.scrub_check.specs.declared.statuses.status.Status.TheVariants.{OutOfRange, Retired, PastPointer, Unreadable, NoFrame, WrongUuid, WrongLength, WrongDigest, Hidden, Sound}
 use Rattle.scrub_check.specs.Checked.{is_sound, HaveStatuses}
 use Rattle.scrub_check.specs.Status.{HasStatus, HasStatusIn}
-use Rattle.scrub_check.specs.Live.{is_sound_at, has_sound_at, is_chunk, is_live, live_chunks}
+use Rattle.scrub_check.specs.Live.{has_sound_at, is_chunk, live_chunks, live_bytes}
 use Rattle.scrub_check.specs.WholeScan.{IsWholeScan}
-use Rattle.scrub_check.specs.Candidates.{CandidateValue, has_sound_alone, is_readable, is_half_garbage, is_reclaimable, candidate_of, kept_of, reclaimable, AreCandidates}
+use Rattle.scrub_check.specs.Candidates.{CandidateValue, has_sound_alone, is_reclaimable, candidate_of, AreCandidates}
 use Rattle.scrub_check.specs.SafeCandidates.{IsKept, AreSafe}
+use Rattle.scrub_check.specs.steps.LiveAndOrphans.{kept_of}
+use Rattle.scrub_check.specs.steps.LocatorIndex.{reclaimable}
+use Rattle.scrub_check.specs.steps.SoundPlaces.{is_sound_at, is_live}
+use Rattle.scrub_check.proofs.Counts.{any_counts}
 use Rattle.scrub_check.proofs.Starts.{begins_among}
 use Rattle.scrub_check.proofs.RunStates.{named_in_use}
 
 -- the item at a frame is a chunk
-chunk_at : (x : Extent) (i : Item) (f : Form) (u b : List ℕ) → Fits x (start_of i) i → FrameAt x (start_of i) f u b →
+chunk_at : (x : Extent) (i : Item) (f : Form) (u b : List ℕ) → Fits x i → FrameAt x (start_of i) f u b →
     is_chunk i ≡ true
 chunk_at x (Chunk g start stop v n digest) f u b fits frame = refl
 chunk_at x (Pad start stop) f u b fits frame = absurd (fits.1 f u b frame)
@@ -81,7 +85,8 @@ sound_is Hidden e = absurd (false≢true e)
 names_its_place : (checked : List Checked) (c : Checked) → Contains checked c → c.status ≡ Sound →
     has_sound_at checked c.locator.extent c.locator.offset ≡ true
 names_its_place checked c (i, below, is) sound =
-    list_any_at (is_sound_at c.locator.extent c.locator.offset) checked i c below
+    sym (any_counts (is_sound_at c.locator.extent c.locator.offset) checked)
+    ∙ list_any_at (is_sound_at c.locator.extent c.locator.offset) checked i c below
     (ap (is_sound_at c.locator.extent c.locator.offset) is ∙ itself)
   where
     itself : is_sound_at c.locator.extent c.locator.offset c ≡ true
@@ -114,7 +119,7 @@ kept_there image w f checked c found h there sound =
     let x : Extent = extent_of image c.locator.extent w in
     live_there x checked c.locator.extent c.locator.offset h.0.found.form c.locator.uuid h.0.payload f.findings.items
     found.tiled.each h.0.found.frame (names_its_place checked c there sound)
-    (begins_among x f.findings.items c.locator.offset (omega (arith, image.geometry.page_size.least)) found.tiled h.1)
+    (begins_among x f.findings.items c.locator.offset (omega (arith, image.geometry.page_least)) found.tiled h.1)
 
 -- the starts of the chunks to keep
 starts_kept : (items : List Item) → map (λ (k : KeptChunk). k.start) (map kept_of items) ≡ map start_of items
@@ -161,7 +166,8 @@ reclaimable_safe image plan all checked whole statuses =
     let among : Contains all f =
     All-filter (is_reclaimable plan.geometry checked) (Contains all) all (All-contains_itself all) i d below in
     kept image plan all checked f (get_or checked j e) whole statuses among
-    (third (nat_lt 0 f.pointer) (is_readable plan.geometry f) (has_sound_alone checked f) (is_half_garbage checked f) passes)
+    (third (nat_lt 0 f.pointer) (list_all (λ q. not (nat_lt (q * plan.geometry.page) f.pointer)) f.findings.bad_pages)
+    (has_sound_alone checked f) (not (nat_lt f.pointer (2 * live_bytes checked f))) passes)
     (All-contains_itself checked j e within) same)
 
 pub candidates_safe : (image : Image) (plan : PlanValue) (all : List Scanned) (checked : List Checked) (in_doubt : Bool) (candidates : List CandidateValue) →

@@ -14,10 +14,11 @@ use Rattle.scrub_merge.proofs.Identifiers.{id_cmp_total, id_cmp_exact}
 use Rattle.scrub_merge.proofs.SortedOnce.{sorted_once}
 use Rattle.scrub_check.specs.declared.lists.place.SharedPlace.{SharedPlace}
 use Rattle.scrub_check.specs.declared.statuses.checked.Checked.{Checked}
-use Rattle.scrub_check.specs.Candidates.{CandidateValue, by_free, reclaimable, AreCandidates}
+use Rattle.scrub_check.specs.Candidates.{CandidateValue, AreCandidates}
 use Rattle.scrub_check.specs.Checked.{AreBrokenShards}
 use Rattle.scrub_check.specs.Shared.{AreShared}
 use Rattle.scrub_check.specs.steps.BrokenShards.{broken_owner}
+use Rattle.scrub_check.specs.steps.LocatorIndex.{reclaimable}
 use Rattle.scrub_check.specs.steps.SoundPlaces.{sound_places, shared_by}
 use Rattle.scrub_check.proofs.BrokenShards.{broken_found}
 use Rattle.scrub_check.proofs.Reclaimable.{all_named, free_total, none_named}

@@ -76,12 +76,12 @@ one_list plan all checked in_doubt cs ds h k =
 pub one_shared : (checked : List Checked) (ps qs : List SharedPlace) → AreShared checked ps → AreShared checked qs → ps ≡ qs
 one_shared checked ps qs h k =
     same_members by_place_total ps qs h.rising k.rising
-    (λ i e lt. k.all (get_or ps i e) (h.each i e lt))
-    (λ i e lt. h.all (get_or qs i e) (k.each i e lt))
+    (λ i e lt. (k.exact (get_or ps i e)).1 ((h.exact (get_or ps i e)).0 (All-contains_itself ps i e lt)))
+    (λ i e lt. (h.exact (get_or qs i e)).1 ((k.exact (get_or qs i e)).0 (All-contains_itself qs i e lt)))
 
 pub one_broken : (checked : List Checked) (ids others : List ShardId) → AreBrokenShards checked ids →
     AreBrokenShards checked others → ids ≡ others
 one_broken checked ids others h k =
     same_members id_cmp_total ids others (sorted_by_id ids h.rising) (sorted_by_id others k.rising)
-    (λ i e lt. k.all (get_or ids i e) (h.each i e lt))
-    (λ i e lt. h.all (get_or others i e) (k.each i e lt))
+    (λ i e lt. (k.exact (get_or ids i e)).1 ((h.exact (get_or ids i e)).0 (All-contains_itself ids i e lt)))
+    (λ i e lt. (h.exact (get_or others i e)).1 ((k.exact (get_or others i e)).0 (All-contains_itself others i e lt)))

@@ -1,6 +1,6 @@
 -- Exactly one status applies to a locator. Each is that of the first test that the locator fails, and the tests are the
 -- same for all.
-use Rattle.std.proofs.Common.{◌≡◌, ◌⊎◌, ℕ, Bool, true, false, List, Option, Some, None, MatchBool, MatchOption, length, inl, inr, sym, ◌∙◌, ap, refl}
+use Rattle.std.proofs.Common.{◌≡◌, ◌⊎◌, ◌≤◌, ℕ, Bool, true, false, List, Option, Some, None, MatchBool, MatchOption, length, inl, inr, sym, ◌∙◌, ap, refl}
 use Rattle.scrub_disk.specs.Image.{Image}
 use Rattle.scrub_frame.specs.declared.form.Form.{Form}
 use Rattle.scrub_frame.specs.declared.locator.Locator.{Locator}
@@ -9,8 +9,8 @@ use Rattle.scrub_scan.specs.Extent.{extent_of, FrameAt, NoFrameAt}
 use Rattle.scrub_scan.specs.steps.OneFrame.{one_frame_at}
 use Rattle.scrub_check.specs.declared.statuses.status.Status.{Status}
 use Rattle.scrub_check.specs.declared.statuses.status.Status.TheVariants.{OutOfRange, Retired, PastPointer, Unreadable, NoFrame, WrongUuid, WrongLength, WrongDigest, Hidden, Sound}
-use Rattle.scrub_check.specs.Status.{InRange, BelowPointer, HasUnreadableByte, CanStand, FindsFrame, NamesChunk, BeginsAt, HasStatus, HasStatusInRetired, HasStatusInUse, HasStatusIn, is_retired, ExactlyOne}
-use Rattle.scrub_check.proofs.RunStates.{unnamed}
+use Rattle.scrub_check.specs.Status.{end_of, InRange, HasUnreadableByte, CanStand, FindsFrame, NamesChunk, BeginsAt, HasStatus, HasStatusInRetired, HasStatusIn, is_retired, ExactlyOne}
+use Rattle.scrub_check.proofs.RunStates.{HasStatusInUse, unnamed}
 
 -- a frame of the locator's UUID, of either form, is there
 abbrev HasUuid : Image → ℕ → Locator → Type 0
@@ -41,7 +41,7 @@ ByFrame image w l s =
 abbrev ByTests : Image → ℕ → Locator → Status → Type 0
 ByTests image w l s =
     Tested OutOfRange s (InRange image.geometry l)
-    (Tested PastPointer s (BelowPointer w l)
+    (Tested PastPointer s (end_of l ≤ w)
     (Tested Unreadable s (¬ HasUnreadableByte image l) (ByFrame image w l s)))
 
 from_can : (image : Image) (w : ℕ) (l : Locator) (s : Status) → CanStand image w l → ByFrame image w l s → ByTests image w l s

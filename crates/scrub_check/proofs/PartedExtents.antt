@@ -19,11 +19,11 @@ use Rattle.scrub_check.specs.declared.places.chunk_at.ChunkAt.{ChunkAt}
 use Rattle.scrub_check.specs.declared.lists.live_and_orphans.LiveChunks.{LiveChunks}
 use Rattle.scrub_check.specs.declared.lists.live_and_orphans.LiveAndOrphans.{LiveAndOrphans}
 use Rattle.scrub_check.specs.Live.{size_of, live_bytes, has_sound_at}
-use Rattle.scrub_check.specs.Chunks.{place_of, chunks_in, chunks, orphans}
-use Rattle.scrub_check.specs.Candidates.{is_reclaimable, candidate_of, kept_of}
+use Rattle.scrub_check.specs.Chunks.{place_of, chunks, orphans}
+use Rattle.scrub_check.specs.Candidates.{is_reclaimable, candidate_of}
 use Rattle.scrub_check.specs.steps.LocatorIndex.{reclaimable_by}
 use Rattle.scrub_check.specs.steps.SoundPlaces.{AreSoundPlaces}
-use Rattle.scrub_check.specs.steps.LiveAndOrphans.{orphans_by, AreLiveBy, AreLiveChunks, AreLiveAndOrphans}
+use Rattle.scrub_check.specs.steps.LiveAndOrphans.{kept_of, orphans_by, AreLiveBy, AreLiveChunks, AreLiveAndOrphans}
 use Rattle.scrub_check.proofs.Reclaimable.{parted_of_live}
 use Rattle.scrub_check.proofs.SortedPlaces.{orphans_found}
 use Rattle.scrub_check.proofs.Starts.{starts_rise}
@@ -32,7 +32,7 @@ use Rattle.scrub_check.proofs.Starts.{starts_rise}
 pub starts_found : (image : Image) (e w : ℕ) (found : Findings) (items : List Item) → IsFindings image e w found →
     items ≡ found.items → IsStrictlyIncreasing (map start_of items)
 starts_found image e w found items h shown =
-    rw shown (starts_rise (extent_of image e w) found.items (omega (arith, image.geometry.page_size.least)) h.tiled)
+    rw shown (starts_rise (extent_of image e w) found.items (omega (arith, image.geometry.page_least)) h.tiled)
 
 -- the live chunks of an extent, by its items
 pub live_of_extent : (checked : List Checked) (starts : List ChunkAt) (f : Scanned) (e : ℕ) (items : List Item) (live : LiveChunks) →
@@ -43,6 +43,10 @@ live_of_extent checked starts f e items live are number its h = record {
   kept =
       parted_of_live (map kept_of) live.kept.items checked starts e f.extent items f.findings.items are number its h.kept;
 }
+
+-- the places of the chunks of one extent, in the order of its items
+abbrev chunks_in : Scanned → List Place
+chunks_in f = filter_map (place_of f.extent) f.findings.items
 
 -- the orphans of one more extent
 orphans_grown : (checked : List Checked) (starts : List ChunkAt) (fs : List Scanned) (f : Scanned) (e : ℕ) (items : List Item) →

@@ -14,11 +14,10 @@ use Rattle.scrub_check.specs.declared.lists.place.Place.{Place}
 use Rattle.scrub_check.specs.declared.places.chunk_at.ChunkAt.{ChunkAt}
 use Rattle.scrub_check.specs.declared.lists.live_and_orphans.LiveChunks.{LiveChunks}
 use Rattle.scrub_check.specs.Live.{size_of}
-use Rattle.scrub_check.specs.Candidates.{kept_of}
 use Rattle.scrub_check.specs.Chunks.{place_of}
 use Rattle.scrub_check.specs.steps.Places.{is_place}
 use Rattle.scrub_check.specs.steps.SoundPlaces.{is_live_by, is_named_by}
-use Rattle.scrub_check.specs.steps.LiveAndOrphans.{HasPassed, live_by, orphans_by, AreLiveBy}
+use Rattle.scrub_check.specs.steps.LiveAndOrphans.{HasPassed, live_by, orphans_by, kept_of, AreLiveBy}
 use Rattle.scrub_check.proofs.Sizes.{sum_of_kept}
 use Rattle.scrub_check.proofs.PartedPlaces.{passed_further}
 

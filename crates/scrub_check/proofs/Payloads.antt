@@ -5,7 +5,7 @@ use Rattle.std.proofs.lemmas.Option.{none-some}
 use Rattle.scrub_disk.specs.Image.{Image, byte, extent_bytes}
 use Rattle.scrub_frame.specs.declared.form.Form.{Form}
 use Rattle.scrub_frame.specs.Frame.{frame, frame_overhead}
-use Rattle.scrub_frame.proofs.Frames.{length-frame}
+use Rattle.scrub_frame.proofs.Frames.{length-frame, overhead}
 use Rattle.scrub_frame.specs.declared.locator.Locator.{Locator}
 use Rattle.scrub_super.specs.Plan.{PlanValue, pointer_of}
 use Rattle.scrub_scan.specs.Extent.{extent_of, FrameAt}
@@ -17,9 +17,9 @@ use Rattle.scrub_check.specs.declared.statuses.status.Status.TheVariants.{OutOfR
 use Rattle.scrub_check.specs.declared.runs.RunState.{RunState}
 use Rattle.scrub_check.specs.declared.runs.RunState.TheVariants.{Read, BadChunk, NotARun}
 use Rattle.scrub_check.specs.ChunkRun.{StandsThere, HasPayloadThere, HoldsRun, IsStateOf}
-use Rattle.scrub_check.specs.Status.{NamesChunk, HasStatus, HasStatusInRetired, HasStatusInUse, HasStatusIn}
+use Rattle.scrub_check.specs.Status.{NamesChunk, HasStatus, HasStatusInRetired, HasStatusIn}
 use Rattle.scrub_check.specs.Runs.{NamesChunkIn, HasRunIn}
-use Rattle.scrub_check.proofs.RunStates.{named, unnamed, named_in_use}
+use Rattle.scrub_check.proofs.RunStates.{HasStatusInUse, named, unnamed, named_in_use}
 
 -- a byte that is there lies in the extent
 in_extent : (image : Image) (e place x : ℕ) → byte image e place ≡ Some x → place < extent_bytes image.geometry
@@ -40,7 +40,7 @@ within image e w p f u b h =
     let long : length (frame f u b) ≡ frame_overhead f + length b = length-frame f u b h.has_frame.sixteen in
     let last : p + (length b + frame_overhead f - 1) < extent_bytes image.geometry =
     in_extent image e (p + (length b + frame_overhead f - 1)) (slice_index (frame f u b) (length b + frame_overhead f - 1))
-    (h.stands (length b + frame_overhead f - 1) (omega (arith, long))) in
+    (h.stands (length b + frame_overhead f - 1) (omega (arith, long, overhead f))) in
     record { has_frame = h.has_frame; fits = omega (arith, last); stands = h.stands }
 
 -- the chunk has its payload in the image

@@ -21,10 +21,9 @@ use Rattle.scrub_scan.specs.AllFindings.{extent_numbers}
 use Rattle.scrub_check.specs.declared.statuses.checked.Checked.{Checked}
 use Rattle.scrub_check.specs.declared.places.chunk_at.ChunkAt.{ChunkAt}
 use Rattle.scrub_check.specs.Checked.{is_sound}
-use Rattle.scrub_check.specs.Live.{is_live}
-use Rattle.scrub_check.specs.steps.SoundPlaces.{AreSoundPlaces, is_live_by}
-use Rattle.scrub_check.specs.steps.LocatorIndex.{AreBarredExtents}
-use Rattle.scrub_check.specs.Candidates.{CandidateValue, is_reclaimable, candidate_of, by_free, reclaimable, AreCandidates}
+use Rattle.scrub_check.specs.steps.SoundPlaces.{AreSoundPlaces, is_live, is_live_by}
+use Rattle.scrub_check.specs.steps.LocatorIndex.{AreBarredExtents, reclaimable, by_free}
+use Rattle.scrub_check.specs.Candidates.{CandidateValue, is_reclaimable, candidate_of, AreCandidates}
 use Rattle.scrub_check.proofs.Sizes.{sum_of_kept}
 use Rattle.scrub_check.proofs.SortedPlaces.{live_sizes, same_number}
 

@@ -1,14 +1,14 @@
 -- Which statuses say that the chunk that a locator names is there.
-use Rattle.std.proofs.Common.{◌≡◌, ◌⊎◌, inl, inr, ℕ, Bool, true, false, List, MatchBool, length, ◌∙◌, ap, refl}
+use Rattle.std.proofs.Common.{◌≡◌, ◌⊎◌, inl, inr, ℕ, Bool, true, false, List, MatchBool, MatchOption, length, ◌∙◌, ap, refl}
 use Rattle.scrub_disk.specs.Image.{Image}
 use Rattle.scrub_frame.specs.declared.locator.Locator.{Locator}
-use Rattle.scrub_super.specs.Plan.{PlanValue}
+use Rattle.scrub_super.specs.Plan.{PlanValue, pointer_of}
 use Rattle.sha2.specs.Sha256.{sha256}
 use Rattle.scrub_scan.specs.Extent.{extent_of}
 use Rattle.scrub_scan.specs.steps.OneFrame.{one_frame_at}
 use Rattle.scrub_check.specs.declared.statuses.status.Status.{Status}
 use Rattle.scrub_check.specs.declared.statuses.status.Status.TheVariants.{OutOfRange, Retired, PastPointer, Unreadable, NoFrame, WrongUuid, WrongLength, WrongDigest, Hidden, Sound}
-use Rattle.scrub_check.specs.Status.{NamesChunk, HasStatus, HasStatusInRetired, HasStatusInUse, HasStatusIn, is_retired}
+use Rattle.scrub_check.specs.Status.{NamesChunk, HasStatus, HasStatusInRetired, HasStatusIn, is_retired}
 
 pub named : (image : Image) (w : ℕ) (l : Locator) (s : Status) → (s ≡ Sound) ⊎ (s ≡ Hidden) → HasStatus image w l s →
     NamesChunk image w l
@@ -32,6 +32,10 @@ unnamed image w l WrongDigest a b (c, f, same, other) n =
     (ap (λ (xs : List ℕ). sha256 xs) (one_frame_at (extent_of image l.extent w) l.offset f.form l.uuid c n.found.form l.uuid n.payload f.frame n.found.frame).2 ∙ n.digest)
 unnamed image w l Hidden a b h n = b refl
 unnamed image w l Sound a b h n = a refl
+
+-- the status of a locator into an extent in use: under the plan's pointer of it, or out of range if it has none
+abbrev pub HasStatusInUse : Image → PlanValue → Locator → Status → Type 0
+HasStatusInUse image plan l status = MatchOption (pointer_of plan l.extent) (status ≡ OutOfRange) (λ w. HasStatus image w l status)
 
 -- a sound or hidden locator by a plan is one into an extent in use
 pub named_in_use : (image : Image) (plan : PlanValue) (l : Locator) (s : Status) → (s ≡ Sound) ⊎ (s ≡ Hidden) →

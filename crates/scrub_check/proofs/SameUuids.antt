@@ -8,14 +8,14 @@ use Rattle.std.proofs.lemmas.List.Sorted.{sum_by-IsPermutation}
 use Rattle.std.proofs.lemmas.Map.Text.{is_eq-slice_cmp}
 use Rattle.scrub_scan.specs.Scanned.{Scanned}
 use Rattle.scrub_check.specs.declared.lists.place.Place.{Place}
-use Rattle.scrub_check.specs.Chunks.{chunks, chunks_with, twins}
+use Rattle.scrub_check.specs.Chunks.{chunks, twins}
 use Rattle.scrub_check.specs.steps.ChunkUuids.{uuid_cmp, AreUuidsOf, is_twin_by}
 use Rattle.scrub_check.proofs.Counts.{count_map}
 use Rattle.scrub_check.proofs.Rising.{once_at_most, not_several}
 
 -- how many chunks have a UUID is how often it is there
 count_uuids : (all : List Scanned) (uuids : List (List ℕ)) (uuid : List ℕ) → AreUuidsOf (chunks all) uuids →
-    count_by (λ other. bytes_eq other uuid) uuids ≡ chunks_with all uuid
+    count_by (λ other. bytes_eq other uuid) uuids ≡ count_by (λ p. bytes_eq p.uuid uuid) (chunks all)
 count_uuids all uuids uuid are =
     sum_by-IsPermutation (λ other. cond (bytes_eq other uuid) 1 0) (map (λ p. p.uuid) (chunks all)) uuids are
     ∙ count_map (λ other. bytes_eq other uuid) (λ p. p.uuid) (chunks all)

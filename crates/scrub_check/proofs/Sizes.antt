@@ -38,7 +38,7 @@ sizes_of_tiling x items pos h =
 -- so do those of what was found under the pointer
 pub sizes_found : (image : Image) (e w : ℕ) (found : Findings) → IsFindings image e w found → sum_by size_of found.items ≡ w
 sizes_found image e w found h =
-    sizes_of_tiling (extent_of image e w) found.items (omega (arith, image.geometry.page_size.least)) h.tiled
+    sizes_of_tiling (extent_of image e w) found.items (omega (arith, image.geometry.page_least)) h.tiled
 
 -- so 32 bits count what the items take that findings show, as they count the pointer
 pub sizes_fit : (image : Image) (e w : ℕ) (found : Findings) (items : List Item) (pointer : ℕ) → IsFindings image e w found →

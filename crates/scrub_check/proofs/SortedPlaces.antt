@@ -18,9 +18,9 @@ use Rattle.scrub_check.specs.declared.places.chunk_at.ChunkAt.{ChunkAt}
 use Rattle.scrub_check.specs.Checked.{is_sound}
 use Rattle.scrub_scan.specs.declared.item.Item.{Item}
 use Rattle.scrub_scan.specs.Item.{start_of}
-use Rattle.scrub_check.specs.Live.{is_sound_at, sound_at, has_sound_at, is_chunk, is_live}
+use Rattle.scrub_check.specs.Live.{sound_at, has_sound_at, is_chunk}
 use Rattle.scrub_check.specs.steps.Places.{chunk_at_cmp, is_place}
-use Rattle.scrub_check.specs.steps.SoundPlaces.{place_of_checked, sound_places, AreSoundPlaces, is_live_by, is_named_by}
+use Rattle.scrub_check.specs.steps.SoundPlaces.{is_sound_at, is_live, place_of_checked, sound_places, AreSoundPlaces, is_live_by, is_named_by}
 use Rattle.scrub_check.proofs.Counts.{count_out, count_between, any_counts, any_at, rises_against}
 
 -- places are in a total order
@@ -112,7 +112,7 @@ found_counts starts s (Err i) sorted inside found =
 pub found_sound : (checked : List Checked) (starts : List ChunkAt) (e p : ℕ) (found : Bool) → AreSoundPlaces checked starts →
     found ≡ nat_lt 0 (count_by (is_place (record { extent = e; offset = p })) starts) → found ≡ has_sound_at checked e p
 found_sound checked starts e p found are is =
-    is ∙ ap (λ n. nat_lt 0 n) (are (record { extent = e; offset = p })) ∙ sym (any_counts (is_sound_at e p) checked)
+    is ∙ ap (λ n. nat_lt 0 n) (are (record { extent = e; offset = p }))
 
 -- a live chunk is found by its start
 pub live_found : (checked : List Checked) (starts : List ChunkAt) (e : ℕ) (item : Item) → AreSoundPlaces checked starts →

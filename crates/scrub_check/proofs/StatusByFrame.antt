@@ -10,13 +10,13 @@ use Rattle.scrub_scan.specs.declared.standing.Standing.{Standing}
 use Rattle.scrub_scan.specs.Extent.{extent_of}
 use Rattle.scrub_scan.specs.declared.item.Item.{Item}
 use Rattle.scrub_scan.specs.declared.item.Item.TheVariants.{Chunk, Pad, Torn, Noise, Lost}
-use Rattle.scrub_scan.specs.Item.{start_of, IsChunk, IsItem}
+use Rattle.scrub_scan.specs.Item.{start_of, IsItem}
 use Rattle.scrub_scan.specs.Standing.{IsStandingAt}
 use Rattle.scrub_scan.specs.Tiling.{IsTiling}
 use Rattle.scrub_check.specs.declared.statuses.status.Status.{Status}
 use Rattle.scrub_check.specs.declared.statuses.status.Status.TheVariants.{OutOfRange, Retired, PastPointer, Unreadable, NoFrame, WrongUuid, WrongLength, WrongDigest, Hidden, Sound}
 use Rattle.scrub_check.specs.Status.{CanStand, FindsFrame, NamesChunk, HasStatus, HasStatusIn, is_retired}
-use Rattle.scrub_check.specs.Chunks.{frame_of_item}
+use Rattle.scrub_check.specs.Spares.{frame_of_item}
 use Rattle.scrub_check.specs.steps.StatusByFrame.{IsOther, IsMismatch, Agrees, IsStatusByFrame}
 use Rattle.scrub_check.specs.steps.Places.{IsIndexOf}
 use Rattle.scrub_check.specs.steps.Open.{IsFoundAt, IsOpen, IsSeenAt, IsStatusByItems, IsStatusByFindings}
@@ -92,8 +92,7 @@ judged_status image w l (Some s) agreeing status can there chunk (inr judged) =
 item_there : (image : Image) (w : ℕ) (l : Locator) (item : Item) → IsItem (extent_of image l.extent w) item →
     start_of item ≡ l.offset → IsFoundThere image w l (frame_of_item l.extent item)
 item_there image w l (Chunk f start stop u n digest) h at =
-    let chunk : IsChunk (extent_of image l.extent w) start f stop n u digest h.fits.1.0 = h.fits.1.1 in
-    record { in_extent = refl; at_offset = at; payload = h.fits.1.0; frame = record { frame = chunk.frame; length = chunk.length; digest = chunk.digest_is } }
+    record { in_extent = refl; at_offset = at; payload = h.fits.0; frame = record { frame = h.fits.1; length = h.fits.3; digest = h.fits.4 } }
 item_there image w l (Pad start stop) h at = rw at at h.fits.1
 item_there image w l (Torn start stop) h at = rw at at h.fits.1
 item_there image w l (Noise start stop) h at = rw at at h.fits.1
@@ -126,7 +125,7 @@ judged_by_item image w l items i item status can tiled at is judged =
 pub none_begins : (image : Image) (w : ℕ) (l : Locator) (items : List Item) → IsTiling (extent_of image l.extent w) items →
     ¬ Contains (map start_of items) l.offset → IsStatusByItems image w l None
 none_begins image w l items tiled apart b =
-    apart (begins_among (extent_of image l.extent w) items l.offset (omega (arith, image.geometry.page_size.least)) tiled b)
+    apart (begins_among (extent_of image l.extent w) items l.offset (omega (arith, image.geometry.page_least)) tiled b)
 
 -- by a plan, a status under the pointer of an extent in use
 pub status_under : (image : Image) (plan : PlanValue) (w : ℕ) (l : Locator) (s : Status) → is_retired plan l.extent ≡ false →

@@ -8,7 +8,6 @@ use Rattle.sha2.specs.Sha256.{sha256}
 use Rattle.scrub_disk.specs.Image.{Image, byte, extent_bytes}
 use Rattle.scrub_frame.specs.declared.form.Form.{Form}
 use Rattle.scrub_frame.specs.declared.locator.Locator.{Locator}
-use Rattle.scrub_frame.specs.Frame.{least_overhead}
 use Rattle.scrub_frame.proofs.Decisions.{Decided, decided_like, decided_both, decided_less, decided_at_most, decided_number, decided_numbers, some_below, some_element}
 use Rattle.scrub_super.specs.Plan.{PlanValue, pointer_of}
 use Rattle.scrub_scan.specs.Extent.{Extent, extent_of, FrameAt, NoFrameAt, HasGap}
@@ -28,8 +27,8 @@ use Rattle.scrub_check.specs.declared.statuses.status.Status.{Status}
 use Rattle.scrub_check.specs.declared.statuses.status.Status.TheVariants.{OutOfRange, Retired, PastPointer, Unreadable, NoFrame, WrongUuid, WrongLength, WrongDigest, Hidden, Sound}
 use Rattle.scrub_check.specs.Checked.{AreChecked, named_of}
 use Rattle.scrub_check.specs.Runs.{NamesChunkIn, HasRunIn, ReadRunsValue, AreReadRuns}
-use Rattle.scrub_check.specs.Status.{end_of, InRange, BelowPointer, HasUnreadableByte, CanStand, FindsFrame, NamesChunk, BeginsAt, HasStatus, HasStatusInRetired, HasStatusInUse, HasStatusIn, is_retired}
-use Rattle.scrub_check.proofs.RunStates.{unnamed}
+use Rattle.scrub_check.specs.Status.{end_of, InRange, HasUnreadableByte, CanStand, FindsFrame, NamesChunk, BeginsAt, HasStatus, HasStatusInRetired, HasStatusIn, is_retired}
+use Rattle.scrub_check.proofs.RunStates.{HasStatusInUse, unnamed}
 
 -- ---- under a write pointer
 
@@ -69,7 +68,7 @@ decided_begins x p pos = by (some_element (λ q. q ≡ p) (λ q. decided_number 
 
 module _ (image : Image) (w : ℕ) (l : Locator) where
   judge_chunk : NamesChunk image w l → (s : Status) × HasStatus image w l s
-  judge_chunk n = by (decided_begins (extent_of image l.extent w) l.offset (omega (arith, image.geometry.page_size.least)))
+  judge_chunk n = by (decided_begins (extent_of image l.extent w) l.offset (omega (arith, image.geometry.page_least)))
     where
       by : Decided (BeginsAt (extent_of image l.extent w) l.offset) → (s : Status) × HasStatus image w l s
       by (inl begins) = (Sound, (n, begins))
@@ -108,10 +107,10 @@ module _ (image : Image) (w : ℕ) (l : Locator) where
       by_range (inr out) = (OutOfRange, out)
       by_range (inl in_range) = by_pointer (decided_at_most (end_of l) w)
         where
-          by_pointer : Decided (BelowPointer w l) → (s : Status) × HasStatus image w l s
+          by_pointer : Decided (end_of l ≤ w) → (s : Status) × HasStatus image w l s
           by_pointer (inr past) = (PastPointer, (in_range, past))
           by_pointer (inl below) =
-              by_bytes (decided_gap (byte image l.extent) l.offset (l.length + least_overhead))
+              by_bytes (decided_gap (byte image l.extent) l.offset (l.length + 38))
             where
               by_bytes : Decided (HasUnreadableByte image l) → (s : Status) × HasStatus image w l s
               by_bytes (inl gap) = (Unreadable, (in_range, below, gap))

@@ -1,12 +1,10 @@
 -- Which extents may be reclaimed, what that frees, and what has to be kept.
 use Rattle.std.specs.Prelude.{◌*◌, ◌-◌, ◌==◌, ◌&&◌, ◌||◌, ℕ, Bool, not, nat_lt, List, [], map, if◌then◌else◌}
-use Rattle.std.specs.declared.cmp.Ordering.{Ordering}
 use Rattle.std.specs.Ordering.{nat_cmp, ordering_then}
 use Rattle.std.specs.List.{filter, list_all}
 use Rattle.std.specs.List.Sorted.{IsPermutation, IsStrictlySortedBy}
 use Rattle.scrub_disk.specs.declared.geometry.Geometry.{Geometry}
 use Rattle.scrub_super.specs.Plan.{PlanValue}
-use Rattle.scrub_scan.specs.declared.item.Item.{Item}
 use Rattle.scrub_scan.specs.Item.{start_of}
 use Rattle.scrub_scan.specs.Scanned.{Scanned}
 use Rattle.scrub_check.specs.declared.lists.kept_chunk.KeptChunk.{KeptChunk}
@@ -24,40 +22,23 @@ pub record CandidateValue : Type 0 where
   pub free : ℕ
   pub chunks : List KeptChunk
 
--- a chunk to keep: where it begins, and how many bytes its frame takes
-abbrev pub kept_of : Item → KeptChunk
-kept_of item = record { start = start_of item; bytes = size_of item }
-
--- no unreadable page of the extent has a byte below its write pointer
-abbrev pub is_readable : Geometry → Scanned → Bool
-is_readable g f = list_all (λ q. not (nat_lt (q * g.page) f.pointer)) f.findings.bad_pages
-
 -- each named locator with this extent's number is sound
 abbrev pub has_sound_alone : List Checked → Scanned → Bool
 has_sound_alone checked f = list_all (λ c. not (c.locator.extent == f.extent) || is_sound c.status) checked
 
--- live chunks take at most half of the bytes below the write pointer
-abbrev pub is_half_garbage : List Checked → Scanned → Bool
-is_half_garbage checked f = not (nat_lt f.pointer (2 * live_bytes checked f))
-
--- the extent may be reclaimed: its pointer isn't 0, it is readable below that, each locator to it is sound, and at
--- least half of what was written is garbage
+-- the extent may be reclaimed: its pointer isn't 0, no unreadable page has a byte below that, each locator to it is
+-- sound, and live chunks take at most half of the bytes below the pointer
 abbrev pub is_reclaimable : Geometry → List Checked → Scanned → Bool
-is_reclaimable g checked f = nat_lt 0 f.pointer && is_readable g f && has_sound_alone checked f && is_half_garbage checked f
+is_reclaimable g checked f =
+    nat_lt 0 f.pointer && list_all (λ q. not (nat_lt (q * g.page) f.pointer)) f.findings.bad_pages
+    && has_sound_alone checked f && not (nat_lt f.pointer (2 * live_bytes checked f))
 
--- an extent as a candidate
+-- an extent as a candidate: where each live chunk begins, and how many bytes its frame takes
 abbrev pub candidate_of : List Checked → Scanned → CandidateValue
-candidate_of checked f = record { extent = f.extent; free = f.pointer - live_bytes checked f; chunks = map kept_of (live_chunks checked f) }
+candidate_of checked f = record { extent = f.extent; free = f.pointer - live_bytes checked f; chunks = map (λ item. record { start = start_of item; bytes = size_of item }) (live_chunks checked f) }
 
--- the order of candidates: by what they free, falling, and then by number
-abbrev pub by_free : CandidateValue → CandidateValue → Ordering
-by_free a b = ordering_then (nat_cmp b.free a.free) (nat_cmp a.extent b.extent)
-
--- those of the scanned extents that may be reclaimed, as candidates, in their order
-abbrev pub reclaimable : Geometry → List Scanned → List Checked → List CandidateValue
-reclaimable g all checked = map (candidate_of checked) (filter (is_reclaimable g checked) all)
-
--- the candidates, in their order: none without a superblock or in doubt, and else all extents that may be reclaimed
+-- the candidates, by what they free, falling, and then by number: none without a superblock or in doubt, and else all
+-- extents that may be reclaimed
 pub record AreCandidates (plan : PlanValue) (all : List Scanned) (checked : List Checked) (in_doubt : Bool) (candidates : List CandidateValue) : Type 0 where
-  pub filtered : IsPermutation (if plan.has_superblock && not in_doubt then reclaimable plan.geometry all checked else []) candidates
-  pub ordered : IsStrictlySortedBy by_free candidates
+  pub filtered : IsPermutation (if plan.has_superblock && not in_doubt then map (candidate_of checked) (filter (is_reclaimable plan.geometry checked) all) else []) candidates
+  pub ordered : IsStrictlySortedBy (λ (a b : CandidateValue). ordering_then (nat_cmp b.free a.free) (nat_cmp a.extent b.extent)) candidates

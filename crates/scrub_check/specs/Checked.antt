@@ -1,5 +1,5 @@
 -- The named locators with their statuses, and the lists that are drawn from them alone.
-use Rattle.std.specs.Prelude.{◌≡◌, ◌&&◌, Bool, true, false, not, List, All, AllPairs, Contains, map}
+use Rattle.std.specs.Prelude.{◌≡◌, ◌↔◌, ◌&&◌, Bool, true, false, not, List, All, AllPairs, Contains, map}
 use Rattle.std.specs.Str.{bytes_eq}
 use Rattle.std.specs.List.{filter, list_any}
 use Rattle.scrub_disk.specs.Image.{Image}
@@ -63,8 +63,7 @@ is_owned_by id (Run k) = false
 abbrev pub is_broken : List Checked → ShardId → Bool
 is_broken checked id = list_any (λ c. is_owned_by id c.owner && is_dangling c.status) checked
 
--- the broken shards, all of them, in strictly ascending order of identifier
+-- the broken shards, all of them and no other, in strictly ascending order of identifier
 pub record AreBrokenShards (checked : List Checked) (ids : List ShardId) : Type 0 where
   pub rising : AllPairs IsBelow ids
-  pub each : All (λ id. is_broken checked id ≡ true) ids
-  pub all : (id : ShardId) → is_broken checked id ≡ true → Contains ids id
+  pub exact : (id : ShardId) → Contains ids id ↔ (is_broken checked id ≡ true)

@@ -1,6 +1,6 @@
 -- Which chunks are live: those whose place a sound named locator points to.
-use Rattle.std.specs.Prelude.{◌≡◌, ◌==◌, ◌&&◌, ◌-◌, ℕ, Bool, true, false, List, MatchOption}
-use Rattle.std.specs.List.{filter, list_any, sum_by, count_by}
+use Rattle.std.specs.Prelude.{◌≡◌, ◌==◌, ◌&&◌, ◌-◌, ℕ, Bool, true, false, nat_lt, List, MatchOption}
+use Rattle.std.specs.List.{filter, sum_by, count_by}
 use Rattle.scrub_scan.specs.declared.item.Item.{Item}
 use Rattle.scrub_scan.specs.declared.item.Item.TheVariants.{Chunk}
 use Rattle.scrub_scan.specs.Item.{start_of, stop_of}
@@ -9,30 +9,22 @@ use Rattle.scrub_scan.specs.AllFindings.{entry_of}
 use Rattle.scrub_check.specs.declared.statuses.checked.Checked.{Checked}
 use Rattle.scrub_check.specs.Checked.{is_sound}
 
--- the checked locator is sound and points to place p of extent e
-abbrev pub is_sound_at : ℕ → ℕ → Checked → Bool
-is_sound_at e p c = is_sound c.status && (c.locator.extent == e) && (c.locator.offset == p)
-
 -- how many sound locators point to place p of extent e
 abbrev pub sound_at : List Checked → ℕ → ℕ → ℕ
-sound_at checked e p = count_by (is_sound_at e p) checked
+sound_at checked e p = count_by (λ c. is_sound c.status && (c.locator.extent == e) && (c.locator.offset == p)) checked
 
 -- whether a sound locator points to place p of extent e
 abbrev pub has_sound_at : List Checked → ℕ → ℕ → Bool
-has_sound_at checked e p = list_any (is_sound_at e p) checked
+has_sound_at checked e p = nat_lt 0 (sound_at checked e p)
 
 -- the item is a chunk
 abbrev pub is_chunk : Item → Bool
 is_chunk (Chunk form start stop uuid length digest) = true
 is_chunk _ = false
 
--- the item of extent e is a live chunk: a sound locator points to its start
-abbrev pub is_live : List Checked → ℕ → Item → Bool
-is_live checked e item = is_chunk item && has_sound_at checked e (start_of item)
-
--- the live chunks of an extent, in the order of its items
+-- the live chunks of an extent, to whose starts a sound locator points, in the order of its items
 abbrev pub live_chunks : List Checked → Scanned → List Item
-live_chunks checked f = filter (is_live checked f.extent) f.findings.items
+live_chunks checked f = filter (λ item. is_chunk item && nat_lt 0 (sound_at checked f.extent (start_of item))) f.findings.items
 
 -- how many bytes of the extent an item takes, from its start to its stop
 abbrev pub size_of : Item → ℕ

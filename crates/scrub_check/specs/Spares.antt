@@ -1,5 +1,5 @@
 -- Spare copies: chunks whose payload has the length and the digest that a dangling locator asks for. An empty payload needs none.
-use Rattle.std.specs.Prelude.{◌≡◌, ◌==◌, ◌&&◌, Bool, List, [], Contains, nat_lt, map, if◌then◌else◌}
+use Rattle.std.specs.Prelude.{◌≡◌, ◌==◌, ◌&&◌, ℕ, Bool, Option, Some, None, List, [], Contains, nat_lt, map, if◌then◌else◌}
 use Rattle.std.specs.Str.{bytes_eq}
 use Rattle.std.specs.declared.cmp.Ordering.{Ordering}
 use Rattle.std.specs.Ordering.{nat_cmp, ordering_then, is_eq}
@@ -7,14 +7,20 @@ use Rattle.std.specs.Cmp.Lexicographic.{slice_cmp}
 use Rattle.std.specs.List.{count_by, filter, filter_map, flat_map}
 use Rattle.std.specs.List.Sorted.{IsPermutation, IsSortedByKey}
 use Rattle.scrub_frame.specs.declared.locator.Locator.{Locator}
+use Rattle.scrub_scan.specs.declared.item.Item.{Item}
+use Rattle.scrub_scan.specs.declared.item.Item.TheVariants.{Chunk}
 use Rattle.scrub_scan.specs.declared.standing.Standing.{Standing}
 use Rattle.scrub_scan.specs.Scanned.{Scanned}
 use Rattle.scrub_check.specs.declared.lists.spares.Content.{Content}
 use Rattle.scrub_check.specs.declared.statuses.checked.Checked.{Checked}
 use Rattle.scrub_check.specs.Checked.{is_dangling}
-use Rattle.scrub_check.specs.Chunks.{frame_of_item}
 
 -- ---- what a spare is
+
+-- an item of extent e as the frame at its start, if it is a chunk
+abbrev pub frame_of_item : ℕ → Item → Option Standing
+frame_of_item e (Chunk form start stop uuid length digest) = Some (record { extent = e; offset = start; form = form; uuid = uuid; length = length; digest = digest })
+frame_of_item e _ = None
 
 -- the chunks of an extent as frames, in the order of its items
 abbrev pub frames_in : Scanned → List Standing

@@ -7,7 +7,6 @@ use Rattle.sha2.specs.Sha256.{sha256}
 use Rattle.scrub_disk.specs.declared.geometry.Geometry.{Geometry}
 use Rattle.scrub_disk.specs.Image.{Image, byte, extent_bytes}
 use Rattle.scrub_frame.specs.declared.form.Form.{Form}
-use Rattle.scrub_frame.specs.Frame.{least_overhead}
 use Rattle.scrub_frame.specs.declared.locator.Locator.{Locator}
 use Rattle.scrub_super.specs.Plan.{PlanValue, pointer_of}
 use Rattle.scrub_scan.specs.declared.item.Item.{Item}
@@ -17,9 +16,9 @@ use Rattle.scrub_scan.specs.Tiling.{IsTiling}
 use Rattle.scrub_check.specs.declared.statuses.status.Status.{Status}
 use Rattle.scrub_check.specs.declared.statuses.status.Status.TheVariants.{OutOfRange, Retired, PastPointer, Unreadable, NoFrame, WrongUuid, WrongLength, WrongDigest, Hidden, Sound}
 
--- where the least frame that a locator may name would end: a plain one with a payload of its length
+-- where the least frame that a locator may name would end: a plain one, with 38 bytes and a payload of its length
 abbrev pub end_of : Locator → ℕ
-end_of l = l.offset + l.length + least_overhead
+end_of l = l.offset + l.length + 38
 
 -- the locator's least frame would be in an extent that chunks are written to
 pub record InRange (g : Geometry) (l : Locator) : Type 0 where
@@ -27,18 +26,14 @@ pub record InRange (g : Geometry) (l : Locator) : Type 0 where
   pub in_disk : l.extent < g.extents
   pub in_extent : end_of l ≤ extent_bytes g
 
--- the locator's least frame would end at or before the pointer
-abbrev pub BelowPointer : ℕ → Locator → Type 0
-BelowPointer w l = end_of l ≤ w
-
 -- one byte of the locator's least frame can't be read
 abbrev pub HasUnreadableByte : Image → Locator → Type 0
-HasUnreadableByte image l = HasGap (byte image l.extent) l.offset (l.length + least_overhead)
+HasUnreadableByte image l = HasGap (byte image l.extent) l.offset (l.length + 38)
 
 -- the locator's least frame would be in range, at or before the pointer, and on readable pages
 pub record CanStand (image : Image) (w : ℕ) (l : Locator) : Type 0 where
   pub in_range : InRange image.geometry l
-  pub below : BelowPointer w l
+  pub below : end_of l ≤ w
   pub readable : ¬ HasUnreadableByte image l
 
 -- a frame of UUID u and payload b, of either form, is at the locator's place
@@ -65,8 +60,8 @@ pub record NamesChunk (image : Image) (w : ℕ) (l : Locator) : Type 0 where
 abbrev pub HasStatus : Image → ℕ → Locator → Status → Type 0
 HasStatus image w l OutOfRange = ¬ InRange image.geometry l
 HasStatus image w l Retired = ⊥
-HasStatus image w l PastPointer = InRange image.geometry l × ¬ BelowPointer w l
-HasStatus image w l Unreadable = InRange image.geometry l × BelowPointer w l × HasUnreadableByte image l
+HasStatus image w l PastPointer = InRange image.geometry l × ¬ (end_of l ≤ w)
+HasStatus image w l Unreadable = InRange image.geometry l × (end_of l ≤ w) × HasUnreadableByte image l
 HasStatus image w l NoFrame = CanStand image w l × NoFrameAt (extent_of image l.extent w) l.offset
 HasStatus image w l WrongUuid = (u : List ℕ) × ((b : List ℕ) × FindsFrame image w l u b × (u ≢ l.uuid))
 HasStatus image w l WrongLength = (b : List ℕ) × FindsFrame image w l l.uuid b × (len b ≢ l.length)
@@ -85,13 +80,12 @@ HasStatusInRetired image l OutOfRange = ¬ InRange image.geometry l
 HasStatusInRetired image l Retired = InRange image.geometry l
 HasStatusInRetired image l _ = ⊥
 
--- the status of a locator into an extent in use: under the plan's pointer of it, or out of range if it has none
-abbrev pub HasStatusInUse : Image → PlanValue → Locator → Status → Type 0
-HasStatusInUse image plan l status = MatchOption (pointer_of plan l.extent) (status ≡ OutOfRange) (λ w. HasStatus image w l status)
-
--- the status of a locator by a plan: if the plan retires its extent, that in a retired extent, or else that in use
+-- the status of a locator by a plan: if the plan retires its extent, that in a retired extent, or else that under the
+-- plan's pointer of the extent; out of range if it has none
 abbrev pub HasStatusIn : Image → PlanValue → Locator → Status → Type 0
-HasStatusIn image plan l status = MatchBool (is_retired plan l.extent) (HasStatusInRetired image l status) (HasStatusInUse image plan l status)
+HasStatusIn image plan l status =
+    MatchBool (is_retired plan l.extent) (HasStatusInRetired image l status)
+    (MatchOption (pointer_of plan l.extent) (status ≡ OutOfRange) (λ w. HasStatus image w l status))
 
 -- exactly one status applies: any two that do are one, and it can't be that none does
 pub record ExactlyOne (Applies : Status → Type 0) : Type 0 where

@@ -1,5 +1,5 @@
 -- Why no disk is loaded from an image file, or what is, from what the parts of `load_disk` give.
-use Rattle.std.proofs.Common.{◌≡◌, arith, ◌<◌, ◌≤◌, ℕ, List, length, Option, IfSome, MatchResult, Result, Ok, Err}
+use Rattle.std.proofs.Common.{◌≡◌, arith, ◌<◌, ◌≤◌, ℕ, Bool, List, length, Option, IfSome, MatchResult, Result, Ok, Err}
 use Rattle.std.specs.Borrow.{Bor}
 use Rattle.scrub_disk.specs.declared.geometry.Geometry.{Geometry as Sizes}
 use Rattle.scrub_disk.specs.declared.loading.LoadFault.{LoadFault}
@@ -164,13 +164,13 @@ load_fault known was named g no_memory_to_load same longer = tt
 load_fault known was named g too_long same longer = rw same at (longer (λ i. too_long))
 
 -- no more reads of all readers fail than may fail of the image
-pub loaded_as_known : (known : KnownRaw) (was : Option (List ℕ)) (g : Sizes) (pages : List (ℕ × ℕ)) (image : Image)
+pub loaded_as_known : (known : KnownRaw) (was : Option (List ℕ)) (fails : ℕ → ℕ → Bool) (g : Sizes) (pages : List (ℕ × ℕ)) (image : Image)
     (most most_before : ℕ) →
-    was ≡ known.bytes → most_before ≡ known.most_failures → most ≤ most_before →
-    IsLoadedWith was most g pages image → IsLoadedWith known.bytes known.most_failures g pages image
-loaded_as_known known was g pages image most most_before same bound within loaded =
+    was ≡ known.bytes → fails ≡ known.fails → most_before ≡ known.most_failures → most ≤ most_before →
+    IsLoadedWith was fails most g pages image → IsLoadedWith known.bytes known.fails known.most_failures g pages image
+loaded_as_known known was fails g pages image most most_before same may bound within loaded =
     let few : most ≤ known.most_failures = omega (arith, bound, within) in
-    rw same at (loaded_with_more was most known.most_failures g pages image few loaded)
+    rw (same, may) at (loaded_with_more was fails most known.most_failures g pages image few loaded)
 
 -- what holds of each result holds of the one that there is
 pub matched : {T E : Type 0} (r : Result T E) (P P' : T → Type 0) (Q Q' : E → Type 0) → MatchResult r P Q → ((t : T) → P t → P' t) →

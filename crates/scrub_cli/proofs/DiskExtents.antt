@@ -56,23 +56,23 @@ same_behind blocks e whole one after s h = record {
 }
 
 -- an extent that was loaded, without what the map lacks, is one of a whole image without it
-pub extent_loaded_by : (known : KnownRaw) (raw : Option (List ℕ)) (most : ℕ) (g : Sizes) (pages : List (ℕ × ℕ))
-    (blocks : Option (List MapBlock)) (e : ℕ) (one after : Image) → raw ≡ known.bytes → most ≡ known.most_failures →
-    IsLoadedExtent raw most g pages e one → LosesByMapIn blocks e one after → IsExtentLoadedBy known g pages blocks e after
-extent_loaded_by known raw most g pages None e one after same bound l h = record {
+pub extent_loaded_by : (known : KnownRaw) (raw : Option (List ℕ)) (fails : ℕ → ℕ → Bool) (most : ℕ) (g : Sizes) (pages : List (ℕ × ℕ))
+    (blocks : Option (List MapBlock)) (e : ℕ) (one after : Image) → raw ≡ known.bytes → fails ≡ known.fails → most ≡ known.most_failures →
+    IsLoadedExtent raw fails most g pages e one → LosesByMapIn blocks e one after → IsExtentLoadedBy known g pages blocks e after
+extent_loaded_by known raw fails most g pages None e one after same may bound l h = record {
   whole = l.whole;
   loaded = record {
     before = l.whole;
-    loaded = loaded_as_known known raw g pages l.whole most most same bound (omega arith) l.loaded;
+    loaded = loaded_as_known known raw fails g pages l.whole most most same may bound (omega arith) l.loaded;
     rescued = refl;
   };
   same = subst (SameExtent e l.whole) (sym h) l.same;
 }
-extent_loaded_by known raw most g pages (Some blocks) e one after same bound l h = record {
+extent_loaded_by known raw fails most g pages (Some blocks) e one after same may bound l h = record {
   whole = behind_lost blocks e l.whole after;
   loaded = record {
     before = l.whole;
-    loaded = loaded_as_known known raw g pages l.whole most most same bound (omega arith) l.loaded;
+    loaded = loaded_as_known known raw fails g pages l.whole most most same may bound (omega arith) l.loaded;
     rescued = loses_behind blocks e l.whole one after l.same h;
   };
   same = same_behind blocks e l.whole one after l.same h;
@@ -86,11 +86,11 @@ loses_by_map_in map e before image loses None keeps = absurd keeps
 loses_by_map_in map e before image loses (Some blocks) keeps = loses blocks keeps
 
 -- what was loaded while few reads failed was loaded while at most many did
-pub loaded_extent_more : (raw : Option (List ℕ)) (few many : ℕ) (g : Sizes) (pages : List (ℕ × ℕ)) (e : ℕ) (image : Image) →
-    few ≤ many → IsLoadedExtent raw few g pages e image → IsLoadedExtent raw many g pages e image
-loaded_extent_more raw few many g pages e image le l = record {
+pub loaded_extent_more : (raw : Option (List ℕ)) (fails : ℕ → ℕ → Bool) (few many : ℕ) (g : Sizes) (pages : List (ℕ × ℕ)) (e : ℕ) (image : Image) →
+    few ≤ many → IsLoadedExtent raw fails few g pages e image → IsLoadedExtent raw fails many g pages e image
+loaded_extent_more raw fails few many g pages e image le l = record {
   whole = l.whole;
-  loaded = loaded_with_more raw few many g pages l.whole le l.loaded;
+  loaded = loaded_with_more raw fails few many g pages l.whole le l.loaded;
   same = l.same;
 }
 

@@ -1,5 +1,5 @@
 -- The sizes that are found, and why none are, from what the parts give.
-use Rattle.std.proofs.Common.{◌≡◌, ◌≤◌, ℕ, List, Option, Result, Ok, Err, IfOk}
+use Rattle.std.proofs.Common.{◌≡◌, ◌≤◌, ℕ, Bool, List, Option, Result, Ok, Err, IfOk}
 use Rattle.std.specs.Borrow.{Bor}
 use Rattle.scrub_disk.specs.declared.geometry.Geometry.{Geometry as Sizes}
 use Rattle.scrub_listings.specs.Sizes.{AreSizesOf}
@@ -9,20 +9,20 @@ use Rattle.scrub_cli.specs.DiskGeometry.{AreSizesRead, IsFoundFault}
 use Rattle.scrub_cli.specs.KnownFiles.{KnownMaps, KnownRaw}
 use Rattle.scrub_cli.specs.Rescue.{IsMapFault}
 
-pub sizes_read : {E : Type 0} (bytes : Option (List ℕ)) (most : ℕ) (lacking : List ℕ) (failures : ℕ) (r : Result (Option Sizes) E) →
-    failures ≤ most → IfOk r (AreSizesOf bytes lacking failures) →
-    IfOk r (AreSizesRead (record { bytes = bytes; most_failures = most }) lacking)
-sizes_read bytes most lacking failures (Ok o) few are = record { failures = failures; few = few; sizes = are }
-sizes_read bytes most lacking failures (Err e) few are = tt
+pub sizes_read : {E : Type 0} (bytes : Option (List ℕ)) (fails : ℕ → ℕ → Bool) (most : ℕ) (lacking : List ℕ) (failures : ℕ) (r : Result (Option Sizes) E) →
+    failures ≤ most → IfOk r (AreSizesOf bytes lacking fails failures) →
+    IfOk r (AreSizesRead (record { bytes = bytes; fails = fails; most_failures = most }) lacking)
+sizes_read bytes fails most lacking failures (Ok o) few are = record { failures = failures; few = few; sizes = are }
+sizes_read bytes fails most lacking failures (Err e) few are = tt
 
 -- the sizes of the image that was opened are those of what is known of it
-pub read_as_known : (known : KnownRaw) (bytes : Option (List ℕ)) (most : ℕ) (lacking : List ℕ) (found : Option Sizes) →
-    bytes ≡ known.bytes → most ≡ known.most_failures →
-    AreSizesRead (record { bytes = bytes; most_failures = most }) lacking found → AreSizesRead known lacking found
-read_as_known known bytes most lacking found same bound read = record {
+pub read_as_known : (known : KnownRaw) (bytes : Option (List ℕ)) (fails : ℕ → ℕ → Bool) (most : ℕ) (lacking : List ℕ) (found : Option Sizes) →
+    bytes ≡ known.bytes → fails ≡ known.fails → most ≡ known.most_failures →
+    AreSizesRead (record { bytes = bytes; fails = fails; most_failures = most }) lacking found → AreSizesRead known lacking found
+read_as_known known bytes fails most lacking found same may bound read = record {
   failures = read.failures;
   few = rw (← bound) read.few;
-  sizes = rw (← same) read.sizes;
+  sizes = rw (← same, ← may) read.sizes;
 }
 
 -- a fault of the map is one of the sizes

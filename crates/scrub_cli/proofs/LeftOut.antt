@@ -1,5 +1,5 @@
 -- What is answered without sizes is answered with those that the records have.
-use Rattle.std.proofs.Common.{◌≡◌, ◌⊎◌, inl, inr, ℕ, List, Option, Some, MatchOption, subst}
+use Rattle.std.proofs.Common.{◌≡◌, ◌⊎◌, inl, inr, ℕ, Bool, List, Option, Some, MatchOption, subst}
 use Rattle.scrub_disk.specs.declared.geometry.Geometry.{Geometry as Sizes}
 use Rattle.scrub_disk.specs.Faults.{HasSizes}
 use Rattle.scrub_disk.specs.Image.{Image}
@@ -26,20 +26,20 @@ use Rattle.scrub_cli.proofs.DiskAnswers.{of_disk_fault}
 -- ---- the sizes, and the disk
 
 -- the sizes that were found are those that are given
-geometry_with : (bytes : List ℕ) (most : ℕ) (maps : KnownMaps) (args : ImageArgs) (g : Sizes) (s : GivenSizes) (h : Sizes) →
-    MayBeLeftOut bytes most maps args g s → IsGeometryOf (known_bytes bytes most) maps args h →
-    IsGeometryOf (known_bytes bytes most) maps (with_sizes args s) h
-geometry_with bytes most maps args g s h may sizes =
+geometry_with : (bytes : List ℕ) (fails : ℕ → ℕ → Bool) (most : ℕ) (maps : KnownMaps) (args : ImageArgs) (g : Sizes) (s : GivenSizes) (h : Sizes) →
+    MayBeLeftOut bytes fails most maps args g s → IsGeometryOf (known_bytes bytes fails most) maps args h →
+    IsGeometryOf (known_bytes bytes fails most) maps (with_sizes args s) h
+geometry_with bytes fails most maps args g s h may sizes =
     subst (λ (k : Sizes). HasSizes k s.page s.pages s.extents) same may.given
   where
-    found : AreSizesFound (known_bytes bytes most) maps args.map (Some h)
+    found : AreSizesFound (known_bytes bytes fails most) maps args.map (Some h)
     found = subst
-        (λ (o : Option GivenSizes). MatchOption o (AreSizesFound (known_bytes bytes most) maps args.map (Some h)) (λ t. HasSizes h t.page t.pages t.extents))
+        (λ (o : Option GivenSizes). MatchOption o (AreSizesFound (known_bytes bytes fails most) maps args.map (Some h)) (λ t. HasSizes h t.page t.pages t.extents))
         may.left_out sizes
 
     same : g ≡ h
     same =
-        one_size_lem bytes may.found.lacking found.lacking may.found.read.failures found.read.failures g h may.found.read.sizes
+        one_size_lem bytes may.found.lacking found.lacking fails fails may.found.read.failures found.read.failures g h may.found.read.sizes
         found.read.sizes
 
 -- the disk is loaded by the other arguments alone
@@ -66,35 +66,35 @@ disk_fault_with known maps args s g fault =
 
 -- ---- a whole disk
 
-module _ (bytes : List ℕ) (most : ℕ) (maps : KnownMaps) (args : ImageArgs) (g : Sizes) (s : GivenSizes) where
-  disk_with : (image : Image) → MayBeLeftOut bytes most maps args g s → IsDiskOf (known_bytes bytes most) maps args image →
-      IsDiskOf (known_bytes bytes most) maps (with_sizes args s) image
+module _ (bytes : List ℕ) (fails : ℕ → ℕ → Bool) (most : ℕ) (maps : KnownMaps) (args : ImageArgs) (g : Sizes) (s : GivenSizes) where
+  disk_with : (image : Image) → MayBeLeftOut bytes fails most maps args g s → IsDiskOf (known_bytes bytes fails most) maps args image →
+      IsDiskOf (known_bytes bytes fails most) maps (with_sizes args s) image
   disk_with image may x = record {
     geometry = x.geometry;
-    sizes = geometry_with bytes most maps args g s x.geometry may x.sizes;
-    loaded = loaded_with (known_bytes bytes most) maps args s x.geometry image x.loaded;
+    sizes = geometry_with bytes fails most maps args g s x.geometry may x.sizes;
+    loaded = loaded_with (known_bytes bytes fails most) maps args s x.geometry image x.loaded;
   }
 
-  load_fault_with : (fault : Fault) → MayBeLeftOut bytes most maps args g s → IsLoadFault (known_bytes bytes most) maps args fault →
-      IsLoadFault (known_bytes bytes most) maps (with_sizes args s) fault
+  load_fault_with : (fault : Fault) → MayBeLeftOut bytes fails most maps args g s → IsLoadFault (known_bytes bytes fails most) maps args fault →
+      IsLoadFault (known_bytes bytes fails most) maps (with_sizes args s) fault
   load_fault_with fault may (h, sizes, why) =
-      (h, geometry_with bytes most maps args g s h may sizes, disk_fault_with (known_bytes bytes most) maps args s h fault why)
+      (h, geometry_with bytes fails most maps args g s h may sizes, disk_fault_with (known_bytes bytes fails most) maps args s h fault why)
 
-  pub scan_with : (wanted : Wanted) (text : List ℕ) (outcome : Outcome) → MayBeLeftOut bytes most maps args g s →
-      IsScanAnswer wanted (known_bytes bytes most) maps args text outcome →
-      IsScanAnswer wanted (known_bytes bytes most) maps (with_sizes args s) text outcome
+  pub scan_with : (wanted : Wanted) (text : List ℕ) (outcome : Outcome) → MayBeLeftOut bytes fails most maps args g s →
+      IsScanAnswer wanted (known_bytes bytes fails most) maps args text outcome →
+      IsScanAnswer wanted (known_bytes bytes fails most) maps (with_sizes args s) text outcome
   scan_with wanted text outcome may x = record { image = x.image; disk = disk_with x.image may x.disk; answered = x.answered }
 
-  pub superblocks_with : (text : List ℕ) (outcome : Outcome) → MayBeLeftOut bytes most maps args g s →
-      IsSuperblocksAnswer (known_bytes bytes most) maps args text outcome →
-      IsSuperblocksAnswer (known_bytes bytes most) maps (with_sizes args s) text outcome
+  pub superblocks_with : (text : List ℕ) (outcome : Outcome) → MayBeLeftOut bytes fails most maps args g s →
+      IsSuperblocksAnswer (known_bytes bytes fails most) maps args text outcome →
+      IsSuperblocksAnswer (known_bytes bytes fails most) maps (with_sizes args s) text outcome
   superblocks_with text outcome may x = record { image = x.image; disk = disk_with x.image may x.disk; answered = x.answered }
 
   abbrev OrWith : Fault → Type 0
   OrWith fault =
-      IsGeometryFault (known_bytes bytes most) maps args fault ⊎ IsScanFault (known_bytes bytes most) maps (with_sizes args s) fault
+      IsGeometryFault (known_bytes bytes fails most) maps args fault ⊎ IsScanFault (known_bytes bytes fails most) maps (with_sizes args s) fault
 
-  pub scan_fault_with : (fault : Fault) → MayBeLeftOut bytes most maps args g s → IsScanFault (known_bytes bytes most) maps args fault → OrWith fault
+  pub scan_fault_with : (fault : Fault) → MayBeLeftOut bytes fails most maps args g s → IsScanFault (known_bytes bytes fails most) maps args fault → OrWith fault
   scan_fault_with NotUtf8 may is = inr (load_fault_with NotUtf8 may is)
   scan_fault_with (Help text) may is = inr (load_fault_with (Help text) may is)
   scan_fault_with (Args text) may is = inr (load_fault_with (Args text) may is)
@@ -118,48 +118,48 @@ module _ (bytes : List ℕ) (most : ℕ) (maps : KnownMaps) (args : ImageArgs) (
 
 -- ---- one extent
 
-module _ (bytes : List ℕ) (most : ℕ) (maps : KnownMaps) (args : ItemsArgs) (g : Sizes) (s : GivenSizes) where
+module _ (bytes : List ℕ) (fails : ℕ → ℕ → Bool) (most : ℕ) (maps : KnownMaps) (args : ItemsArgs) (g : Sizes) (s : GivenSizes) where
   abbrev items_args : ItemsArgs
   items_args = record args { image = with_sizes args.image s }
 
-  places_with : (h : Sizes) → MayBeLeftOut bytes most maps args.image g s → AreInDisk (known_bytes bytes most) maps args h →
-      AreInDisk (known_bytes bytes most) maps items_args h
+  places_with : (h : Sizes) → MayBeLeftOut bytes fails most maps args.image g s → AreInDisk (known_bytes bytes fails most) maps args h →
+      AreInDisk (known_bytes bytes fails most) maps items_args h
   places_with h may x = record {
-    sizes = geometry_with bytes most maps args.image g s h may x.sizes;
+    sizes = geometry_with bytes fails most maps args.image g s h may x.sizes;
     in_disk = x.in_disk;
     in_extent = x.in_extent;
   }
 
-  pub items_with : (text : List ℕ) (outcome : Outcome) → MayBeLeftOut bytes most maps args.image g s →
-      IsItemsAnswer (known_bytes bytes most) maps args text outcome → IsItemsAnswer (known_bytes bytes most) maps items_args text outcome
+  pub items_with : (text : List ℕ) (outcome : Outcome) → MayBeLeftOut bytes fails most maps args.image g s →
+      IsItemsAnswer (known_bytes bytes fails most) maps args text outcome → IsItemsAnswer (known_bytes bytes fails most) maps items_args text outcome
   items_with text outcome may x = record {
     geometry = x.geometry;
     places = places_with x.geometry may x.places;
     image = x.image;
-    loaded = loaded_with (known_bytes bytes most) maps args.image s x.geometry x.image x.loaded;
+    loaded = loaded_with (known_bytes bytes fails most) maps args.image s x.geometry x.image x.loaded;
     listed = x.listed;
   }
 
-  placed_fault_with : (fault : Fault) → MayBeLeftOut bytes most maps args.image g s → IsPlacedFault (known_bytes bytes most) maps args fault →
-      IsPlacedFault (known_bytes bytes most) maps items_args fault
+  placed_fault_with : (fault : Fault) → MayBeLeftOut bytes fails most maps args.image g s → IsPlacedFault (known_bytes bytes fails most) maps args fault →
+      IsPlacedFault (known_bytes bytes fails most) maps items_args fault
   placed_fault_with fault may (h, places, why) =
-      (h, places_with h may places, disk_fault_with (known_bytes bytes most) maps args.image s h fault why)
+      (h, places_with h may places, disk_fault_with (known_bytes bytes fails most) maps args.image s h fault why)
 
   abbrev ItemsOrWith : Fault → Type 0
   ItemsOrWith fault =
-      IsGeometryFault (known_bytes bytes most) maps args.image fault ⊎ IsItemsFault (known_bytes bytes most) maps items_args fault
+      IsGeometryFault (known_bytes bytes fails most) maps args.image fault ⊎ IsItemsFault (known_bytes bytes fails most) maps items_args fault
 
-  pub items_fault_with : (fault : Fault) → MayBeLeftOut bytes most maps args.image g s → IsItemsFault (known_bytes bytes most) maps args fault →
+  pub items_fault_with : (fault : Fault) → MayBeLeftOut bytes fails most maps args.image g s → IsItemsFault (known_bytes bytes fails most) maps args fault →
       ItemsOrWith fault
   items_fault_with NotUtf8 may is = inr (placed_fault_with NotUtf8 may is)
   items_fault_with (Help text) may is = inr (placed_fault_with (Help text) may is)
   items_fault_with (Args text) may is = inr (placed_fault_with (Args text) may is)
   items_fault_with (Geometry limit) may is = inl is
   items_fault_with NoSizes may is = inl is
-  items_fault_with Extent may (h, sizes, out) = inr (h, geometry_with bytes most maps args.image g s h may sizes, out)
+  items_fault_with Extent may (h, sizes, out) = inr (h, geometry_with bytes fails most maps args.image g s h may sizes, out)
   items_fault_with (BadShard text) may is = inr (placed_fault_with (BadShard text) may is)
   items_fault_with Pointer may (h, sizes, within, out) =
-      inr (h, geometry_with bytes most maps args.image g s h may sizes, within, out)
+      inr (h, geometry_with bytes fails most maps args.image g s h may sizes, within, out)
   items_fault_with (BadPage arg) may is = inr (placed_fault_with (BadPage arg) may is)
   items_fault_with (NoMap name) may (inl is) = inl is
   items_fault_with (NoMap name) may (inr is) = inr (inr (placed_fault_with (NoMap name) may is))
@@ -175,26 +175,26 @@ module _ (bytes : List ℕ) (most : ℕ) (maps : KnownMaps) (args : ItemsArgs) (
 
 -- ---- one shard
 
-module _ (bytes : List ℕ) (most : ℕ) (maps : KnownMaps) (args : ShardArgs) (g : Sizes) (s : GivenSizes) where
+module _ (bytes : List ℕ) (fails : ℕ → ℕ → Bool) (most : ℕ) (maps : KnownMaps) (args : ShardArgs) (g : Sizes) (s : GivenSizes) where
   abbrev shard_args : ShardArgs
   shard_args = record args { scan = record args.scan { image = with_sizes args.scan.image s } }
 
-  named_with : (h : Sizes) (id : ShardId) → MayBeLeftOut bytes most maps args.scan.image g s →
-      IsNamed (known_bytes bytes most) maps args h id → IsNamed (known_bytes bytes most) maps shard_args h id
-  named_with h id may x = record { sizes = geometry_with bytes most maps args.scan.image g s h may x.sizes; id_is = x.id_is }
+  named_with : (h : Sizes) (id : ShardId) → MayBeLeftOut bytes fails most maps args.scan.image g s →
+      IsNamed (known_bytes bytes fails most) maps args h id → IsNamed (known_bytes bytes fails most) maps shard_args h id
+  named_with h id may x = record { sizes = geometry_with bytes fails most maps args.scan.image g s h may x.sizes; id_is = x.id_is }
 
-  read_with : (image : Image) (answer : ShardAnswer) → MayBeLeftOut bytes most maps args.scan.image g s →
-      IsShardRead (known_bytes bytes most) maps args image answer → IsShardRead (known_bytes bytes most) maps shard_args image answer
+  read_with : (image : Image) (answer : ShardAnswer) → MayBeLeftOut bytes fails most maps args.scan.image g s →
+      IsShardRead (known_bytes bytes fails most) maps args image answer → IsShardRead (known_bytes bytes fails most) maps shard_args image answer
   read_with image answer may x = record {
     geometry = x.geometry;
     id = x.id;
     named = named_with x.geometry x.id may x.named;
-    loaded = loaded_with (known_bytes bytes most) maps args.scan.image s x.geometry image x.loaded;
+    loaded = loaded_with (known_bytes bytes fails most) maps args.scan.image s x.geometry image x.loaded;
     answered = x.answered;
   }
 
-  pub shard_with : (text : List ℕ) (outcome : Outcome) → MayBeLeftOut bytes most maps args.scan.image g s →
-      IsShardWritten (known_bytes bytes most) maps args text outcome → IsShardWritten (known_bytes bytes most) maps shard_args text outcome
+  pub shard_with : (text : List ℕ) (outcome : Outcome) → MayBeLeftOut bytes fails most maps args.scan.image g s →
+      IsShardWritten (known_bytes bytes fails most) maps args text outcome → IsShardWritten (known_bytes bytes fails most) maps shard_args text outcome
   shard_with text outcome may x = record {
     image = x.image;
     answer = x.answer;
@@ -202,20 +202,20 @@ module _ (bytes : List ℕ) (most : ℕ) (maps : KnownMaps) (args : ShardArgs) (
     written = x.written;
   }
 
-  lost_with : (fault : Fault) → MayBeLeftOut bytes most maps args.scan.image g s → IsShardLost (known_bytes bytes most) maps args fault →
-      IsShardLost (known_bytes bytes most) maps shard_args fault
+  lost_with : (fault : Fault) → MayBeLeftOut bytes fails most maps args.scan.image g s → IsShardLost (known_bytes bytes fails most) maps args fault →
+      IsShardLost (known_bytes bytes fails most) maps shard_args fault
   lost_with fault may x = record { image = x.image; answer = x.answer; is_read = read_with x.image x.answer may x.is_read; why = x.why }
 
-  id_fault_with : (fault : Fault) → MayBeLeftOut bytes most maps args.scan.image g s → IsFaultAfterId (known_bytes bytes most) maps args fault →
-      IsFaultAfterId (known_bytes bytes most) maps shard_args fault
+  id_fault_with : (fault : Fault) → MayBeLeftOut bytes fails most maps args.scan.image g s → IsFaultAfterId (known_bytes bytes fails most) maps args fault →
+      IsFaultAfterId (known_bytes bytes fails most) maps shard_args fault
   id_fault_with fault may (h, id, named, why) =
-      (h, id, named_with h id may named, disk_fault_with (known_bytes bytes most) maps args.scan.image s h fault why)
+      (h, id, named_with h id may named, disk_fault_with (known_bytes bytes fails most) maps args.scan.image s h fault why)
 
   abbrev ShardOrWith : Fault → Type 0
   ShardOrWith fault =
-      IsGeometryFault (known_bytes bytes most) maps args.scan.image fault ⊎ IsShardFault (known_bytes bytes most) maps shard_args fault
+      IsGeometryFault (known_bytes bytes fails most) maps args.scan.image fault ⊎ IsShardFault (known_bytes bytes fails most) maps shard_args fault
 
-  pub shard_fault_with : (fault : Fault) → MayBeLeftOut bytes most maps args.scan.image g s → IsShardFault (known_bytes bytes most) maps args fault →
+  pub shard_fault_with : (fault : Fault) → MayBeLeftOut bytes fails most maps args.scan.image g s → IsShardFault (known_bytes bytes fails most) maps args fault →
       ShardOrWith fault
   shard_fault_with NotUtf8 may is = inr (id_fault_with NotUtf8 may is)
   shard_fault_with (Help text) may is = inr (id_fault_with (Help text) may is)
@@ -224,7 +224,7 @@ module _ (bytes : List ℕ) (most : ℕ) (maps : KnownMaps) (args : ShardArgs) (
   shard_fault_with NoSizes may is = inl is
   shard_fault_with Extent may is = inr (id_fault_with Extent may is)
   shard_fault_with (BadShard text) may (h, sizes, same, none) =
-      inr (h, geometry_with bytes most maps args.scan.image g s h may sizes, same, none)
+      inr (h, geometry_with bytes fails most maps args.scan.image g s h may sizes, same, none)
   shard_fault_with Pointer may is = inr (id_fault_with Pointer may is)
   shard_fault_with (BadPage arg) may is = inr (id_fault_with (BadPage arg) may is)
   shard_fault_with (NoMap name) may (inl is) = inl is

@@ -1,5 +1,5 @@
 -- What `sizes` answers, and why it doesn't, from what its parts give.
-use Rattle.std.proofs.Common.{◌≡◌, ℕ, List, Option}
+use Rattle.std.proofs.Common.{◌≡◌, ℕ, Bool, List, Option}
 use Rattle.scrub_cli.specs.declared.process.fault.Fault.{Fault}
 use Rattle.scrub_cli.specs.declared.process.fault.Fault.TheVariants.{NotUtf8, Help, Args, Geometry, NoSizes, Extent, BadShard, Pointer, BadPage, NoMap, MapLine, NoImage, TooLong, NoShard, PayloadLost, Output, OutOfMemory}
 use Rattle.scrub_cli.specs.declared.process.outcome.Outcome.{Outcome}
@@ -30,13 +30,14 @@ map_fault_of_sizes maps args (Output written) is = absurd is
 map_fault_of_sizes maps args OutOfMemory is = tt
 
 -- a listing of the image that was opened is one of what is known of it
-pub listed_as_known : (known : KnownRaw) (bytes : Option (List ℕ)) (most : ℕ) (lacking : List ℕ) (text : List ℕ) (outcome : Outcome) →
-    bytes ≡ known.bytes → most ≡ known.most_failures →
-    AreSizesListed (record { bytes = bytes; most_failures = most }) lacking text outcome → AreSizesListed known lacking text outcome
-listed_as_known known bytes most lacking text outcome same bound listed = record {
+pub listed_as_known : (known : KnownRaw) (bytes : Option (List ℕ)) (fails : ℕ → ℕ → Bool) (most : ℕ) (lacking : List ℕ) (text : List ℕ) (outcome : Outcome) →
+    bytes ≡ known.bytes → fails ≡ known.fails → most ≡ known.most_failures →
+    AreSizesListed (record { bytes = bytes; fails = fails; most_failures = most }) lacking text outcome →
+    AreSizesListed known lacking text outcome
+listed_as_known known bytes fails most lacking text outcome same may bound listed = record {
   failures = listed.failures;
   few = rw (← bound) listed.few;
   is_clean = listed.is_clean;
-  listed = rw (← same) listed.listed;
+  listed = rw (← same, ← may) listed.listed;
   ended = listed.ended;
 }

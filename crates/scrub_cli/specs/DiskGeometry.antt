@@ -1,5 +1,5 @@
 -- The sizes of a disk: those that the arguments give, or else those that its superblock records have.
-use Rattle.std.specs.Prelude.{◌≡◌, ◌≤◌, ℕ, List, Option, None, Some, MatchOption}
+use Rattle.std.specs.Prelude.{◌≡◌, ◌≤◌, ℕ, Bool, List, Option, None, Some, MatchOption}
 use Rattle.std.specs.Borrow.{Bor}
 use Rattle.scrub_disk.specs.declared.geometry.Geometry.{Geometry as Sizes}
 use Rattle.scrub_disk.specs.Faults.{HasSizes, IsFirstBroken}
@@ -18,7 +18,7 @@ use Rattle.scrub_cli.specs.SizesListed.{AreLackingBy}
 pub record AreSizesRead (known : KnownRaw) (lacking : List ℕ) (found : Option Sizes) : Type 0 where
   pub failures : ℕ
   pub few : failures ≤ known.most_failures
-  pub sizes : AreSizesOf known.bytes lacking failures found
+  pub sizes : AreSizesOf known.bytes lacking known.fails failures found
 
 -- the sizes that are found so in a raw image, with the blocks lost that the map lacks
 pub record AreSizesFound (known : KnownRaw) (maps : KnownMaps) (named : Option (Bor (List ℕ))) (found : Option Sizes) : Type 0 where
@@ -59,7 +59,7 @@ abbrev pub with_sizes : ImageArgs → GivenSizes → ImageArgs
 with_sizes args s = record args { sizes = Some s }
 
 -- sizes are left out, all superblock records of these bytes have the sizes g, and s are those
-pub record MayBeLeftOut (bytes : List ℕ) (most : ℕ) (maps : KnownMaps) (args : ImageArgs) (g : Sizes) (s : GivenSizes) : Type 0 where
+pub record MayBeLeftOut (bytes : List ℕ) (fails : ℕ → ℕ → Bool) (most : ℕ) (maps : KnownMaps) (args : ImageArgs) (g : Sizes) (s : GivenSizes) : Type 0 where
   pub left_out : args.sizes ≡ None
-  pub found : AreSizesFound (known_bytes bytes most) maps args.map (Some g)
+  pub found : AreSizesFound (known_bytes bytes fails most) maps args.map (Some g)
   pub given : HasSizes g s.page s.pages s.extents

@@ -41,14 +41,14 @@ IsBadPageFault g args OutOfMemory = Unit {0}
 IsBadPageFault g args fault = ⊥
 
 -- an image of these sizes, loaded from this raw image, with the pages unreadable that the arguments name and, if a map is
--- named, those with a byte that it lacks; the number of failures is how many reads may have failed, not how many did
+-- named, those with a byte that it lacks; which reads and how many of them may have failed is known, not which did
 pub record IsLoadedDisk (known : KnownRaw) (maps : KnownMaps) (args : ImageArgs) (g : Sizes) (image : Image) : Type 0 where
   pub unreadable : List (ℕ × ℕ)
   pub named : NamePages g args.bad_pages.items unreadable
   pub blocks : Option (List MapBlock)
   pub mapped : AreBlocksOf maps args.map blocks
   pub before : Image
-  pub loaded : IsLoadedWith known.bytes known.most_failures g unreadable before
+  pub loaded : IsLoadedWith known.bytes known.fails known.most_failures g unreadable before
   pub rescued : LosesByMap blocks before image
 
 -- the arguments name pages, and their map was read, if one is named
@@ -82,7 +82,7 @@ pub record AreLossesKept (maps : KnownMaps) (args : ImageArgs) (g : Sizes) (loss
 -- an image of these sizes, loaded from this raw image, with these pages unreadable, and those with a byte that the map lacks
 pub record IsLoadedBy (known : KnownRaw) (g : Sizes) (pages : List (ℕ × ℕ)) (blocks : Option (List MapBlock)) (image : Image) : Type 0 where
   pub before : Image
-  pub loaded : IsLoadedWith known.bytes known.most_failures g pages before
+  pub loaded : IsLoadedWith known.bytes known.fails known.most_failures g pages before
   pub rescued : LosesByMap blocks before image
 
 -- why nothing is known of what is lost: a page argument, then the map; or memory ran out

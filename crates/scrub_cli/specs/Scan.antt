@@ -3,8 +3,7 @@ use Rattle.std.specs.Prelude.{◌≡◌, ◌⊎◌, ℕ, List, Bool, Option}
 use Rattle.scrub_disk.specs.declared.geometry.Geometry.{Geometry as Sizes}
 use Rattle.scrub_disk.specs.Image.{Image}
 use Rattle.scrub_pool.specs.Takings.{TakingsValue}
-use Rattle.scrub_report.specs.Answer.{AreTakingsBy}
-use Rattle.scrub_report.specs.Index.{IsIndex}
+use Rattle.scrub_report.specs.Answer.{AnswerValue, AreTakingsBy, IsScrubAnswer}
 use Rattle.scrub_report.specs.Report.{IsReport}
 use Rattle.scrub_listings.specs.Locators.{AreLocatorLines}
 use Rattle.scrub_listings.specs.Summary.{IsSoundImage, IsSummary}
@@ -64,7 +63,7 @@ acceptance lines last = record { lines = lines; last = last }
 -- summary, or the lines of what may be reclaimed
 abbrev pub Tells : Wanted → Image → List ℕ → Type 0
 Tells Report image text = IsReport image text
-Tells Index image text = IsIndex image text
+Tells Index image text = (a : AnswerValue) × IsScrubAnswer image a × (text ≡ a.index)
 Tells Locators image text = AreLocatorLines image text
 Tells Shards image text = IsArchiveText image text
 Tells (Summary last) image text = IsSummary last image text

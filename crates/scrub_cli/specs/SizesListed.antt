@@ -23,7 +23,7 @@ pub record AreSizesListed (known : KnownRaw) (lacking : List ℕ) (text : List �
   pub failures : ℕ
   pub few : failures ≤ known.most_failures
   pub is_clean : Bool
-  pub listed : IsSizesListingOf known.bytes lacking failures text is_clean
+  pub listed : IsSizesListingOf known.bytes lacking known.fails failures text is_clean
   pub ended : outcome ≡ outcome_of is_clean
 
 -- the answer of `sizes`: the listing of the image that is named, with the blocks lost that its map lacks

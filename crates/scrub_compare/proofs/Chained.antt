@@ -9,7 +9,8 @@ use Rattle.std.proofs.lemmas.Option.{get_or_from_slice_get, same_Some, slice_get
 use Rattle.std.proofs.lemmas.Slice.Eq.{bytes_eq-Decides}
 use Rattle.scrub_disk.specs.Image.{Image}
 use Rattle.scrub_frame.specs.declared.form.Form.{Form}
-use Rattle.scrub_super.specs.Plan.{IsPlanOf, IsReset, PlanValue, pointer_of}
+use Rattle.scrub_super.specs.Plan.{PlanValue, plan_of, pointer_of}
+use Rattle.scrub_super.specs.Reset.{IsReset}
 use Rattle.scrub_run.specs.declared.shard_id.ShardId.{ShardId}
 use Rattle.scrub_merge.specs.Binding.{BindingValue}
 use Rattle.scrub_scan.specs.declared.standing.Standing.{Standing}
@@ -21,7 +22,8 @@ use Rattle.scrub_check.specs.Checked.{is_dangling, is_hidden, is_owned_by, is_so
 use Rattle.scrub_check.specs.ChunkForms.{form_at}
 use Rattle.scrub_check.specs.Runs.{ReadRunsValue}
 use Rattle.scrub_check.specs.Spares.{frames, spares_of}
-use Rattle.scrub_report.specs.Scrubbed.{Scrubbed, IsScrubbed, IsScrubbedBut}
+use Rattle.scrub_report.specs.Resets.{IsScrubbedBut}
+use Rattle.scrub_report.specs.Scrubbed.{Scrubbed, IsScrubbed}
 use Rattle.scrub_report.proofs.OneReport.{one_scrub}
 use Rattle.scrub_listings.specs.Manifest.{IsManifest, form_text, hidden_runs, is_of_read_run, is_of_shard, looked_for, lost_runs, manifest_text, numbered_text, of_shards}
 use Rattle.scrub_reclaim.specs.Reset.{IsForeseen, NameTheSame}
@@ -88,7 +90,7 @@ module _ (resets : List ℕ) (image : Image) (kept_there rest : Scrubbed) (x : I
     (apart : NonePointsInto resets rest.checked) where
   reset : IsReset rest.plan resets kept_there.plan
   reset =
-      let without : (old : PlanValue) × IsPlanOf kept_there.choice old × IsReset old resets kept_there.plan = reset_of resets kept_there.choice kept_there.plan x.plan in
+      let without : (old : PlanValue) × (old ≡ plan_of kept_there.choice) × IsReset old resets kept_there.plan = reset_of resets kept_there.choice kept_there.plan x.plan in
       subst (λ (p : PlanValue). IsReset p resets kept_there.plan)
       (one_plan_in image without.0 rest.plan (record { choice = kept_there.choice; chosen = x.choice; follows = without.1 }) (record { choice = rest.choice; chosen = y.choice; follows = y.plan }))
       without.2

@@ -186,7 +186,7 @@ module _ (image : Image) (x : ℕ) (extent : BufferedExtent) (h : IsBuffered ima
       size = image.geometry.page
 
       positive : 0 < size
-      positive = omega (arith, image.geometry.page_size.least)
+      positive = omega (arith, image.geometry.page_least)
 
       q : ℕ
       q = p / size

@@ -8,14 +8,13 @@ use Rattle.std.proofs.lemmas.Option.{none-some, same_Some}
 use Rattle.scrub_disk.specs.declared.geometry.Geometry.{Geometry}
 use Rattle.scrub_disk.specs.Image.{Image, byte, extent_bytes}
 use Rattle.scrub_frame.specs.declared.form.Form.{Form}
-use Rattle.scrub_frame.specs.Frame.{least_overhead}
-use Rattle.scrub_frame.proofs.Frames.{length-frame}
+use Rattle.scrub_frame.proofs.Frames.{length-frame, length-magic}
 use Rattle.scrub_super.specs.Plan.{PlanValue, pointer_of}
 use Rattle.scrub_scan.specs.declared.item.Item.{Item}
 use Rattle.scrub_scan.specs.declared.item.Item.TheVariants.{Chunk, Pad, Torn, Noise, Lost}
 use Rattle.scrub_scan.specs.AllFindings.{extent_numbers}
 use Rattle.scrub_scan.specs.Extent.{Extent, FrameAt, HasMagic, IsZero, NoFrameAt, bound, extent_of}
-use Rattle.scrub_scan.specs.Item.{IsChunk, IsItem}
+use Rattle.scrub_scan.specs.Item.{IsItem}
 use Rattle.scrub_scan.specs.Scanned.{Scanned}
 use Rattle.scrub_scan.specs.Tiling.{IsTiling, Joins}
 use Rattle.scrub_scan.proofs.Tilings.{one_tiling}
@@ -37,8 +36,9 @@ use Rattle.std.proofs.lemmas.Nat.{div-add-mod', div_below}
 use Rattle.scrub_disk.specs.Image.{HasWholePages, unreadable_pages}
 use Rattle.scrub_disk.proofs.HeldBytes.{byte-page}
 use Rattle.scrub_super.specs.Chosen.{Choice}
-use Rattle.scrub_super.specs.Plan.{IsPlanOf}
+use Rattle.scrub_super.specs.Plan.{plan_of}
 use Rattle.scrub_super.proofs.Laws.{one_choice_lem}
+use Rattle.scrub_super.proofs.PlanParts.{plan_parts}
 use Rattle.scrub_scan.specs.declared.findings.Findings.{Findings}
 use Rattle.scrub_scan.specs.Findings.{IsFindings}
 use Rattle.scrub_frame.proofs.Elements.{Contains-behind, Contains-cases}
@@ -95,37 +95,32 @@ module _ (x y : Extent) (page : y.page ≡ x.page) (pointer : y.pointer ≡ x.po
   magic_in_y : (p : ℕ) → HasMagic x p → HasMagic y p
   magic_in_y p (inside, (f, at)) = (
     omega (arith, inside, same_bound x y page pointer same p),
-    (f, λ k below. same (p + k) (omega (arith, below, inside)) ∙ at k below),
+    (f, λ k below. same (p + k) (omega (arith, below, inside, length-magic f)) ∙ at k below),
   )
 
   magic_back : (p : ℕ) → HasMagic y p → HasMagic x p
   magic_back p (inside, (f, at)) = (
     omega (arith, inside, same_bound x y page pointer same p),
-    (f, λ k below. sym (same (p + k) (omega (arith, below, inside, same_bound x y page pointer same p))) ∙ at k below),
+    (f, λ k below. sym (same (p + k) (omega (arith, below, inside, same_bound x y page pointer same p, length-magic f))) ∙ at k below),
   )
 
   item_same : (item : Item) → IsItem x item → IsItem y item
-  item_same (Chunk f start stop u n d) h =
-      let k : IsChunk x start f stop n u d h.fits.1.0 = h.fits.1.1 in
-      record {
-        below = omega (arith, h.below, pointer);
-        fits = (
-          refl,
-          (h.fits.1.0, record { frame = to_y start f u h.fits.1.0 k.frame; length = k.length; stop = k.stop; digest_is = k.digest_is }),
-        );
-      }
+  item_same (Chunk f start stop u n d) h = record {
+    below = omega (arith, h.below, pointer);
+    fits = (h.fits.0, to_y start f u h.fits.0 h.fits.1, h.fits.2, h.fits.3, h.fits.4);
+  }
   item_same (Lost start stop) h = record {
     below = omega (arith, h.below, pointer);
-    fits = ((refl, h.fits.0.1 ∙ sym (same_bound x y page pointer same start)), none_in_y start h.fits.1, same start h.below ∙ h.fits.2);
+    fits = (h.fits.0 ∙ sym (same_bound x y page pointer same start), none_in_y start h.fits.1, same start h.below ∙ h.fits.2);
   }
   item_same (Pad start stop) h = record {
     below = omega (arith, h.below, pointer);
-    fits = ((refl, h.fits.0.1 ∙ sym (same_bound x y page pointer same start)), none_in_y start h.fits.1, zeros_in_y start h.fits.2);
+    fits = (h.fits.0 ∙ sym (same_bound x y page pointer same start), none_in_y start h.fits.1, zeros_in_y start h.fits.2);
   }
   item_same (Torn start stop) h = record {
     below = omega (arith, h.below, pointer);
     fits = (
-      (refl, h.fits.0.1 ∙ sym (same_bound x y page pointer same start)),
+      h.fits.0 ∙ sym (same_bound x y page pointer same start),
       none_in_y start h.fits.1,
       (λ lost. h.fits.2 (sym (same start h.below) ∙ lost)),
       (λ zero. h.fits.3 (zeros_back start zero)),
@@ -135,7 +130,7 @@ module _ (x y : Extent) (page : y.page ≡ x.page) (pointer : y.pointer ≡ x.po
   item_same (Noise start stop) h = record {
     below = omega (arith, h.below, pointer);
     fits = (
-      (refl, h.fits.0.1 ∙ sym (same_bound x y page pointer same start)),
+      h.fits.0 ∙ sym (same_bound x y page pointer same start),
       none_in_y start h.fits.1,
       (λ lost. h.fits.2 (sym (same start h.below) ∙ lost)),
       (λ zero. h.fits.3 (zeros_back start zero)),
@@ -203,7 +198,7 @@ readable_all image whole e w found inside is none p here = by (image.page e q) r
     size = image.geometry.page
 
     positive : 0 < size
-    positive = omega (arith, image.geometry.page_size.least)
+    positive = omega (arith, image.geometry.page_least)
 
     q : ℕ
     q = p / size
@@ -232,7 +227,7 @@ module _ (resets : List ℕ) (before after : Image) (sizes : after.geometry ≡ 
       let plain = plan_before resets c.kept.choice c.kept.plan are.kept.plan in
       let choice : c.kept.choice ≡ c.rest.choice = one_choice_lem after c.kept.choice c.rest.choice are.kept.choice are.rest.choice in
       let same : plain.0 ≡ c.rest.plan =
-      one_plan c.rest.choice plain.0 c.rest.plan (subst (λ (o : Choice). IsPlanOf o plain.0) choice plain.1) are.rest.plan in
+      one_plan c.rest.choice plain.0 c.rest.plan (subst (λ (o : Choice). plain.0 ≡ plan_of o) choice plain.1) are.rest.plan in
       ap (λ (p : PlanValue). p.retired) (sym same) ∙ sym plain.2 ∙ same_retired resets c none
 
   numbers : extent_numbers c.rest.all ≡ extent_numbers c.found.all
@@ -268,7 +263,7 @@ module _ (resets : List ℕ) (before after : Image) (sizes : after.geometry ≡ 
     -- under the same write pointer
     same_pointer : g.pointer ≡ f.pointer → g.findings.items ≡ f.findings.items
     same_pointer same =
-        one_tiling (extent_of after e g.pointer) g.findings.items f.findings.items (omega (arith, after.geometry.page_size.least)) tiled_is
+        one_tiling (extent_of after e g.pointer) g.findings.items f.findings.items (omega (arith, after.geometry.page_least)) tiled_is
         (tiling_same (extent_of before e f.pointer) (extent_of after e g.pointer) page_size same
         (λ p below. bytes_stay resets before after sizes c are none e p (omega (arith, below, pointer_was))) f.findings.items tiled_was)
 
@@ -276,7 +271,7 @@ module _ (resets : List ℕ) (before after : Image) (sizes : after.geometry ≡ 
     grown_from : (place : ℕ) → room_at c.found e ≡ Some place → place ≤ g.pointer →
         Grown (extent_of after e g.pointer) place f.findings.items g.findings.items
     grown_from place at moved =
-        grown (extent_of before e f.pointer) (extent_of after e g.pointer) place (omega (arith, before.geometry.page_size.least)) page_size
+        grown (extent_of before e f.pointer) (extent_of after e g.pointer) place (omega (arith, before.geometry.page_least)) page_size
         kept zero above moved f.findings.items g.findings.items tiled_was tiled_is clean place_is
       where
         room : IsRoomOf c.found e place
@@ -297,7 +292,7 @@ module _ (resets : List ℕ) (before after : Image) (sizes : after.geometry ≡ 
             (shows_room before c.found are.found) there fits
 
         geometry : c.found.plan.geometry ≡ before.geometry
-        geometry = are.found.plan.geometry ∙ are.found.choice.geometry
+        geometry = (plan_parts c.found.choice c.found.plan are.found.plan).geometry ∙ are.found.choice.geometry
 
         at_place : place ≡ place_in c.found.plan.geometry f
         at_place = room.place_is ∙ ap (place_in c.found.plan.geometry) same
@@ -307,7 +302,7 @@ module _ (resets : List ℕ) (before after : Image) (sizes : after.geometry ≡ 
 
         above : f.pointer ≤ place
         above =
-            let low = place_above before.geometry.page f.pointer f.findings.items (omega (arith, before.geometry.page_size.least)) in
+            let low = place_above before.geometry.page f.pointer f.findings.items (omega (arith, before.geometry.page_least)) in
             omega (arith, low, place_is)
 
         grows : (is_clean_extent f && has_sound_alone c.found.checked f) ≡ true
@@ -324,10 +319,10 @@ module _ (resets : List ℕ) (before after : Image) (sizes : after.geometry ≡ 
             stays resets before after sizes c are none e p inside.0 inside.1
             (in_front resets before after sizes c are none e p (λ other o. omega (arith, below, same_Some place other (sym at ∙ o))))
 
-        space : least_overhead ≤ room_in c.found.plan.geometry f
+        space : 38 ≤ room_in c.found.plan.geometry f
         space =
-            let parts = and_parts (is_zero_to (place_in c.found.plan.geometry f) f) (not (nat_lt (room_in c.found.plan.geometry f) least_overhead)) (and_parts (may_grow c.found.checked f) (room_fits c.found.plan.geometry f) fits).1 in
-            ltb-false (room_in c.found.plan.geometry f) least_overhead (not_true (nat_lt (room_in c.found.plan.geometry f) least_overhead) parts.1)
+            let parts = and_parts (is_zero_to (place_in c.found.plan.geometry f) f) (not (nat_lt (room_in c.found.plan.geometry f) 38)) (and_parts (may_grow c.found.checked f) (room_fits c.found.plan.geometry f) fits).1 in
+            ltb-false (room_in c.found.plan.geometry f) 38 (not_true (nat_lt (room_in c.found.plan.geometry f) 38) parts.1)
           where
             not_true : (b : Bool) → not b ≡ true → b ≡ false
             not_true true t = absurd (false≢true t)

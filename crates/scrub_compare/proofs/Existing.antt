@@ -87,7 +87,7 @@ module _ (before after : Image) (found rest : Scrubbed) where
   some_firsts = (
     map first (range_with_len 0 n),
     record {
-      count = omega (arith, length-map-range_with_len first 0 n, before.geometry.extent_count.least);
+      count = omega (arith, length-map-range_with_len first 0 n, before.geometry.extents_least);
       each = λ k o is.
           let here : k < length (map first (range_with_len 0 n)) = slice_get_within (map first (range_with_len 0 n)) k o is in
           let there : o ≡ first k =

@@ -11,7 +11,9 @@ use Rattle.std.proofs.lemmas.Option.{none-some, same_Some}
 use Rattle.scrub_disk.specs.Image.{Image}
 use Rattle.scrub_super.specs.Chosen.{Choice}
 use Rattle.scrub_super.specs.Contents.{Contents}
-use Rattle.scrub_super.specs.Plan.{IsPlanBy, IsPlanOf, IsPlanWithout, PlanValue}
+use Rattle.scrub_super.specs.Plan.{PlanValue, plan_of}
+use Rattle.scrub_super.specs.steps.PlanParts.{IsPlanBy, IsPlanWithout}
+use Rattle.scrub_super.proofs.PlanParts.{plan_parts}
 use Rattle.scrub_super.proofs.Laws.{one_choice_lem}
 use Rattle.scrub_run.specs.declared.shard_id.ShardId.{ShardId}
 use Rattle.scrub_run.specs.Entry.{IsBelow}
@@ -20,7 +22,8 @@ use Rattle.scrub_frame.proofs.Elements.{Contains-behind, Contains-cases}
 use Rattle.scrub_check.specs.declared.statuses.checked.Checked.{Checked}
 use Rattle.scrub_check.specs.Checked.{named_of}
 use Rattle.scrub_check.specs.Named.{named_by_shard}
-use Rattle.scrub_report.specs.Scrubbed.{Scrubbed, IsScrubbedBut}
+use Rattle.scrub_report.specs.Resets.{IsScrubbedBut}
+use Rattle.scrub_report.specs.Scrubbed.{Scrubbed}
 use Rattle.scrub_report.proofs.OneReport.{one_scrub}
 use Rattle.scrub_report.proofs.ResetPlans.{plan_before}
 use Rattle.scrub_listings.specs.Manifest.{IsManifest, after_status_in, hidden_runs, lost_runs, manifest_text, numbered_line, of_shards, retired_line, runs_line, shard_lines, text_by, total_line}
@@ -116,8 +119,8 @@ module _ (resets : List ℕ) (image : Image) (s : Scrubbed) (x : IsScrubbedBut r
       ∙ sym (flat_flat (λ (id : ShardId). lines_of s 0 (owned_by id (of_shards s.checked))) ids)
 
 -- a superblock counts where a generation is known
-has_superblock : (choice : Choice) (plan : PlanValue) (n : ℕ) → IsPlanOf choice plan → generation_of choice ≡ Some n → plan.has_superblock ≡ true
-has_superblock choice plan n is some = by choice.superblock is.by some
+has_superblock : (choice : Choice) (plan : PlanValue) (n : ℕ) → plan ≡ plan_of choice → generation_of choice ≡ Some n → plan.has_superblock ≡ true
+has_superblock choice plan n is some = by choice.superblock (plan_parts choice plan is).by some
   where
     by : (o : Option Contents) → MatchOption o (IsPlanWithout plan choice.geometry) (IsPlanBy plan) → option_map (λ c. c.generation) o ≡ Some n →
         plan.has_superblock ≡ true

@@ -119,7 +119,7 @@ module _ (resets : List ℕ) (before after : Image) (sizes : after.geometry ≡ 
       let pointer : pointer_of c.found.plan f.extent ≡ Some f.pointer = All-contains (λ (g : Scanned). pointer_of c.found.plan g.extent ≡ Some g.pointer) c.found.all f are.found.all.pointers r.among in
       let w : pointer_in c.found.plan e ≡ f.pointer = ap (λ (n : ℕ). pointer_in c.found.plan n) (sym number) ∙ ap (λ (o : Option ℕ). unwrap_or o 0) pointer in
       let g : Geometry = c.found.plan.geometry in
-      let low = place_above g.page f.pointer f.findings.items (omega (arith, g.page_size.least)) in
+      let low = place_above g.page f.pointer f.findings.items (omega (arith, g.page_least)) in
       omega (arith, w, low, r.place_is)
 
   -- in front of the place, and where there is no room, no byte may change

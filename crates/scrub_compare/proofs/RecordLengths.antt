@@ -27,12 +27,12 @@ count_is (Some xs) = refl
 module _ (g : Geometry) (c : Contents) (h : AreContents g c) where
   -- few enough to be counted
   pub few_retired : length (retired_in c) + 1 ≤ 65536
-  few_retired = omega (arith, count_is c.retired, few_listed g c.retired h.retired, g.extent_count.most)
+  few_retired = omega (arith, count_is c.retired, few_listed g c.retired h.retired, g.extents_most)
 
   pub few_pointers : length c.pointers + 1 ≤ 65536
-  few_pointers = omega (arith, h.pointers.count, g.extent_count.most)
+  few_pointers = omega (arith, h.pointer_count, g.extents_most)
 
   -- the parts of a record make its length
   pub record_len_is : (head : ℕ) → head ≡ record_head_size (option_map length c.retired) →
       head + 4 * (length c.pointers + length (retired_in c)) + 60 * length c.runs + digest_size ≡ length (record_bytes g c)
-  record_len_is head is = omega (arith, is, length_record h, count_is c.retired, h.pointers.count)
+  record_len_is head is = omega (arith, is, length_record h, count_is c.retired, h.pointer_count)

@@ -9,6 +9,7 @@ use Rattle.scrub_disk.specs.Image.{Image, byte}
 use Rattle.scrub_frame.specs.declared.locator.Locator.{Locator}
 use Rattle.scrub_super.specs.Plan.{PlanValue, pointer_of}
 use Rattle.scrub_super.specs.Planned.{extents_in_use}
+use Rattle.scrub_super.proofs.PlanParts.{plan_parts}
 use Rattle.scrub_scan.specs.AllFindings.{extent_numbers}
 use Rattle.scrub_scan.specs.Extent.{NoFrameAt, extent_of}
 use Rattle.scrub_scan.specs.Scanned.{Scanned}
@@ -176,17 +177,19 @@ module _ (before after undone : Image) (found rest : Scrubbed) (x : IsScrubbed b
   pointers = ap (λ (p : PlanValue). p.pointers) (sym new) ∙ u.pointers ∙ ap (λ (p : PlanValue). p.pointers) old
 
   geometry : rest.plan.geometry ≡ found.plan.geometry
-  geometry = y.plan.geometry ∙ y.choice.geometry ∙ sizes ∙ sym (x.plan.geometry ∙ x.choice.geometry)
+  geometry =
+      (plan_parts rest.choice rest.plan y.plan).geometry ∙ y.choice.geometry ∙ sizes
+      ∙ sym ((plan_parts found.choice found.plan x.plan).geometry ∙ x.choice.geometry)
 
   choices : rest.choice.geometry ≡ found.choice.geometry
   choices = y.choice.geometry ∙ sizes ∙ sym x.choice.geometry
 
   planned : rest.plan.planned ≡ found.plan.planned
   planned =
-      y.plan.all
+      (plan_parts rest.choice rest.plan y.plan).all
       ∙ ap (λ (g : Geometry). extents_in_use g.extents rest.plan.retired) choices
       ∙ ap (extents_in_use found.choice.geometry.extents) retired
-      ∙ sym x.plan.all
+      ∙ sym (plan_parts found.choice found.plan x.plan).all
 
   plan : found.plan ≡ rest.plan
   plan = sym (same_plan rest.plan found.plan geometry planned retired pointers runs has)
@@ -221,7 +224,7 @@ module _ (before after undone : Image) (found rest : Scrubbed) (x : IsScrubbed b
 
       items : g.findings.items ≡ f.findings.items
       items =
-          one_tiling (extent_of undone f.extent g.pointer) g.findings.items f.findings.items (omega (arith, undone.geometry.page_size.least)) tiled
+          one_tiling (extent_of undone f.extent g.pointer) g.findings.items f.findings.items (omega (arith, undone.geometry.page_least)) tiled
           (tiling_same (extent_of before f.extent f.pointer) (extent_of undone f.extent g.pointer) (ap (λ (g : Geometry). g.page) sizes) pointer
           (below f.extent f.pointer was.0).bytes f.findings.items was.1.tiled)
 

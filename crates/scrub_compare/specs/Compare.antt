@@ -19,7 +19,8 @@ use Rattle.scrub_check.specs.declared.statuses.checked.Checked.{Checked}
 use Rattle.scrub_check.specs.Checked.{is_dangling, is_owned_by, is_sound}
 use Rattle.scrub_check.specs.ChunkForms.{form_at}
 use Rattle.scrub_check.specs.Spares.{spares_of}
-use Rattle.scrub_report.specs.Scrubbed.{Scrubbed, IsScrubbed, IsScrubbedBut}
+use Rattle.scrub_report.specs.Resets.{IsScrubbedBut}
+use Rattle.scrub_report.specs.Scrubbed.{Scrubbed, IsScrubbed}
 use Rattle.scrub_listings.specs.Locators.{locator_line}
 use Rattle.scrub_listings.specs.Manifest.{form_text, hidden_runs, looked_for, lost_runs, numbered_text, of_shards, retired_line, runs_line}
 use Rattle.scrub_reclaim.specs.declared.doubts.Doubt.{Doubt}

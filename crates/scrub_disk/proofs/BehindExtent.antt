@@ -1,6 +1,6 @@
 -- The image of the whole disk behind one extent that was loaded alone: in each other extent a page is unreadable if it is
 -- named or cut, and has the raw bytes of its place if it isn't.
-use Rattle.std.proofs.Common.{◌≡◌, ◌<◌, ◌≤◌, ◌+◌, ◌-◌, ◌*◌, ◌/◌, ℕ, Bool, true, false, cond, List, [], ◌∷◌, length, get_or, arith, refl, sym, ◌∙◌, ap, inl, inr, ◌⊎◌, Option, Some, None, IfSome, slice_get, nat_eq, nat_lt}
+use Rattle.std.proofs.Common.{◌≡◌, ◌<◌, ◌≤◌, ◌+◌, ◌-◌, ◌*◌, ◌/◌, ℕ, Bool, IsTrue, true, false, cond, List, [], ◌∷◌, length, get_or, arith, refl, sym, ◌∙◌, ap, inl, inr, ◌⊎◌, Option, Some, None, IfSome, slice_get, nat_eq, nat_lt}
 use Rattle.std.specs.List.{between, Contains}
 use Rattle.std.specs.Bool.{OnFalse}
 use Rattle.std.proofs.Math.Path.{ap₂}
@@ -113,10 +113,11 @@ raw_page_whole (Some text) g e q bytes is =
     at.whole
 
 -- page q of the extent has its bytes, if it isn't marked
-own_page_at : (g : Geometry) (x : ℕ) (text bytes : List ℕ) (marks : List Bool) (failures q : ℕ) → length bytes ≡ g.page * g.pages →
-    length marks ≡ g.pages → IsReadPart text (x * g.pages) g.page failures bytes marks → q < g.pages →
+own_page_at : (g : Geometry) (x : ℕ) (text bytes : List ℕ) (marks : List Bool) (fails : ℕ → ℕ → Bool) (failures q : ℕ) →
+    length bytes ≡ g.page * g.pages →
+    length marks ≡ g.pages → IsReadPart text fails (x * g.pages) g.page failures bytes marks → q < g.pages →
     IfSome (page_of_extent g bytes marks q) (IsPageAt text (raw_place g x q) g.page)
-own_page_at g x text bytes marks failures q lb lm read hq = by_mark (get_or marks q false) refl
+own_page_at g x text bytes marks fails failures q lb lm read hq = by_mark (get_or marks q false) refl
   where
     by_mark : (b : Bool) → get_or marks q false ≡ b →
         IfSome (cond b None (Some (between (q * g.page) (q * g.page + g.page) bytes))) (IsPageAt text (raw_place g x q) g.page)
@@ -139,24 +140,25 @@ own_page_at g x text bytes marks failures q lb lm read hq = by_mark (get_or mark
         }
 
 -- the image behind an extent that was read has the raw pages
-holds_behind : (g : Geometry) (x : ℕ) (text bytes : List ℕ) (marks : List Bool) (failures : ℕ) → length bytes ≡ g.page * g.pages →
-    length marks ≡ g.pages → IsReadPart text (x * g.pages) g.page failures bytes marks →
+holds_behind : (g : Geometry) (x : ℕ) (text bytes : List ℕ) (marks : List Bool) (fails : ℕ → ℕ → Bool) (failures : ℕ) → length bytes ≡ g.page * g.pages →
+    length marks ≡ g.pages → IsReadPart text fails (x * g.pages) g.page failures bytes marks →
     HoldsRaw text (behind (Some text) (alone g x bytes marks) x)
-holds_behind g x text bytes marks failures lb lm read e q he hq = elim (eqb_tells e x) [
-  | inl own ↦ rw own.0 (rw own.1 (own_page_at g x text bytes marks failures q lb lm read hq))
+holds_behind g x text bytes marks fails failures lb lm read e q he hq = elim (eqb_tells e x) [
+  | inl own ↦ rw own.0 (rw own.1 (own_page_at g x text bytes marks fails failures q lb lm read hq))
   | inr other ↦ rw other.0 (raw_page_at text g e q)
 ]
 
 -- and has lost only pages that are cut or that failures cost
-loses_behind : (g : Geometry) (x : ℕ) (text bytes : List ℕ) (marks : List Bool) (failures : ℕ) → length bytes ≡ g.page * g.pages →
-    length marks ≡ g.pages → IsReadPart text (x * g.pages) g.page failures bytes marks →
-    LosesOnly text g [] failures (behind (Some text) (alone g x bytes marks) x)
-loses_behind g x text bytes marks failures lb lm read = record {
+loses_behind : (g : Geometry) (x : ℕ) (text bytes : List ℕ) (marks : List Bool) (fails : ℕ → ℕ → Bool) (failures : ℕ) → length bytes ≡ g.page * g.pages →
+    length marks ≡ g.pages → IsReadPart text fails (x * g.pages) g.page failures bytes marks →
+    LosesOnly text fails g [] failures (behind (Some text) (alone g x bytes marks) x)
+loses_behind g x text bytes marks fails failures lb lm read = record {
   cut = λ e q he hq cut.
       uncut text (raw_place g e q) g.page ((behind (Some text) (alone g x bytes marks) x).page e q)
-      (omega (arith, g.page_size.least)) cut (holds_behind g x text bytes marks failures lb lm read e q he hq);
+      (omega (arith, g.page_least)) cut (holds_behind g x text bytes marks fails failures lb lm read e q he hq);
   failed = read.lost.failed;
   few = read.lost.few;
+  each = read.lost.each;
   only = λ e q he hq none. elim (eqb_tells e x) [
     | inl own ↦
         elim (read.lost.only q (omega (arith, hq, lm)) (marked_at (get_or marks q false) (between (q * g.page) (q * g.page + g.page) bytes) (rw own.0 at none))) [
@@ -217,17 +219,17 @@ read_alone disk g x sizes own = record {
 
 -- an extent that was read from raw bytes, with no byte found after the disk's last page, is loaded once its named pages
 -- are marked; the failures are counted before the reads, before the last one and after it
-pub loaded_alone : (raw was : Option (List ℕ)) (g : Geometry) (named : List (ℕ × ℕ)) (x first before after end : ℕ) (there : Bool)
+pub loaded_alone : (raw was : Option (List ℕ)) (fails : ℕ → ℕ → Bool) (g : Geometry) (named : List (ℕ × ℕ)) (x first before after end : ℕ) (there : Bool)
     (bytes : List ℕ) (marks : List Bool) (old new : Image) →
     was ≡ raw → end ≡ disk_bytes g → there ≡ false → first ≤ before → before ≤ after → HasWholePages new →
-    IsAloneRead g x bytes marks old → IsReadFrom raw (x * g.pages) g.page (before - first) bytes marks →
-    IfSome was (λ known. OnFalse there ((length known ≤ end) ⊎ (before < after))) → MarksAll old new named →
-    IsLoadedExtent raw (after - first) g named x new
-loaded_alone raw was g named x first before after end there bytes marks old new same at absent least le whole is read short m =
+    IsAloneRead g x bytes marks old → IsReadFrom raw fails (x * g.pages) g.page (before - first) bytes marks →
+    IfSome was (λ known. OnFalse there ((length known ≤ end) ⊎ ((before < after) × IsTrue (fails end 1)))) → MarksAll old new named →
+    IsLoadedExtent raw fails (after - first) g named x new
+loaded_alone raw was fails g named x first before after end there bytes marks old new same at absent least le whole is read short m =
     record {
       whole = behind_named raw named new x;
       loaded =
-          loaded_with raw was g named first before after end there (behind raw old x) (behind_named raw named new x)
+          loaded_with raw was fails g named first before after end there (behind raw old x) (behind_named raw named new x)
           same at absent (ap (λ i. i.geometry) is.same) least le (whole_behind raw named new x whole)
           (holds raw read) (loses raw read) short (marks_behind raw named old new x m);
       same = record {
@@ -236,12 +238,12 @@ loaded_alone raw was g named x first before after end there bytes marks old new 
       };
     }
   where
-    holds : (r : Option (List ℕ)) → IsReadFrom r (x * g.pages) g.page (before - first) bytes marks →
+    holds : (r : Option (List ℕ)) → IsReadFrom r fails (x * g.pages) g.page (before - first) bytes marks →
         IfSome r (λ known. HoldsRaw known (behind r old x))
     holds None read = tt
-    holds (Some text) read = rw is.same (holds_behind g x text bytes marks (before - first) is.bytes is.marks read)
+    holds (Some text) read = rw is.same (holds_behind g x text bytes marks fails (before - first) is.bytes is.marks read)
 
-    loses : (r : Option (List ℕ)) → IsReadFrom r (x * g.pages) g.page (before - first) bytes marks →
-        IfSome r (λ known. LosesOnly known g [] (before - first) (behind r old x))
+    loses : (r : Option (List ℕ)) → IsReadFrom r fails (x * g.pages) g.page (before - first) bytes marks →
+        IfSome r (λ known. LosesOnly known fails g [] (before - first) (behind r old x))
     loses None read = tt
-    loses (Some text) read = rw is.same (loses_behind g x text bytes marks (before - first) is.bytes is.marks read)
+    loses (Some text) read = rw is.same (loses_behind g x text bytes marks fails (before - first) is.bytes is.marks read)

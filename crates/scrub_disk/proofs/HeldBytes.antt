@@ -40,7 +40,7 @@ pub byte-held : (g : Geometry) (bytes : List ℕ) (unreadable : List Bool) (e i 
     byte (held g bytes unreadable) e i
     ≡ cond (get_or unreadable (e * g.pages + i / g.page) false) None (Some (get_or bytes (e * (g.page * g.pages) + i) 0))
 byte-held g bytes unreadable e i l he hi =
-    let pos : 0 < g.page = omega (arith, g.page_size.least) in
+    let pos : 0 < g.page = omega (arith, g.page_least) in
     let w : (e * g.pages + i / g.page) * g.page + g.page ≤ length bytes =
     omega (arith, page_within g.page g.pages g.extents e i pos he hi, l) in
     let at : slice_get (between ((e * g.pages + i / g.page) * g.page) ((e * g.pages + i / g.page) * g.page + g.page) bytes) (i % g.page) ≡ Some (get_or bytes (e * (g.page * g.pages) + i) 0) =

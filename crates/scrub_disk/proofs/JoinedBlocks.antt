@@ -100,7 +100,7 @@ read_in_block g blocks unreadable stride e q N size b block out pos sizes stored
     by_number n hn clear here found' =
         rw clear
         (ap Some
-        ((page_of_block g.page stride (g.pages * g.extents) n blocks block (omega (arith, g.page_size.least)) pos sizes stored enough hn here).text
+        ((page_of_block g.page stride (g.pages * g.extents) n blocks block (omega (arith, g.page_least)) pos sizes stored enough hn here).text
         ∙ sym found'))
 
 -- that page of that block is there
@@ -110,7 +110,7 @@ pub slot_in_block : (g : Geometry) (blocks : List Block) (stride e q N : ℕ) (b
     block ≡ get_or blocks ((e * N + q) / stride) block →
     ((e * N + q) % stride < length block.slots.items) × HasPages g.page block
 slot_in_block g blocks stride e q N block pos sizes stored enough he hq hN is =
-    let page = page_of_block g.page stride (g.pages * g.extents) (e * N + q) blocks block (omega (arith, g.page_size.least))
+    let page = page_of_block g.page stride (g.pages * g.extents) (e * N + q) blocks block (omega (arith, g.page_least))
     pos sizes stored enough (rw hN (page_room g.page g.pages g.extents e q he hq).0) is in
     (page.within, page.stored)
 
@@ -200,10 +200,10 @@ one_block g stride number first count block blocks marks at few only has long ma
     pages = omega (arith, at, few)
 
 -- what was read into it
-pub one_block_read : (known : Option (List ℕ)) (first from page failures : ℕ) (block : Block) (blocks : List Block) (marks : List Bool) →
-    first ≡ from → blocks ≡ block ∷ [] → IsReadFrom known first page failures (block_text page block) marks →
-    IsReadFrom known from page failures (joined page blocks) marks
-one_block_read known first from page failures block blocks marks at only read =
+pub one_block_read : (known : Option (List ℕ)) (fails : ℕ → ℕ → Bool) (first from page failures : ℕ) (block : Block) (blocks : List Block) (marks : List Bool) →
+    first ≡ from → blocks ≡ block ∷ [] → IsReadFrom known fails first page failures (block_text page block) marks →
+    IsReadFrom known fails from page failures (joined page blocks) marks
+one_block_read known fails first from page failures block blocks marks at only read =
     let text : joined page blocks ≡ block_text page block =
     ap (λ bs. joined page bs) only ∙ append-nil (block_text page block) in
     rw (text, ← at) read
@@ -222,25 +222,25 @@ pages_more g stride a b c times ab bc =
 -- a bound on the reads of some pages
 pub few_pages : (g : Geometry) (stride a b : ℕ) → (g.page + 1) * (first_page g stride b - first_page g stride a) ≤ 2 ^ 33
 few_pages g stride a b =
-    let least : 1 ≤ g.page = omega (arith, g.page_size.least) in
+    let least : 1 ≤ g.page = omega (arith, g.page_least) in
     let within : first_page g stride b - first_page g stride a ≤ g.pages * g.extents = omega arith in
     let reads : (g.page + 1) * (first_page g stride b - first_page g stride a) ≤ (g.page + 1) * (g.pages * g.extents) = mul-le-mul_left (g.page + 1) within in
     let one : 1 * (g.pages * g.extents) ≤ g.page * (g.pages * g.extents) = mul-le-mul_right (g.pages * g.extents) least in
     omega (arith, reads, one, g.total_fits)
 
 -- pages that were read after others
-pub blocks_read : (g : Geometry) (stride first count next n from to x y both : ℕ) (known : Option (List ℕ)) (blocks more all : List Block)
+pub blocks_read : (g : Geometry) (stride first count next n from to x y both : ℕ) (known : Option (List ℕ)) (fails : ℕ → ℕ → Bool) (blocks more all : List Block)
     (marks marked every : List Bool) → next ≡ first + count → from ≡ first_page g stride first → to ≡ first_page g stride next → both ≡ x + y →
     AreBlocks g stride first count blocks marks → AreBlocks g stride next n more marked →
     all ≡ blocks ++ more → every ≡ marks ++ marked →
-    IsReadFrom known from g.page x (joined g.page blocks) marks → IsReadFrom known to g.page y (joined g.page more) marked →
-    IsReadFrom known from g.page both (joined g.page all) every
-blocks_read g stride first count next n from to x y both known blocks more all marks marked every at here there sum before behind is marked_is read rest =
+    IsReadFrom known fails from g.page x (joined g.page blocks) marks → IsReadFrom known fails to g.page y (joined g.page more) marked →
+    IsReadFrom known fails from g.page both (joined g.page all) every
+blocks_read g stride first count next n from to x y both known fails blocks more all marks marked every at here there sum before behind is marked_is read rest =
     let rows : first * stride ≤ next * stride = mul-le-mul_right stride (omega (arith, at)) in
     rw sum
-    (read_more_parts known g.page from to (first_page g stride (first + count) - first_page g stride first)
+    (read_more_parts known fails g.page from to (first_page g stride (first + count) - first_page g stride first)
     (first_page g stride (next + n) - first_page g stride next) x y (joined g.page blocks) (joined g.page more) (joined g.page all)
-    marks marked every (omega (arith, g.page_size.least)) before.whole before.each_page behind.whole behind.each_page
+    marks marked every (omega (arith, g.page_least)) before.whole before.each_page behind.whole behind.each_page
     (ap (λ bs. joined g.page bs) is ∙ flat_map-append (block_text g.page) blocks more) marked_is
     (omega (arith, here, there, at, rows, ap (λ m. m * stride) at)) read rest)
 

@@ -1,5 +1,5 @@
 -- Which pages of a loaded image are unreadable.
-use Rattle.std.proofs.Common.{◌≡◌, ◌<◌, ◌≤◌, ◌+◌, ◌-◌, ◌*◌, ℕ, Bool, true, false, cond, List, [], length, get_or, arith, refl, sym, ◌∙◌, inl, inr, ◌⊎◌, Option, Some, None, IfSome, slice_get, ap}
+use Rattle.std.proofs.Common.{◌≡◌, ◌<◌, ◌≤◌, ◌+◌, ◌-◌, ◌*◌, ℕ, Bool, IsTrue, true, false, cond, List, [], length, get_or, arith, refl, sym, ◌∙◌, inl, inr, ◌⊎◌, Option, Some, None, IfSome, slice_get, ap}
 use Rattle.std.specs.List.{between, Contains}
 use Rattle.std.proofs.lemmas.Nat.{row_fits}
 use Rattle.std.proofs.lemmas.Option.{slice_get_within, none-some}
@@ -29,15 +29,16 @@ marked_at true page e = refl
 marked_at false page e = absurd (none-some page (sym e))
 
 -- a disk whose unmarked pages are the raw ones, and whose marks are few, has lost few pages
-loses_only : (g : Geometry) (known bytes : List ℕ) (marks : List Bool) (failures : ℕ) →
-    MarksOnly known g.page (g.pages * g.extents) failures marks → HoldsRaw known (held g bytes marks) →
-    LosesOnly known g [] failures (held g bytes marks)
-loses_only g known bytes marks failures m holds = record {
+loses_only : (g : Geometry) (known : List ℕ) (fails : ℕ → ℕ → Bool) (bytes : List ℕ) (marks : List Bool) (failures : ℕ) →
+    MarksOnly known fails g.page (g.pages * g.extents) failures marks → HoldsRaw known (held g bytes marks) →
+    LosesOnly known fails g [] failures (held g bytes marks)
+loses_only g known fails bytes marks failures m holds = record {
   cut = λ e p he hp cut.
-      uncut known ((e * g.pages + p) * g.page) g.page ((held g bytes marks).page e p) (omega (arith, g.page_size.least))
+      uncut known ((e * g.pages + p) * g.page) g.page ((held g bytes marks).page e p) (omega (arith, g.page_least))
       cut (holds e p he hp);
   failed = m.failed;
   few = m.few;
+  each = m.each;
   only = λ e p he hp none.
       let row : e * g.pages + g.pages ≤ g.extents * g.pages = row_fits e g.pages g.extents g.pages he (omega arith) in
       elim
@@ -48,23 +49,24 @@ loses_only g known bytes marks failures m holds = record {
 }
 
 -- the same of a disk that was loaded, if the raw image's bytes are known
-pub loses_loaded : (g : Geometry) (raw : Option (List ℕ)) (bytes : List ℕ) (marks : List Bool) (page count failures : ℕ) (image : Image) →
+pub loses_loaded : (g : Geometry) (raw : Option (List ℕ)) (fails : ℕ → ℕ → Bool) (bytes : List ℕ) (marks : List Bool) (page count failures : ℕ) (image : Image) →
     image ≡ held g bytes marks → page ≡ g.page → count ≡ g.pages * g.extents →
-    IfSome raw (λ known. HoldsRaw known image) → IfSome raw (λ known. MarksOnly known page count failures marks) →
-    IfSome raw (λ known. LosesOnly known g [] failures image)
-loses_loaded g None bytes marks page count failures image is same all holds m = tt
-loses_loaded g (Some known) bytes marks page count failures image is same all holds m =
+    IfSome raw (λ known. HoldsRaw known image) → IfSome raw (λ known. MarksOnly known fails page count failures marks) →
+    IfSome raw (λ known. LosesOnly known fails g [] failures image)
+loses_loaded g None fails bytes marks page count failures image is same all holds m = tt
+loses_loaded g (Some known) fails bytes marks page count failures image is same all holds m =
     rw is
-    (loses_only g known bytes marks failures (rw (← all) (rw same at m)) (rw is at holds))
+    (loses_only g known fails bytes marks failures (rw (← all) (rw same at m)) (rw is at holds))
 
 -- pages that are named are lost too, and no more
-loses_marked : (known : List ℕ) (g : Geometry) (named : List (ℕ × ℕ)) (before after : ℕ) (old new : Image) →
+loses_marked : (known : List ℕ) (fails : ℕ → ℕ → Bool) (g : Geometry) (named : List (ℕ × ℕ)) (before after : ℕ) (old new : Image) →
     old.geometry ≡ g → before ≤ after →
-    LosesOnly known g [] before old → MarksAll old new named → LosesOnly known g named after new
-loses_marked known g named before after old new is le l m = record {
+    LosesOnly known fails g [] before old → MarksAll old new named → LosesOnly known fails g named after new
+loses_marked known fails g named before after old new is le l m = record {
   cut = λ e p he hp cut. elim (changed e p he hp) [ inl same ↦ same ∙ l.cut e p he hp cut | inr gone ↦ gone.0 ];
   failed = l.failed;
   few = omega (arith, l.few, le);
+  each = l.each;
   only = λ e p he hp none. elim (changed e p he hp) [
     | inr gone ↦ inl gone.1
     | inl same ↦ elim (l.only e p he hp (sym same ∙ none)) [
@@ -93,13 +95,13 @@ holds_marked known named old new h m e q he hq =
 
 -- a disk that was read from raw bytes, with no byte found after its last page, is loaded once its named pages are
 -- marked; the failures are counted before the reads, before the last one and after it
-pub loaded_with : (raw was : Option (List ℕ)) (g : Geometry) (named : List (ℕ × ℕ)) (first before after end : ℕ) (there : Bool) (old new : Image) →
+pub loaded_with : (raw was : Option (List ℕ)) (fails : ℕ → ℕ → Bool) (g : Geometry) (named : List (ℕ × ℕ)) (first before after end : ℕ) (there : Bool) (old new : Image) →
     was ≡ raw → end ≡ disk_bytes g → there ≡ false → old.geometry ≡ g → first ≤ before → before ≤ after →
     HasWholePages new →
-    IfSome raw (λ known. HoldsRaw known old) → IfSome raw (λ known. LosesOnly known g [] (before - first) old) →
-    IfSome was (λ known. OnFalse there ((length known ≤ end) ⊎ (before < after))) → MarksAll old new named →
-    IsLoadedWith raw (after - first) g named new
-loaded_with raw was g named first before after end there old new same at absent is least le whole holds lost short m = record {
+    IfSome raw (λ known. HoldsRaw known old) → IfSome raw (λ known. LosesOnly known fails g [] (before - first) old) →
+    IfSome was (λ known. OnFalse there ((length known ≤ end) ⊎ ((before < after) × IsTrue (fails end 1)))) → MarksAll old new named →
+    IsLoadedWith raw fails (after - first) g named new
+loaded_with raw was fails g named first before after end there old new same at absent is least le whole holds lost short m = record {
   geometry = m.geometry ∙ is;
   whole = whole;
   unreadable = m.marked;
@@ -111,32 +113,32 @@ loaded_with raw was g named first before after end there old new same at absent 
     not_found true e p = absurd (false≢true (sym e))
 
     of_known : (r : Option (List ℕ)) → IfSome r (λ known. HoldsRaw known old) →
-        IfSome r (λ known. LosesOnly known g [] (before - first) old) →
-        IfSome r (λ known. OnFalse there ((length known ≤ end) ⊎ (before < after))) →
-        IfSome r (λ known. HoldsKnown known (after - first) g named new)
+        IfSome r (λ known. LosesOnly known fails g [] (before - first) old) →
+        IfSome r (λ known. OnFalse there ((length known ≤ end) ⊎ ((before < after) × IsTrue (fails end 1)))) →
+        IfSome r (λ known. HoldsKnown known fails (after - first) g named new)
     of_known None holds lost short = tt
     of_known (Some known) holds lost short = record {
       pages = holds_marked known named old new holds m;
-      lost = loses_marked known g named (before - first) (after - first) old new is (omega (arith, le)) lost m;
-      not_too_long = λ none. elim (not_found there absent short) [
-        | inl fits ↦ omega (arith, fits, at)
-        | inr more ↦ absurd (omega (arith, none, more, least))
+      lost = loses_marked known fails g named (before - first) (after - first) old new is (omega (arith, le)) lost m;
+      not_too_long = elim (not_found there absent short) [
+        | inl fits ↦ inl (omega (arith, fits, at))
+        | inr more ↦ inr (omega (arith, more.0, least), rw at at more.1)
       ];
     }
 
 -- what was loaded while few reads failed was loaded while at most many did: for a caller that knows only a bound
-pub loaded_with_more : (raw : Option (List ℕ)) (few many : ℕ) (g : Geometry) (named : List (ℕ × ℕ)) (image : Image) →
+pub loaded_with_more : (raw : Option (List ℕ)) (fails : ℕ → ℕ → Bool) (few many : ℕ) (g : Geometry) (named : List (ℕ × ℕ)) (image : Image) →
     few ≤ many →
-    IsLoadedWith raw few g named image → IsLoadedWith raw many g named image
-loaded_with_more raw few many g named image le l = record {
+    IsLoadedWith raw fails few g named image → IsLoadedWith raw fails many g named image
+loaded_with_more raw fails few many g named image le l = record {
   geometry = l.geometry;
   whole = l.whole;
   unreadable = l.unreadable;
   known = of_known raw l.known;
 }
   where
-    of_known : (r : Option (List ℕ)) → IfSome r (λ known. HoldsKnown known few g named image) →
-        IfSome r (λ known. HoldsKnown known many g named image)
+    of_known : (r : Option (List ℕ)) → IfSome r (λ known. HoldsKnown known fails few g named image) →
+        IfSome r (λ known. HoldsKnown known fails many g named image)
     of_known None t = tt
     of_known (Some known) t = record {
       pages = t.pages;
@@ -144,18 +146,22 @@ loaded_with_more raw few many g named image le l = record {
         cut = t.lost.cut;
         failed = t.lost.failed;
         few = omega (arith, t.lost.few, le);
+        each = t.lost.each;
         only = t.lost.only;
       };
-      not_too_long = λ none. t.not_too_long (omega (arith, none, le));
+      not_too_long = elim t.not_too_long [
+        | inl fits ↦ inl fits
+        | inr failed ↦ inr (omega (arith, failed.0, le), failed.1)
+      ];
     }
 
 -- the same by several readers, of which at most `failures` reads may fail; the last one looked after the last page
-pub loaded_by_readers : (raw was : Option (List ℕ)) (g : Geometry) (named : List (ℕ × ℕ)) (failures before after end : ℕ) (there : Bool) (old new : Image) →
+pub loaded_by_readers : (raw was : Option (List ℕ)) (fails : ℕ → ℕ → Bool) (g : Geometry) (named : List (ℕ × ℕ)) (failures before after end : ℕ) (there : Bool) (old new : Image) →
     was ≡ raw → end ≡ disk_bytes g → there ≡ false → old.geometry ≡ g → after ≤ failures → HasWholePages new →
-    IfSome raw (λ known. HoldsRaw known old) → IfSome raw (λ known. LosesOnly known g [] failures old) →
-    IfSome was (λ known. OnFalse there ((length known ≤ end) ⊎ (before < after))) → MarksAll old new named →
-    IsLoadedWith raw failures g named new
-loaded_by_readers raw was g named failures before after end there old new same at absent is le whole holds lost short m = record {
+    IfSome raw (λ known. HoldsRaw known old) → IfSome raw (λ known. LosesOnly known fails g [] failures old) →
+    IfSome was (λ known. OnFalse there ((length known ≤ end) ⊎ ((before < after) × IsTrue (fails end 1)))) → MarksAll old new named →
+    IsLoadedWith raw fails failures g named new
+loaded_by_readers raw was fails g named failures before after end there old new same at absent is le whole holds lost short m = record {
   geometry = m.geometry ∙ is;
   whole = whole;
   unreadable = m.marked;
@@ -167,39 +173,40 @@ loaded_by_readers raw was g named failures before after end there old new same a
     not_found true e p = absurd (false≢true (sym e))
 
     of_known : (r : Option (List ℕ)) → IfSome r (λ known. HoldsRaw known old) →
-        IfSome r (λ known. LosesOnly known g [] failures old) →
-        IfSome r (λ known. OnFalse there ((length known ≤ end) ⊎ (before < after))) →
-        IfSome r (λ known. HoldsKnown known failures g named new)
+        IfSome r (λ known. LosesOnly known fails g [] failures old) →
+        IfSome r (λ known. OnFalse there ((length known ≤ end) ⊎ ((before < after) × IsTrue (fails end 1)))) →
+        IfSome r (λ known. HoldsKnown known fails failures g named new)
     of_known None holds lost short = tt
     of_known (Some known) holds lost short = record {
       pages = holds_marked known named old new holds m;
-      lost = loses_marked known g named failures failures old new is (omega arith) lost m;
-      not_too_long = λ none. elim (not_found there absent short) [
-        | inl fits ↦ omega (arith, fits, at)
-        | inr more ↦ absurd (omega (arith, none, more, le))
+      lost = loses_marked known fails g named failures failures old new is (omega arith) lost m;
+      not_too_long = elim (not_found there absent short) [
+        | inl fits ↦ inl (omega (arith, fits, at))
+        | inr more ↦ inr (omega (arith, more.0, le), rw at at more.1)
       ];
     }
 
 -- a disk whose bytes and marks were read from its first page on has the raw pages
-pub holds_read : (g : Geometry) (raw : Option (List ℕ)) (failures : ℕ) (bytes : List ℕ) (marks : List Bool) (image : Image) →
+pub holds_read : (g : Geometry) (raw : Option (List ℕ)) (fails : ℕ → ℕ → Bool) (failures : ℕ) (bytes : List ℕ) (marks : List Bool) (image : Image) →
     image ≡ held g bytes marks → length bytes ≡ g.page * g.pages * g.extents → length marks ≡ g.pages * g.extents →
-    IsReadFrom raw 0 g.page failures bytes marks → IfSome raw (λ known. HoldsRaw known image)
-holds_read g None failures bytes marks image is lb lm r = tt
-holds_read g (Some known) failures bytes marks image is lb lm r =
+    IsReadFrom raw fails 0 g.page failures bytes marks → IfSome raw (λ known. HoldsRaw known image)
+holds_read g None fails failures bytes marks image is lb lm r = tt
+holds_read g (Some known) fails failures bytes marks image is lb lm r =
     rw is
     (holds_raw g known bytes marks lb lm (λ i hi unmarked. ap (slice_get known) (let e : i ≡ 0 * g.page + i = omega arith in e) ∙ r.held i hi unmarked))
 
 -- and has lost only pages that are cut or that failures cost
-pub loses_read : (g : Geometry) (raw : Option (List ℕ)) (failures : ℕ) (bytes : List ℕ) (marks : List Bool) (image : Image) →
+pub loses_read : (g : Geometry) (raw : Option (List ℕ)) (fails : ℕ → ℕ → Bool) (failures : ℕ) (bytes : List ℕ) (marks : List Bool) (image : Image) →
     image ≡ held g bytes marks → length marks ≡ g.pages * g.extents → IfSome raw (λ known. HoldsRaw known image) →
-    IsReadFrom raw 0 g.page failures bytes marks → IfSome raw (λ known. LosesOnly known g [] failures image)
-loses_read g None failures bytes marks image is lm holds r = tt
-loses_read g (Some known) failures bytes marks image is lm holds r =
+    IsReadFrom raw fails 0 g.page failures bytes marks → IfSome raw (λ known. LosesOnly known fails g [] failures image)
+loses_read g None fails failures bytes marks image is lm holds r = tt
+loses_read g (Some known) fails failures bytes marks image is lm holds r =
     rw is
-    (loses_only g known bytes marks failures
+    (loses_only g known fails bytes marks failures
     (record {
       failed = r.lost.failed;
       few = r.lost.few;
+      each = r.lost.each;
       only = λ n hn marked. let same : 0 + n ≡ n = omega arith in rw same at (r.lost.only n (omega (arith, hn, lm)) marked);
     })
     (rw is at holds))

@@ -1,10 +1,11 @@
 -- The shares of a disk that readers read, put together.
 use Rattle.std.proofs.Common.{◌≡◌, ◌<◌, ◌≤◌, ◌+◌, ◌-◌, ◌*◌, ◌/◌, ◌%◌, ℕ, Bool, true, false, List, [], ◌∷◌, ◌++◌, ◌⊎◌, length, length-append, get_or, slice_get, arith, refl, sym, ◌∙◌, ap, inl, inr, Option, Some, None, IfSome, All, sum_by, Contains}
+use Rattle.scrub_disk.specs.Raw.{MayFailIn}
 use Rattle.std.proofs.lemmas.Nat.{div_below, div-mul-add, div-add-mod'}
 use Rattle.std.proofs.Math.Nat.{mod-lt}
 use Rattle.std.proofs.lemmas.Bool.{cases_lt}
 use Rattle.std.proofs.lemmas.List.{get_or_append_left, get_or-append_right}
-use Rattle.std.proofs.lemmas.List.Elements.{All-cons, All-head, All-nil, All-same, All-tail, Contains-append_left, Contains-append_right}
+use Rattle.std.proofs.lemmas.List.Elements.{All-append, All-cons, All-head, All-nil, All-same, All-tail, Contains-append_left, Contains-append_right}
 use Rattle.std.proofs.lemmas.List.Sums.{sum_by-append, sum_by-cons}
 use Rattle.scrub_disk.specs.declared.blocks.Block.{Block}
 use Rattle.scrub_disk.specs.Stored.{block_text}
@@ -12,24 +13,26 @@ use Rattle.scrub_disk.specs.steps.Added.{AddsPages}
 use Rattle.scrub_disk.specs.steps.Ahead.{HoldsFrom, IsReadPart, IsReadFrom, MarksFrom}
 
 -- what was read with few failures was read with at most more of them
-pub read_from_more : (known : Option (List ℕ)) (first first' page few many : ℕ) (bytes : List ℕ) (marks : List Bool) →
-    first ≡ first' → few ≤ many → IsReadFrom known first page few bytes marks → IsReadFrom known first' page many bytes marks
-read_from_more None first first' page few many bytes marks is le r = tt
-read_from_more (Some text) first first' page few many bytes marks is le r = rw (sym is) (record {
+pub read_from_more : (known : Option (List ℕ)) (fails : ℕ → ℕ → Bool) (first first' page few many : ℕ) (bytes : List ℕ) (marks : List Bool) →
+    first ≡ first' → few ≤ many → IsReadFrom known fails first page few bytes marks →
+    IsReadFrom known fails first' page many bytes marks
+read_from_more None fails first first' page few many bytes marks is le r = tt
+read_from_more (Some text) fails first first' page few many bytes marks is le r = rw (sym is) (record {
   held = r.held;
   lost = record {
     failed = r.lost.failed;
     few = omega (arith, r.lost.few, le);
+    each = r.lost.each;
     only = r.lost.only;
   };
 })
 
 -- pages that were read after the first ones
-read_more_text : (text : List ℕ) (page s x c f1 f2 : ℕ) (bytes more : List ℕ) (marks marked : List Bool) → 0 < page →
+read_more_text : (text : List ℕ) (fails : ℕ → ℕ → Bool) (page s x c f1 f2 : ℕ) (bytes more : List ℕ) (marks marked : List Bool) → 0 < page →
     length bytes ≡ page * x → length marks ≡ x → length more ≡ page * c → length marked ≡ c →
-    IsReadPart text s page f1 bytes marks → IsReadPart text (s + x) page f2 more marked →
-    IsReadPart text s page (f1 + f2) (bytes ++ more) (marks ++ marked)
-read_more_text text page s x c f1 f2 bytes more marks marked pos lb lm lmore lmarked r1 r2 = record {
+    IsReadPart text fails s page f1 bytes marks → IsReadPart text fails (s + x) page f2 more marked →
+    IsReadPart text fails s page (f1 + f2) (bytes ++ more) (marks ++ marked)
+read_more_text text fails page s x c f1 f2 bytes more marks marked pos lb lm lmore lmarked r1 r2 = record {
   held = λ i hi unmarked. elim (cases_lt i (length bytes)) [
     | inl less ↦
         let q : i / page < x = div_below i page x pos (omega (arith, less, lb)) in
@@ -40,6 +43,7 @@ read_more_text text page s x c f1 f2 bytes more marks marked pos lb lm lmore lma
   lost = record {
     failed = r1.lost.failed ++ r2.lost.failed;
     few = omega (arith, r1.lost.few, r2.lost.few, length-append r1.lost.failed r2.lost.failed);
+    each = All-append (λ n. MayFailIn fails (n * page) page) r1.lost.failed r2.lost.failed r1.lost.each r2.lost.each;
     only = λ n hn is. elim (cases_lt n x) [
       | inl less ↦ elim (r1.lost.only n (omega (arith, less, lm)) (sym (get_or_append_left marks marked false n (omega (arith, less, lm))) ∙ is)) [
         | inl cut ↦ inl cut
@@ -79,22 +83,35 @@ read_more_text text page s x c f1 f2 bytes more marks marked pos lb lm lmore lma
           | inr there ↦ inr (Contains-append_right r1.lost.failed r2.lost.failed (s + x + k) there)
         ])
 
+-- before any read
+pub nothing_read : (known : Option (List ℕ)) (fails : ℕ → ℕ → Bool) (first page most : ℕ) → IsReadFrom known fails first page most [] []
+nothing_read None fails first page most = tt
+nothing_read (Some text) fails first page most = record {
+  held = λ i hi unmarked. absurd (omega (arith, hi));
+  lost = record {
+    failed = [];
+    few = omega arith;
+    each = All-nil (λ n. MayFailIn fails (n * page) page);
+    only = λ n hn marked. absurd (omega (arith, hn));
+  };
+}
+
 -- the same if the raw bytes are known
-pub read_more_parts : (known : Option (List ℕ)) (page s t x c f1 f2 : ℕ) (bytes more all : List ℕ) (marks marked every : List Bool) →
+pub read_more_parts : (known : Option (List ℕ)) (fails : ℕ → ℕ → Bool) (page s t x c f1 f2 : ℕ) (bytes more all : List ℕ) (marks marked every : List Bool) →
     0 < page → length bytes ≡ page * x → length marks ≡ x → length more ≡ page * c → length marked ≡ c →
     all ≡ bytes ++ more → every ≡ marks ++ marked →
-    t ≡ s + x → IsReadFrom known s page f1 bytes marks → IsReadFrom known t page f2 more marked →
-    IsReadFrom known s page (f1 + f2) all every
-read_more_parts None page s t x c f1 f2 bytes more all marks marked every pos lb lm lmore lmarked is marks_are at r1 r2 = tt
-read_more_parts (Some text) page s t x c f1 f2 bytes more all marks marked every pos lb lm lmore lmarked is marks_are at r1 r2 =
-    rw (is, marks_are) (read_more_text text page s x c f1 f2 bytes more marks marked pos lb lm lmore lmarked r1 (rw at at r2))
+    t ≡ s + x → IsReadFrom known fails s page f1 bytes marks → IsReadFrom known fails t page f2 more marked →
+    IsReadFrom known fails s page (f1 + f2) all every
+read_more_parts None fails page s t x c f1 f2 bytes more all marks marked every pos lb lm lmore lmarked is marks_are at r1 r2 = tt
+read_more_parts (Some text) fails page s t x c f1 f2 bytes more all marks marked every pos lb lm lmore lmarked is marks_are at r1 r2 =
+    rw (is, marks_are) (read_more_text text fails page s x c f1 f2 bytes more marks marked pos lb lm lmore lmarked r1 (rw at at r2))
 
 -- pages whose bytes were read, wherever they aren't marked
-read_into : (raw : List ℕ) (first page failures : ℕ) (bytes text : List ℕ) (marks : List Bool) →
+read_into : (raw : List ℕ) (fails : ℕ → ℕ → Bool) (first page failures : ℕ) (bytes text : List ℕ) (marks : List Bool) →
     length text ≡ length bytes →
     ((i : ℕ) → i < length bytes → get_or marks (i / page) true ≡ false → get_or text i 0 ≡ get_or bytes i 0) →
-    IsReadPart raw first page failures bytes marks → IsReadPart raw first page failures text marks
-read_into raw first page failures bytes text marks size same r = record {
+    IsReadPart raw fails first page failures bytes marks → IsReadPart raw fails first page failures text marks
+read_into raw fails first page failures bytes text marks size same r = record {
   held = λ i hi unmarked.
       let within : i < length bytes = omega (arith, hi, size) in
       r.held i within unmarked ∙ ap Some (sym (same i within unmarked));
@@ -102,31 +119,31 @@ read_into raw first page failures bytes text marks size same r = record {
 }
 
 -- pages that were read into a buffer and put into a block
-pub block_read : (known : Option (List ℕ)) (first from page failures : ℕ) (bytes text all : List ℕ) (marks every : List Bool) →
+pub block_read : (known : Option (List ℕ)) (fails : ℕ → ℕ → Bool) (first from page failures : ℕ) (bytes text all : List ℕ) (marks every : List Bool) →
     first ≡ from → every ≡ marks → all ≡ text → length text ≡ length bytes →
     ((i : ℕ) → i < length bytes → get_or every (i / page) true ≡ false → get_or text i 0 ≡ get_or bytes i 0) →
     IfSome known (λ raw. HoldsFrom raw (first * page) page marks bytes) →
-    IfSome known (λ raw. MarksFrom raw first page (length marks) failures marks) →
-    IsReadFrom known from page failures all every
-block_read None first from page failures bytes text all marks every at marked is size same holds lost = tt
-block_read (Some raw) first from page failures bytes text all marks every at marked is size same holds lost =
+    IfSome known (λ raw. MarksFrom raw fails first page (length marks) failures marks) →
+    IsReadFrom known fails from page failures all every
+block_read None fails first from page failures bytes text all marks every at marked is size same holds lost = tt
+block_read (Some raw) fails first from page failures bytes text all marks every at marked is size same holds lost =
     rw (← at, is)
-    (read_into raw first page failures bytes text every size same
+    (read_into raw fails first page failures bytes text every size same
     (rw marked (record { held = holds; lost = lost })))
 
 -- pages that were read into a buffer and added to a block
-pub more_pages_read : (known was : Option (List ℕ)) (first at page done n failed more both : ℕ) (old new : Block) (bytes : List ℕ)
+pub more_pages_read : (known was : Option (List ℕ)) (fails : ℕ → ℕ → Bool) (first at page done n failed more both : ℕ) (old new : Block) (bytes : List ℕ)
     (marks unreadable marked every : List Bool) → 0 < page → was ≡ known → at ≡ first + done → both ≡ failed + more →
     length (block_text page old) ≡ done * page → length marks ≡ done → length bytes ≡ n * page → length unreadable ≡ n →
     marked ≡ unreadable → every ≡ marks ++ marked → AddsPages page old new (length marked) bytes marked →
-    IsReadFrom known first page failed (block_text page old) marks →
+    IsReadFrom known fails first page failed (block_text page old) marks →
     IfSome was (λ raw. HoldsFrom raw (at * page) page unreadable bytes) →
-    IfSome was (λ raw. MarksFrom raw at page (length unreadable) more unreadable) →
-    (length (block_text page new) ≡ (done + n) * page) × IsReadFrom known first page both (block_text page new) every
-more_pages_read known was first at page done n failed more both old new bytes marks unreadable marked every pos same is sum size each full count marked_is all adds read holds lost = (
+    IfSome was (λ raw. MarksFrom raw fails at page (length unreadable) more unreadable) →
+    (length (block_text page new) ≡ (done + n) * page) × IsReadFrom known fails first page both (block_text page new) every
+more_pages_read known was fails first at page done n failed more both old new bytes marks unreadable marked every pos same is sum size each full count marked_is all adds read holds lost = (
   ap length adds.text ∙ length-append (block_text page old) adds.added ∙ omega (arith, size, added),
   rw sum
-      (read_more_parts known page first at done n failed more (block_text page old) adds.added (block_text page new) marks marked every pos
+      (read_more_parts known fails page first at done n failed more (block_text page old) adds.added (block_text page new) marks marked every pos
       (omega (arith, size)) each (omega (arith, added)) counted adds.text all is read rest),
 )
   where
@@ -136,9 +153,9 @@ more_pages_read known was first at page done n failed more both old new bytes ma
     added : length adds.added ≡ n * page
     added = adds.size ∙ ap (λ m. m * page) counted
 
-    rest : IsReadFrom known at page more adds.added marked
+    rest : IsReadFrom known fails at page more adds.added marked
     rest =
-        block_read known at at page more bytes adds.added adds.added unreadable marked refl marked_is refl
+        block_read known fails at at page more bytes adds.added adds.added unreadable marked refl marked_is refl
         (omega (arith, added, full))
         (λ i hi clear. adds.same i (let m : length marked * page ≡ n * page = ap (λ m. m * page) counted in omega (arith, hi, full, m)) clear)
         (rw same at holds) (rw same at lost)

@@ -3,12 +3,13 @@ use Rattle.std.proofs.Common.{◌≡◌, ◌<◌, ◌≤◌, ◌+◌, ◌-◌, �
 use Rattle.std.proofs.lemmas.Nat.{div_below, div-mul-add}
 use Rattle.std.specs.Bool.{OnTrue, OnFalse}
 use Rattle.std.proofs.lemmas.Bool.{cases_lt, cases_eq, false≢true}
-use Rattle.std.proofs.lemmas.List.Elements.{Contains-push, Contains-append_left}
+use Rattle.std.proofs.lemmas.List.Elements.{All-push, Contains-push, Contains-append_left}
 use Rattle.std.proofs.lemmas.List.{get_or-take, length-take-le}
 use borrow.Rule.Slice.PartMut.{put_mid}
 use Rattle.scrub_disk.proofs.Writes.{put_within, put_outside}
 use Rattle.scrub_disk.specs.Image.{AreBytesAt}
-use Rattle.scrub_disk.specs.Raw.{ReadFrom, IsRead}
+use Rattle.scrub_disk.specs.Raw.{ReadFrom, IsRead, MayFailIn}
+use Rattle.scrub_disk.specs.steps.Ahead.{HasFailed}
 use Rattle.scrub_disk.specs.steps.Marked.{MarksOnly}
 
 -- the first `done` bytes of the list are those at the offset
@@ -98,13 +99,15 @@ pages_more (Some known) was page n size marks bytes piece whole e same pos below
     rw same (held_more known page n marks bytes piece whole pos below fits l before here)
 
 -- one more page, marked if it wasn't read whole: then it was cut, or one more failure was counted
-marks_only_more : (known : List ℕ) (page n before after : ℕ) (marks : List Bool) (whole : Bool) → n < length marks →
+marks_only_more : (known : List ℕ) (fails : ℕ → ℕ → Bool) (page n before after : ℕ) (marks : List Bool) (whole : Bool) → n < length marks →
     before ≤ after →
-    MarksOnly known page n before marks → OnFalse whole ((length known < n * page + page) ⊎ (before < after)) →
-    MarksOnly known page (n + 1) after (set marks n (not whole))
-marks_only_more known page n before after marks true below le m lost = record {
+    MarksOnly known fails page n before marks →
+    OnFalse whole ((length known < n * page + page) ⊎ HasFailed fails (n * page) page before after) →
+    MarksOnly known fails page (n + 1) after (set marks n (not whole))
+marks_only_more known fails page n before after marks true below le m lost = record {
   failed = m.failed;
   few = omega (arith, m.few, le);
+  each = m.each;
   only = λ k hk marked. elim (cases_eq k n) [
     | inr ne ↦ m.only k (omega (arith, hk, ne)) (sym (get_or-set_other marks n k false false ne) ∙ marked)
     | inl e ↦
@@ -112,17 +115,19 @@ marks_only_more known page n before after marks true below le m lost = record {
         (false≢true (sym (get_or-set_same marks n false false below) ∙ ap (λ i. get_or (set marks n false) i false) (sym e) ∙ marked))
   ];
 }
-marks_only_more known page n before after marks false below le m (inl cut) = record {
+marks_only_more known fails page n before after marks false below le m (inl cut) = record {
   failed = m.failed;
   few = omega (arith, m.few, le);
+  each = m.each;
   only = λ k hk marked. elim (cases_eq k n) [
     | inr ne ↦ m.only k (omega (arith, hk, ne)) (sym (get_or-set_other marks n k true false ne) ∙ marked)
     | inl e ↦ inl (rw e cut)
   ];
 }
-marks_only_more known page n before after marks false below le m (inr more) = record {
+marks_only_more known fails page n before after marks false below le m (inr more) = record {
   failed = m.failed ++ n ∷ [];
-  few = omega (arith, m.few, more, length-append m.failed (n ∷ []));
+  few = omega (arith, m.few, more.0, length-append m.failed (n ∷ []));
+  each = All-push (λ k. MayFailIn fails (k * page) page) m.failed n m.each more.1;
   only = λ k hk marked. elim (cases_eq k n) [
     | inr ne ↦ elim (m.only k (omega (arith, hk, ne)) (sym (get_or-set_other marks n k true false ne) ∙ marked)) [
       | inl cut ↦ inl cut
@@ -133,19 +138,19 @@ marks_only_more known page n before after marks false below le m (inr more) = re
 }
 
 -- the same by counts of failures, if the raw image's bytes are known
-pub lost_more : (raw was : Option (List ℕ)) (page n first before after : ℕ) (marks : List Bool) (whole : Bool) (start size : ℕ) →
+pub lost_more : (raw was : Option (List ℕ)) (fails : ℕ → ℕ → Bool) (page n first before after : ℕ) (marks : List Bool) (whole : Bool) (start size : ℕ) →
     was ≡ raw → start ≡ n * page → size ≡ page →
     first ≤ before → before ≤ after → n < length marks →
-    IfSome raw (λ known. MarksOnly known page n (before - first) marks) →
-    IfSome was (λ known. OnFalse whole ((length known < start + size) ⊎ (before < after))) →
-    IfSome raw (λ known. MarksOnly known page (n + 1) (after - first) (set marks n (not whole)))
-lost_more None was page n first before after marks whole start size e at same le more below m lost = tt
-lost_more (Some known) was page n first before after marks whole start size e at same le more below m lost =
-    marks_only_more known page n (before - first) (after - first) marks whole below (omega (arith, le, more)) m
+    IfSome raw (λ known. MarksOnly known fails page n (before - first) marks) →
+    IfSome was (λ known. OnFalse whole ((length known < start + size) ⊎ HasFailed fails start size before after)) →
+    IfSome raw (λ known. MarksOnly known fails page (n + 1) (after - first) (set marks n (not whole)))
+lost_more None was fails page n first before after marks whole start size e at same le more below m lost = tt
+lost_more (Some known) was fails page n first before after marks whole start size e at same le more below m lost =
+    marks_only_more known fails page n (before - first) (after - first) marks whole below (omega (arith, le, more)) m
     (counted whole (rw e at lost))
   where
-    counted : (b : Bool) → OnFalse b ((length known < start + size) ⊎ (before < after)) →
-        OnFalse b ((length known < n * page + page) ⊎ (before - first < after - first))
+    counted : (b : Bool) → OnFalse b ((length known < start + size) ⊎ HasFailed fails start size before after) →
+        OnFalse b ((length known < n * page + page) ⊎ HasFailed fails (n * page) page (before - first) (after - first))
     counted true l = l
     counted false (inl cut) = inl (omega (arith, cut, at, same))
-    counted false (inr one) = inr (omega (arith, one, le))
+    counted false (inr one) = inr (omega (arith, one.0, le), rw (at, same) at one.1)

@@ -18,10 +18,11 @@ use Rattle.scrub_disk.specs.Raw.{IsReadOn, IsPageAt, HoldsRaw}
 use Rattle.scrub_disk.specs.steps.Marked.{HoldsUnmarked, MarksAll}
 
 -- reads, and more reads
-pub read_on_more : {R : Type 0} {bytes : R → Option (List ℕ)} {most failures : R → ℕ} {a b c : R} →
-    IsReadOn bytes most failures a b → IsReadOn bytes most failures b c → IsReadOn bytes most failures a c
+pub read_on_more : {R : Type 0} {bytes : R → Option (List ℕ)} {fails : R → ℕ → ℕ → Bool} {most failures : R → ℕ} {a b c : R} →
+    IsReadOn bytes fails most failures a b → IsReadOn bytes fails most failures b c → IsReadOn bytes fails most failures a c
 read_on_more h k = record {
   same_bytes = k.same_bytes ∙ h.same_bytes;
+  same_fails = k.same_fails ∙ h.same_fails;
   same_bound = k.same_bound ∙ h.same_bound;
   counted = omega (arith, h.counted, k.counted);
 }

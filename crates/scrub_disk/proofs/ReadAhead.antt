@@ -1,12 +1,12 @@
 -- Pages that are read one after another, many at once where that can be.
-use Rattle.std.proofs.Common.{◌≡◌, ◌<◌, ◌≤◌, ◌+◌, ◌-◌, ◌*◌, ◌/◌, ℕ, Bool, true, false, not, List, [], ◌∷◌, ◌++◌, ◌⊎◌, length, length-append, get_or, set, slice_get, arith, refl, sym, ◌∙◌, ap, inl, inr, Option, Some, None, IfSome, get_or-set_same, get_or-set_other, ◌≢◌}
+use Rattle.std.proofs.Common.{◌≡◌, ◌<◌, ◌≤◌, ◌+◌, ◌-◌, ◌*◌, ◌/◌, ℕ, Bool, true, false, not, List, [], ◌∷◌, ◌++◌, ◌⊎◌, length, length-append, get_or, set, slice_get, arith, refl, sym, ◌∙◌, ap, inl, inr, Option, Some, None, IfSome, All, get_or-set_same, get_or-set_other, ◌≢◌}
 use Rattle.std.proofs.lemmas.Nat.{div_below, div-mul-add}
 use Rattle.std.specs.Bool.{OnTrue, OnFalse}
 use Rattle.std.proofs.lemmas.Bool.{cases_lt, cases_eq, false≢true}
-use Rattle.std.proofs.lemmas.List.Elements.{Contains-push, Contains-append_left}
+use Rattle.std.proofs.lemmas.List.Elements.{All-push, Contains-push, Contains-append_left}
 use borrow.Rule.Slice.PartMut.{put_mid}
-use Rattle.scrub_disk.specs.Raw.{IsRead}
-use Rattle.scrub_disk.specs.steps.Ahead.{StandsBetween, MarksFrom}
+use Rattle.scrub_disk.specs.Raw.{IsRead, MayFailIn}
+use Rattle.scrub_disk.specs.steps.Ahead.{StandsBetween, HasFailed, MarksFrom}
 use Rattle.scrub_disk.proofs.RawBytes.{read_more}
 
 -- one more read brought the bytes after those at the front of a list
@@ -53,13 +53,15 @@ held_next known place page n marks bytes more whole pos below before kept read i
 ]
 
 -- one more page, marked if it wasn't read whole: then it was cut, or one more failure was counted
-marks_next : (known : List ℕ) (start page n before after : ℕ) (marks : List Bool) (whole : Bool) → n < length marks →
+marks_next : (known : List ℕ) (fails : ℕ → ℕ → Bool) (start page n before after : ℕ) (marks : List Bool) (whole : Bool) → n < length marks →
     before ≤ after →
-    MarksFrom known start page n before marks → OnFalse whole ((length known < (start + n) * page + page) ⊎ (before < after)) →
-    MarksFrom known start page (n + 1) after (set marks n (not whole))
-marks_next known start page n before after marks true below le m lost = record {
+    MarksFrom known fails start page n before marks →
+    OnFalse whole ((length known < (start + n) * page + page) ⊎ HasFailed fails ((start + n) * page) page before after) →
+    MarksFrom known fails start page (n + 1) after (set marks n (not whole))
+marks_next known fails start page n before after marks true below le m lost = record {
   failed = m.failed;
   few = omega (arith, m.few, le);
+  each = m.each;
   only = λ k hk marked. elim (cases_eq k n) [
     | inr ne ↦ m.only k (omega (arith, hk, ne)) (sym (get_or-set_other marks n k false false ne) ∙ marked)
     | inl e ↦
@@ -67,17 +69,19 @@ marks_next known start page n before after marks true below le m lost = record {
         (false≢true (sym (get_or-set_same marks n false false below) ∙ ap (λ i. get_or (set marks n false) i false) (sym e) ∙ marked))
   ];
 }
-marks_next known start page n before after marks false below le m (inl cut) = record {
+marks_next known fails start page n before after marks false below le m (inl cut) = record {
   failed = m.failed;
   few = omega (arith, m.few, le);
+  each = m.each;
   only = λ k hk marked. elim (cases_eq k n) [
     | inr ne ↦ m.only k (omega (arith, hk, ne)) (sym (get_or-set_other marks n k true false ne) ∙ marked)
     | inl e ↦ inl (rw e cut)
   ];
 }
-marks_next known start page n before after marks false below le m (inr more) = record {
+marks_next known fails start page n before after marks false below le m (inr more) = record {
   failed = m.failed ++ (start + n) ∷ [];
-  few = omega (arith, m.few, more, length-append m.failed ((start + n) ∷ []));
+  few = omega (arith, m.few, more.0, length-append m.failed ((start + n) ∷ []));
+  each = All-push (λ k. MayFailIn fails (k * page) page) m.failed (start + n) m.each more.1;
   only = λ k hk marked. elim (cases_eq k n) [
     | inr ne ↦ elim (m.only k (omega (arith, hk, ne)) (sym (get_or-set_other marks n k true false ne) ∙ marked)) [
       | inl cut ↦ inl cut
@@ -113,18 +117,23 @@ stands_more_ahead (Some known) was place page n reached more e read =
         StandsBetween known place (n * page + page) reached more
     here r = r
 
-pub marks_more_ahead : (raw was : Option (List ℕ)) (start page n first before after : ℕ) (marks : List Bool) (whole : Bool) →
+pub marks_more_ahead : (raw was : Option (List ℕ)) (fails : ℕ → ℕ → Bool) (start page n first before after : ℕ) (marks : List Bool) (whole : Bool) →
     was ≡ raw → first ≤ before → before ≤ after → n < length marks →
-    IfSome raw (λ known. MarksFrom known start page n (before - first) marks) →
-    IfSome was (λ known. OnFalse whole ((length known < start * page + n * page + page) ⊎ (before < after))) →
-    IfSome raw (λ known. MarksFrom known start page (n + 1) (after - first) (set marks n (not whole)))
-marks_more_ahead None was start page n first before after marks whole e le more below m lost = tt
-marks_more_ahead (Some known) was start page n first before after marks whole e le more below m lost =
-    marks_next known start page n (before - first) (after - first) marks whole below (omega (arith, le, more)) m
+    IfSome raw (λ known. MarksFrom known fails start page n (before - first) marks) →
+    IfSome was (λ known. OnFalse whole
+    ((length known < start * page + n * page + page) ⊎ HasFailed fails (start * page + n * page) page before after)) →
+    IfSome raw (λ known. MarksFrom known fails start page (n + 1) (after - first) (set marks n (not whole)))
+marks_more_ahead None was fails start page n first before after marks whole e le more below m lost = tt
+marks_more_ahead (Some known) was fails start page n first before after marks whole e le more below m lost =
+    marks_next known fails start page n (before - first) (after - first) marks whole below (omega (arith, le, more)) m
     (counted whole (rw e at lost))
   where
-    counted : (b : Bool) → OnFalse b ((length known < start * page + n * page + page) ⊎ (before < after)) →
-        OnFalse b ((length known < (start + n) * page + page) ⊎ (before - first < after - first))
+    place : start * page + n * page ≡ (start + n) * page
+    place = omega arith
+
+    counted : (b : Bool) →
+        OnFalse b ((length known < start * page + n * page + page) ⊎ HasFailed fails (start * page + n * page) page before after) →
+        OnFalse b ((length known < (start + n) * page + page) ⊎ HasFailed fails ((start + n) * page) page (before - first) (after - first))
     counted true l = l
     counted false (inl cut) = inl (omega (arith, cut))
-    counted false (inr one) = inr (omega (arith, one, le))
+    counted false (inr one) = inr (omega (arith, one.0, le), rw place at one.1)

@@ -21,7 +21,7 @@ same_byte {e} {a} {b} s p = rw s.geometry (by_end (nat_lt p (a.geometry.page * a
     by_end true is =
         let within : p < a.geometry.page * a.geometry.pages = ltb-true p (a.geometry.page * a.geometry.pages) is in
         let page : p / a.geometry.page < a.geometry.pages =
-        div_below p a.geometry.page a.geometry.pages (omega (arith, a.geometry.page_size.least)) (omega (arith, within)) in
+        div_below p a.geometry.page a.geometry.pages (omega (arith, a.geometry.page_least)) (omega (arith, within)) in
         ap (option_and_then (λ bytes. slice_get bytes (p % a.geometry.page))) (s.pages (p / a.geometry.page) page)
     by_end false is = refl
 

@@ -27,7 +27,7 @@ abbrev pub image_of : OneExtent → Image
 image_of d = alone d.geometry d.extent d.bytes.items d.unreadable.items
 
 -- an image with the pages that extent e has in an image of the whole disk, which was loaded so
-pub record IsLoadedExtent (raw : Option (List ℕ)) (failures : ℕ) (g : Geometry) (named : List (ℕ × ℕ)) (e : ℕ) (image : Image) : Type 0 where
+pub record IsLoadedExtent (raw : Option (List ℕ)) (fails : ℕ → ℕ → Bool) (failures : ℕ) (g : Geometry) (named : List (ℕ × ℕ)) (e : ℕ) (image : Image) : Type 0 where
   pub whole : Image
-  pub loaded : IsLoadedWith raw failures g named whole
+  pub loaded : IsLoadedWith raw fails failures g named whole
   pub same : SameExtent e whole image

@@ -1,5 +1,5 @@
 -- Raw bytes: what one read of them gives, and what an image that was loaded from them holds.
-use Rattle.std.specs.Prelude.{◌≡◌, ◌<◌, ◌≤◌, ◌+◌, ◌*◌, ℕ, List, length, take, slice_get, Option, None, IfSome, ◌⊎◌, All, Contains}
+use Rattle.std.specs.Prelude.{◌≡◌, ◌<◌, ◌≤◌, ◌+◌, ◌*◌, ℕ, Bool, IsTrue, List, length, take, slice_get, Option, None, IfSome, ◌⊎◌, All, Contains}
 use Rattle.scrub_disk.specs.declared.geometry.Geometry.{Geometry}
 use Rattle.scrub_disk.specs.Image.{Image, AreBytesAt, HasWholePages, disk_bytes}
 use Rattle.scrub_disk.specs.BytesAndMarks.{page_number}
@@ -14,10 +14,11 @@ pub record IsRead (raw : Option (List ℕ)) (offset : ℕ) (out : List ℕ) (n :
   pub within : n ≤ length out
   pub known : IfSome raw (λ bytes. ReadFrom bytes offset out n)
 
--- a raw image before and after some reads: its bytes and the bound on its failures are the same, and the failures are
--- still counted
-pub record IsReadOn {R : Type 0} (bytes : R → Option (List ℕ)) (most_failures failures : R → ℕ) (old new : R) : Type 0 where
+-- a raw image before and after some reads: its bytes, the reads that may fail and the bound on its failures are the same,
+-- and the failures are still counted
+pub record IsReadOn {R : Type 0} (bytes : R → Option (List ℕ)) (fails : R → ℕ → ℕ → Bool) (most_failures failures : R → ℕ) (old new : R) : Type 0 where
   pub same_bytes : bytes new ≡ bytes old
+  pub same_fails : fails new ≡ fails old
   pub same_bound : most_failures new ≡ most_failures old
   pub counted : failures old ≤ failures new
 
@@ -40,26 +41,37 @@ HoldsRaw bytes image =
 abbrev pub IsCut : List ℕ → Geometry → ℕ → ℕ → Type 0
 IsCut bytes g e q = length bytes < raw_place g e q + g.page
 
+-- a read that asks for some of these bytes, and for no others, may fail; of a read, `fails` has the offset and how many
+-- bytes it asks for
+pub record MayFailIn (fails : ℕ → ℕ → Bool) (place size : ℕ) : Type 0 where
+  pub offset : ℕ
+  pub count : ℕ
+  pub some : 0 < count
+  pub from : place ≤ offset
+  pub to : offset + count ≤ place + size
+  pub may : IsTrue (fails offset count)
+
 -- after a load each page that is cut is unreadable, and of the others only named ones and those that failures cost,
--- listed here by their numbers, at most as many as the failures that were counted
-pub record LosesOnly (bytes : List ℕ) (g : Geometry) (named : List (ℕ × ℕ)) (failures : ℕ) (image : Image) : Type 0 where
+-- listed here by their numbers: at most as many as the failures that were counted, and in each of them a read may fail
+pub record LosesOnly (bytes : List ℕ) (fails : ℕ → ℕ → Bool) (g : Geometry) (named : List (ℕ × ℕ)) (failures : ℕ) (image : Image) : Type 0 where
   pub cut : (e q : ℕ) → e < g.extents → q < g.pages → IsCut bytes g e q → image.page e q ≡ None
   pub failed : List ℕ
   pub few : length failed ≤ failures
+  pub each : All (λ n. MayFailIn fails (n * g.page) g.page) failed
   pub only : (e q : ℕ) → e < g.extents → q < g.pages → image.page e q ≡ None →
       Contains named (e, q) ⊎ (IsCut bytes g e q ⊎ Contains failed (page_number g e q))
 
 -- if the raw bytes are known, each readable page has the bytes of its place, pages are lost only as `LosesOnly` says,
--- and no byte is after the last page unless a read failed
-pub record HoldsKnown (bytes : List ℕ) (failures : ℕ) (g : Geometry) (named : List (ℕ × ℕ)) (image : Image) : Type 0 where
+-- and no byte is after the last page, unless a read of the byte there may fail, and a read did
+pub record HoldsKnown (bytes : List ℕ) (fails : ℕ → ℕ → Bool) (failures : ℕ) (g : Geometry) (named : List (ℕ × ℕ)) (image : Image) : Type 0 where
   pub pages : HoldsRaw bytes image
-  pub lost : LosesOnly bytes g named failures image
-  pub not_too_long : failures ≡ 0 → length bytes ≤ disk_bytes g
+  pub lost : LosesOnly bytes fails g named failures image
+  pub not_too_long : (length bytes ≤ disk_bytes g) ⊎ ((0 < failures) × IsTrue (fails (disk_bytes g) 1))
 
--- an image of these sizes that was loaded with at most `failures` failed reads: each page is whole or unreadable, each
--- named page is unreadable, and what is known of the raw bytes holds of it as `HoldsKnown` says
-pub record IsLoadedWith (raw : Option (List ℕ)) (failures : ℕ) (g : Geometry) (named : List (ℕ × ℕ)) (image : Image) : Type 0 where
+-- an image of these sizes that was loaded with at most `failures` failed reads, of those that may fail: each page is whole
+-- or unreadable, each named page is unreadable, and what is known of the raw bytes holds of it as `HoldsKnown` says
+pub record IsLoadedWith (raw : Option (List ℕ)) (fails : ℕ → ℕ → Bool) (failures : ℕ) (g : Geometry) (named : List (ℕ × ℕ)) (image : Image) : Type 0 where
   pub geometry : image.geometry ≡ g
   pub whole : HasWholePages image
   pub unreadable : All (λ at. image.page at.0 at.1 ≡ None) named
-  pub known : IfSome raw (λ bytes. HoldsKnown bytes failures g named image)
+  pub known : IfSome raw (λ bytes. HoldsKnown bytes fails failures g named image)

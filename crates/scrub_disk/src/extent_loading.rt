@@ -26,10 +26,11 @@ fn read_extent_of<R: RawImage>(
     requires in_extents { extent < geometry.extents }
     ensures geometry { IfOk result (λ disk. disk.geometry ≡ geometry) }
     ensures extent { IfOk result (λ disk. disk.extent ≡ extent) }
-    ensures read { IfOk result (λ disk. IsReadFrom (R.bytes raw.old) (extent * geometry.pages) geometry.page
-        (R.failures raw.new - R.failures raw.old) disk.bytes.items disk.unreadable.items) }
+    ensures read { IfOk result (λ disk. IsReadFrom (R.bytes raw.old) (R.fails raw.old)
+        (extent * geometry.pages) geometry.page (R.failures raw.new - R.failures raw.old) disk.bytes.items
+        disk.unreadable.items) }
     ensures fault { result ≢ Err LoadFault.TooLong }
-    ensures image { IsReadOn (λ r. R.bytes r) (λ r. R.most_failures r) (λ r. R.failures r) raw.old raw.new }
+    ensures image { IsReadOn R.bytes R.fails R.most_failures R.failures raw.old raw.new }
     ensures reads { R.reads raw.new ≤ R.reads raw.old + (geometry.page + 1) * geometry.pages }
 {
     let page = geometry.page() as usize;
@@ -74,12 +75,13 @@ pub fn load_extent<R: RawImage>(
     requires in_range { All (λ at. (at.0 < geometry.extents) × (at.1 < geometry.pages)) bad.now }
     requires in_extents { extent < geometry.extents }
     ensures loaded { IfOk result (λ disk.
-        IsLoadedExtent (R.bytes raw.old) (R.failures raw.new - R.failures raw.old) geometry bad.now extent
-        (image_of disk)) }
+        IsLoadedExtent (R.bytes raw.old) (R.fails raw.old) (R.failures raw.new - R.failures raw.old) geometry
+        bad.now extent (image_of disk)) }
     ensures too_long { result ≡ Err LoadFault.TooLong →
         IfSome (R.bytes raw.old) (λ known. disk_bytes geometry < length known) }
     ensures failures { R.failures raw.old ≤ R.failures raw.new }
     ensures same_bytes { R.bytes raw.new ≡ R.bytes raw.old }
+    ensures same_fails { R.fails raw.new ≡ R.fails raw.old }
     ensures same_bound { R.most_failures raw.new ≡ R.most_failures raw.old }
     ensures reads { R.reads raw.new ≤ R.reads raw.old + (geometry.page + 1) * geometry.pages + 1 }
 {

@@ -1,7 +1,7 @@
 //! The sizes of a disk, and their limits.
 
-ghost use Rattle.std.specs.Prelude.{◌≡◌, ◌*◌, ◌^◌, ◌<◌, ◌≤◌, MatchResult};
-ghost use Rattle.scrub_disk.specs.Limits.{IsPageSize, AreExtents, ArePages, max_extent_bytes, max_disk_bytes};
+ghost use Rattle.std.specs.Prelude.{◌≡◌, ◌*◌, ◌^◌, ◌<◌, ◌≤◌, IsTrue, MatchResult};
+ghost use Rattle.std.specs.Int.{is_power_of_two};
 
 use thiserror::Error;
 
@@ -40,11 +40,15 @@ pub struct Geometry {
     pub pages: u32,
     /// How many extents the disk has, extent 0 included.
     pub extents: u32,
-    pub ghost page_size: { IsPageSize page },
-    pub ghost page_count: { ArePages pages },
-    pub ghost extent_count: { AreExtents extents },
-    pub ghost extent_fits: { page * pages ≤ max_extent_bytes },
-    pub ghost total_fits: { page * pages * extents ≤ max_disk_bytes },
+    pub ghost page_least: { 64 ≤ page },
+    pub ghost page_most: { page ≤ 65536 },
+    pub ghost page_power: { IsTrue (is_power_of_two page) },
+    pub ghost pages_least: { 1 ≤ pages },
+    pub ghost pages_most: { pages ≤ 65536 },
+    pub ghost extents_least: { 2 ≤ extents },
+    pub ghost extents_most: { extents ≤ 65536 },
+    pub ghost extent_fits: { page * pages ≤ 2 ^ 26 },
+    pub ghost total_fits: { page * pages * extents ≤ 2 ^ 32 },
 }
 
 impl Geometry {

@@ -1,6 +1,6 @@
 //! Loads a raw image into memory, page by page. It doesn't look at what the bytes mean.
 
-ghost use Rattle.std.specs.Prelude.{◌≡◌, ◌≢◌, ◌≤◌, ◌+◌, ◌-◌, ◌*◌, ◌<◌, ◌^◌, ◌/◌, ◌⊎◌, [], All, false, true};
+ghost use Rattle.std.specs.Prelude.{◌≡◌, ◌≢◌, ◌≤◌, ◌+◌, ◌-◌, ◌*◌, ◌<◌, ◌^◌, ◌/◌, ◌⊎◌, [], All, IsTrue, false, true};
 ghost use Rattle.std.specs.Prelude.{IfOk, IfSome, length, slice_get, Err, Some};
 ghost use Rattle.std.specs.Bool.{OnTrue, OnFalse};
 ghost use Rattle.scrub_disk.specs.Image.{AreBytesAt, disk_bytes};
@@ -11,6 +11,7 @@ ghost use Rattle.scrub_disk.specs.Memory.{image_of};
 use crate::geometry::Geometry;
 use crate::memory::MemDisk;
 use crate::raw::RawImage;
+use crate::reading::read_rest;
 use std::alloc::Global;
 use thiserror::Error;
 
@@ -25,28 +26,6 @@ pub enum LoadFault {
     TooLong,
 }
 
-/// Fills `out` with the bytes from an offset on, in as many reads as it takes. False if a read failed or the
-/// bytes ended first.
-fn read_whole<R: RawImage>(raw: &mut R, offset: u64, out: &mut [u8]) -> bool
-    requires few_reads { R.reads raw.old + length out.old < 2 ^ 63 }
-    requires in_range { offset + length out.old < 2 ^ 64 }
-    ensures whole { IfSome (R.bytes raw.old)
-        (λ bytes. OnTrue result (AreBytesAt (slice_get bytes) offset out.new)) }
-    ensures not_whole { IfSome (R.bytes raw.old) (λ bytes. OnFalse result
-        ((length bytes < offset + length out.new) ⊎ (R.failures raw.old < R.failures raw.new))) }
-    ensures image { IsReadOn (λ r. R.bytes r) (λ r. R.most_failures r) (λ r. R.failures r) raw.old raw.new }
-    ensures reads { R.reads raw.new ≤ R.reads raw.old + length out.old }
-{
-    let mut done = 0;
-    while done < out.len() {
-        match raw.read_at(offset + done as u64, &mut out[done..]) {
-            Ok(0) | Err(_) => return false,
-            Ok(n) => done += n,
-        }
-    }
-    true
-}
-
 /// Reads each page from its place, and marks each one that couldn't be read whole.
 fn read_pages<R: RawImage>(raw: &mut R, page: usize, bytes: &mut [u8], unreadable: &mut [bool])
     requires few_reads { R.reads raw.old + length bytes.old < 2 ^ 63 }
@@ -54,14 +33,14 @@ fn read_pages<R: RawImage>(raw: &mut R, page: usize, bytes: &mut [u8], unreadabl
     requires whole { length bytes.old ≡ page * length unreadable.old }
     ensures read { IfSome (R.bytes raw.old) (λ known. HoldsUnmarked known page unreadable.new bytes.new) }
     ensures lost { IfSome (R.bytes raw.old) (λ known.
-        MarksOnly known page (length unreadable.new) (R.failures raw.new - R.failures raw.old)
-        unreadable.new) }
-    ensures image { IsReadOn (λ r. R.bytes r) (λ r. R.most_failures r) (λ r. R.failures r) raw.old raw.new }
+        MarksOnly known (R.fails raw.old) page (length unreadable.new)
+        (R.failures raw.new - R.failures raw.old) unreadable.new) }
+    ensures image { IsReadOn R.bytes R.fails R.most_failures R.failures raw.old raw.new }
     ensures reads { R.reads raw.new ≤ R.reads raw.old + length bytes.old }
 {
     for (number, mark) in unreadable.iter_mut().enumerate() {
         let start = number * page;
-        *mark = !read_whole(raw, start as u64, &mut bytes[start..start + page]);
+        *mark = !read_rest(raw, start as u64, 0, &mut bytes[start..start + page]);
     }
 }
 
@@ -70,8 +49,9 @@ pub(crate) fn has_byte_at<R: RawImage>(raw: &mut R, offset: u64) -> bool
     requires { R.reads raw.old < 2 ^ 63 }
     ensures there { IfSome (R.bytes raw.old) (λ known. OnTrue result (offset < length known)) }
     ensures not_there { IfSome (R.bytes raw.old) (λ known. OnFalse result
-        ((length known ≤ offset) ⊎ (R.failures raw.old < R.failures raw.new))) }
-    ensures image { IsReadOn (λ r. R.bytes r) (λ r. R.most_failures r) (λ r. R.failures r) raw.old raw.new }
+        ((length known ≤ offset)
+        ⊎ ((R.failures raw.old < R.failures raw.new) × IsTrue (R.fails raw.old offset 1)))) }
+    ensures image { IsReadOn R.bytes R.fails R.most_failures R.failures raw.old raw.new }
     ensures reads { R.reads raw.new ≡ R.reads raw.old + 1 }
 {
     match raw.read_at(offset, &mut [0u8]) {
@@ -90,9 +70,10 @@ fn read_disk<R: RawImage>(
     ensures geometry { IfOk result (λ disk. (image_of disk).geometry ≡ geometry) }
     ensures pages { IfOk result (λ disk. IfSome (R.bytes raw.old) (λ known. HoldsRaw known (image_of disk))) }
     ensures lost { IfOk result (λ disk. IfSome (R.bytes raw.old) (λ known.
-        LosesOnly known geometry [] (R.failures raw.new - R.failures raw.old) (image_of disk))) }
+        LosesOnly known (R.fails raw.old) geometry [] (R.failures raw.new - R.failures raw.old)
+        (image_of disk))) }
     ensures fault { result ≢ Err LoadFault.TooLong }
-    ensures image { IsReadOn (λ r. R.bytes r) (λ r. R.most_failures r) (λ r. R.failures r) raw.old raw.new }
+    ensures image { IsReadOn R.bytes R.fails R.most_failures R.failures raw.old raw.new }
     ensures reads { R.reads raw.new ≤ R.reads raw.old + geometry.page * (geometry.pages * geometry.extents) }
 {
     let pages = geometry.pages() as usize * geometry.extents() as usize;
@@ -131,12 +112,13 @@ pub fn load<R: RawImage>(
     requires few_reads { R.reads raw.old < 2 ^ 62 }
     requires in_range { All (λ at. (at.0 < geometry.extents) × (at.1 < geometry.pages)) bad.now }
     ensures loaded { IfOk result (λ disk.
-        IsLoadedWith (R.bytes raw.old) (R.failures raw.new - R.failures raw.old) geometry bad.now
-        (image_of disk)) }
+        IsLoadedWith (R.bytes raw.old) (R.fails raw.old) (R.failures raw.new - R.failures raw.old) geometry
+        bad.now (image_of disk)) }
     ensures too_long { result ≡ Err LoadFault.TooLong →
         IfSome (R.bytes raw.old) (λ known. disk_bytes geometry < length known) }
     ensures failures { R.failures raw.old ≤ R.failures raw.new }
     ensures same_bytes { R.bytes raw.new ≡ R.bytes raw.old }
+    ensures same_fails { R.fails raw.new ≡ R.fails raw.old }
     ensures same_bound { R.most_failures raw.new ≡ R.most_failures raw.old }
     ensures reads { R.reads raw.new ≤ R.reads raw.old + (geometry.page + 1) *
         (geometry.pages * geometry.extents) + 1 }

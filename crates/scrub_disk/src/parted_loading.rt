@@ -2,8 +2,8 @@
 //! one page at a time, see `loading`.
 
 ghost use Rattle.std.specs.Thread.{IsSync};
-ghost use Rattle.std.specs.Prelude.{◌≡◌, ◌≤◌, ◌+◌, ◌-◌, ◌*◌, ◌<◌, ◌^◌, ◌++◌, [], ℕ, List, Option, All, IfOk};
-ghost use Rattle.std.specs.Prelude.{IfSome, OnOk, Err, length, sum_by, vec_len};
+ghost use Rattle.std.specs.Prelude.{◌≡◌, ◌≤◌, ◌+◌, ◌-◌, ◌*◌, ◌<◌, ◌^◌, ◌++◌, [], ℕ, Bool, List, Option, All};
+ghost use Rattle.std.specs.Prelude.{IfOk, IfSome, OnOk, Err, length, sum_by, vec_len};
 ghost use Rattle.scrub_disk.specs.steps.Ahead.{IsReadFrom};
 ghost use Rattle.scrub_disk.specs.Image.{disk_bytes};
 ghost use Rattle.scrub_disk.specs.Joined.{AreBlocks, first_page, joined};
@@ -137,9 +137,10 @@ fn read_into_block<R: RawImage>(
     ensures size { IfOk result
         (λ r. length (block_text division.geometry.page r.0) ≡ count * division.geometry.page) }
     ensures each_page { IfOk result (λ r. length r.1.items ≡ count) }
-    ensures read { IfOk result (λ r. IsReadFrom (R.bytes raw.old) first division.geometry.page
-        (R.failures raw.new - R.failures raw.old) (block_text division.geometry.page r.0) r.1.items) }
-    ensures image { IsReadOn (λ r. R.bytes r) (λ r. R.most_failures r) (λ r. R.failures r) raw.old raw.new }
+    ensures read { IfOk result (λ r. IsReadFrom (R.bytes raw.old) (R.fails raw.old) first
+        division.geometry.page (R.failures raw.new - R.failures raw.old)
+        (block_text division.geometry.page r.0) r.1.items) }
+    ensures image { IsReadOn R.bytes R.fails R.most_failures R.failures raw.old raw.new }
     ensures reads { R.reads raw.new ≤ R.reads raw.old + (division.geometry.page + 1) * count }
 {
     let page = division.geometry.page() as usize;
@@ -171,11 +172,11 @@ fn read_block<R: RawImage>(
     requires room { length buffer.old ≡ division.geometry.page * division.at_once }
     ensures shape { IfOk result
         (λ p. AreBlocks division.geometry division.stride number 1 p.filled.items p.marks.items) }
-    ensures read { IfOk result (λ p. IsReadFrom (R.bytes raw.old)
+    ensures read { IfOk result (λ p. IsReadFrom (R.bytes raw.old) (R.fails raw.old)
         (first_page division.geometry division.stride number) division.geometry.page
         (R.failures raw.new - R.failures raw.old) (joined division.geometry.page p.filled.items)
         p.marks.items) }
-    ensures image { IsReadOn (λ r. R.bytes r) (λ r. R.most_failures r) (λ r. R.failures r) raw.old raw.new }
+    ensures image { IsReadOn R.bytes R.fails R.most_failures R.failures raw.old raw.new }
     ensures reads { R.reads raw.new ≤ R.reads raw.old + (division.geometry.page + 1)
         * (first_page division.geometry division.stride (number + 1) -
         first_page division.geometry division.stride number) }
@@ -202,11 +203,11 @@ fn read_share<R: RawImage>(
     requires in_range { (first + division.share) * division.stride < 2 ^ 62 }
     ensures shape { IfOk result
         (λ p. AreBlocks division.geometry division.stride first division.share p.filled.items p.marks.items) }
-    ensures read { IfOk result (λ p. IsReadFrom (R.bytes raw.old)
+    ensures read { IfOk result (λ p. IsReadFrom (R.bytes raw.old) (R.fails raw.old)
         (first_page division.geometry division.stride first) division.geometry.page
         (R.failures raw.new - R.failures raw.old) (joined division.geometry.page p.filled.items)
         p.marks.items) }
-    ensures image { IsReadOn (λ r. R.bytes r) (λ r. R.most_failures r) (λ r. R.failures r) raw.old raw.new }
+    ensures image { IsReadOn R.bytes R.fails R.most_failures R.failures raw.old raw.new }
     ensures reads { R.reads raw.new ≤ R.reads raw.old + 2 ^ 33 }
 {
     let mut buffer = vec![in alloc; 0u8; division.geometry.page() as usize * division.at_once]?;
@@ -230,10 +231,11 @@ fn read_number<R: RawImage>(
         AreBlocks division.geometry division.stride (number * division.share) division.share p.filled.items
         p.marks.items) }
     ensures read { IfOk result.0
-        (λ p. IsReadFrom (R.bytes raw)
+        (λ p. IsReadFrom (R.bytes raw) (R.fails raw)
         (first_page division.geometry division.stride (number * division.share)) division.geometry.page
         (R.most_failures raw) (joined division.geometry.page p.filled.items) p.marks.items) }
     ensures same_bytes { R.bytes result.1 ≡ R.bytes raw }
+    ensures same_fails { R.fails result.1 ≡ R.fails raw }
     ensures same_bound { R.most_failures result.1 ≡ R.most_failures raw }
     ensures few_reads { R.reads result.1 < 2 ^ 63 }
 {
@@ -259,17 +261,19 @@ fn read_beside<T: Threads + Sync, R: RawImage + Send + Drop>(
         p.marks.items) }
     ensures read { IfOk result.0
         (λ p. (known : Option (List ℕ)) → All (λ r. R.bytes r ≡ known) readers.items →
-        IsReadFrom known 0 division.geometry.page (sum_by (λ r. R.most_failures r) readers.items)
+        (fails : ℕ → ℕ → Bool) → All (λ r. R.fails r ≡ fails) readers.items →
+        IsReadFrom known fails 0 division.geometry.page (sum_by (λ r. R.most_failures r) readers.items)
         (joined division.geometry.page p.filled.items) p.marks.items) }
     ensures part_shape { IfOk result.1.0 (λ p.
         AreBlocks division.geometry division.stride (vec_len readers * division.share) division.share
         p.filled.items p.marks.items) }
     ensures part_read { IfOk result.1.0
-        (λ p. IsReadFrom (R.bytes last)
+        (λ p. IsReadFrom (R.bytes last) (R.fails last)
         (first_page division.geometry division.stride (vec_len readers * division.share))
         division.geometry.page (R.most_failures last) (joined division.geometry.page p.filled.items)
         p.marks.items) }
     ensures same_bytes { R.bytes result.1.1 ≡ R.bytes last }
+    ensures same_fails { R.fails result.1.1 ≡ R.fails last }
     ensures same_bound { R.most_failures result.1.1 ≡ R.most_failures last }
     ensures few_reads { R.reads result.1.1 < 2 ^ 63 }
 {
@@ -289,7 +293,8 @@ fn read_beside<T: Threads + Sync, R: RawImage + Send + Drop>(
                 p.filled.items p.marks.items) }
             ensures read { IfOk result
                 (λ p. (known : Option (List ℕ)) → All (λ r. R.bytes r ≡ known) readers.items →
-                IsReadFrom known 0 division.geometry.page (sum_by (λ r. R.most_failures r) readers.items)
+                (fails : ℕ → ℕ → Bool) → All (λ r. R.fails r ≡ fails) readers.items →
+                IsReadFrom known fails 0 division.geometry.page (sum_by (λ r. R.most_failures r) readers.items)
                 (joined division.geometry.page p.filled.items) p.marks.items) }
         { read_parts(rt, alloc, readers, division) },
         move || -> (Result<Part, OutOfMemory>, R)
@@ -299,11 +304,12 @@ fn read_beside<T: Threads + Sync, R: RawImage + Send + Drop>(
                 AreBlocks division.geometry division.stride (number * division.share) division.share
                 p.filled.items p.marks.items) }
             ensures read { IfOk result.0
-                (λ p. IsReadFrom (R.bytes last)
+                (λ p. IsReadFrom (R.bytes last) (R.fails last)
                 (first_page division.geometry division.stride (number * division.share))
                 division.geometry.page (R.most_failures last) (joined division.geometry.page p.filled.items)
                 p.marks.items) }
             ensures same_bytes { R.bytes result.1 ≡ R.bytes last }
+            ensures same_fails { R.fails result.1 ≡ R.fails last }
             ensures same_bound { R.most_failures result.1 ≡ R.most_failures last }
             ensures few_reads { R.reads result.1 < 2 ^ 63 }
         { read_number(alloc, last, division, number) },
@@ -325,11 +331,15 @@ fn read_all<T: Threads + Sync, R: RawImage + Send + Drop>(
         AreBlocks division.geometry division.stride 0 (vec_len readers * division.share) p.0.filled.items
         p.0.marks.items) }
     ensures read { IfOk result (λ p. (known : Option (List ℕ)) → All (λ r. R.bytes r ≡ known) readers.items →
-        IsReadFrom known 0 division.geometry.page (sum_by (λ r. R.most_failures r) readers.items)
+        (fails : ℕ → ℕ → Bool) → All (λ r. R.fails r ≡ fails) readers.items →
+        IsReadFrom known fails 0 division.geometry.page (sum_by (λ r. R.most_failures r) readers.items)
         (joined division.geometry.page p.0.filled.items) p.0.marks.items) }
     ensures same_bytes { IfOk result
         (λ p. (known : Option (List ℕ)) → All (λ r. R.bytes r ≡ known) readers.items →
         R.bytes p.1 ≡ known) }
+    ensures same_fails { IfOk result
+        (λ p. (fails : ℕ → ℕ → Bool) → All (λ r. R.fails r ≡ fails) readers.items →
+        R.fails p.1 ≡ fails) }
     ensures within { IfOk result (λ p. R.most_failures p.1 ≤ sum_by (λ r. R.most_failures r) readers.items) }
     ensures few_reads { IfOk result (λ p. R.reads p.1 < 2 ^ 63) }
 {
@@ -356,7 +366,8 @@ fn read_parts<T: Threads + Sync, R: RawImage + Send + Drop>(
         AreBlocks division.geometry division.stride 0 (vec_len readers * division.share) p.filled.items
         p.marks.items) }
     ensures read { IfOk result (λ p. (known : Option (List ℕ)) → All (λ r. R.bytes r ≡ known) readers.items →
-        IsReadFrom known 0 division.geometry.page (sum_by (λ r. R.most_failures r) readers.items)
+        (fails : ℕ → ℕ → Bool) → All (λ r. R.fails r ≡ fails) readers.items →
+        IsReadFrom known fails 0 division.geometry.page (sum_by (λ r. R.most_failures r) readers.items)
         (joined division.geometry.page p.filled.items) p.marks.items) }
 {
     if readers.is_empty() {
@@ -397,7 +408,8 @@ pub fn load_in_parts<T: Threads + Sync, R: RawImage + Send + Drop>(
     requires in_range { All (λ at. (at.0 < geometry.extents) × (at.1 < geometry.pages)) bad.now }
     ensures loaded { IfOk result
         (λ disk. (known : Option (List ℕ)) → All (λ r. R.bytes r ≡ known) readers.items →
-        IsLoadedWith known (sum_by (λ r. R.most_failures r) readers.items) geometry bad.now (image_of disk)) }
+        (fails : ℕ → ℕ → Bool) → All (λ r. R.fails r ≡ fails) readers.items →
+        IsLoadedWith known fails (sum_by (λ r. R.most_failures r) readers.items) geometry bad.now (image_of disk)) }
     ensures too_long { result ≡ Err LoadFault.TooLong → (known : Option (List ℕ)) →
         All (λ r. R.bytes r ≡ known) readers.items →
         IfSome known (λ text. disk_bytes geometry < length text) }

@@ -1,7 +1,8 @@
 //! Raw images: the bytes of a whole disk, as a file gives them, in pieces and with failures. `loading` cuts
 //! them into pages.
 
-ghost use Rattle.std.specs.Prelude.{◌≡◌, ◌≤◌, ◌+◌, ◌<◌, ◌^◌, ℕ, List, Option, IfOk, if◌then◌else◌, is_ok};
+ghost use Rattle.std.specs.Prelude.{◌≡◌, ◌≤◌, ◌+◌, ◌<◌, ◌^◌, ℕ, Bool, IsTrue, List, Option, IfOk};
+ghost use Rattle.std.specs.Prelude.{OnErr, if◌then◌else◌, is_ok, length};
 ghost use Rattle.scrub_disk.specs.Raw.{IsRead};
 
 use thiserror::Error;
@@ -16,6 +17,8 @@ pub struct RawFault;
 pub trait RawImage {
     /// Its bytes, or None if they aren't known, as with a file.
     ghost bytes: { Self → Option (List ℕ) };
+    /// Whether a read of so many bytes from a byte offset on may fail: the offset first. No read changes it.
+    ghost fails: { Self → ℕ → ℕ → Bool };
     /// How many reads were made.
     ghost reads: { Self → ℕ };
     /// How many of them failed.
@@ -29,10 +32,12 @@ pub trait RawImage {
     fn read_at(&mut self, offset: u64, out: &mut [u8]) -> Result<usize, RawFault>
         requires { reads self.old < 2 ^ 63 }
         ensures same_bytes { bytes self.new ≡ bytes self.old }
+        ensures same_fails { fails self.new ≡ fails self.old }
         ensures same_bound { most_failures self.new ≡ most_failures self.old }
         ensures one_read { reads self.new ≡ reads self.old + 1 }
         ensures one_failure { failures self.new ≡
             (if is_ok result then failures self.old else failures self.old + 1) }
+        ensures failed { OnErr result (IsTrue (fails self.old offset (length out.old))) }
         ensures read { IfOk result (λ n. IsRead (bytes self.old) offset out.new n) };
 
     /// A failure is a failed read.

@@ -4,7 +4,7 @@
 ghost use Rattle.std.specs.Prelude.{◌≡◌, ◌≤◌, ◌+◌, ◌-◌, ◌*◌, ◌<◌, ◌^◌, ◌⊎◌, ℕ, IfNone, IfSome, length};
 ghost use Rattle.std.specs.Prelude.{slice_get, slice_index};
 ghost use Rattle.std.specs.Bool.{OnTrue, OnFalse};
-ghost use Rattle.scrub_disk.specs.steps.Ahead.{HoldsFrom, MarksFrom, StandsBetween};
+ghost use Rattle.scrub_disk.specs.steps.Ahead.{HasFailed, HoldsFrom, MarksFrom, StandsBetween};
 ghost use Rattle.scrub_disk.specs.Image.{AreBytesAt};
 ghost use Rattle.scrub_disk.specs.Raw.{IsReadOn};
 
@@ -20,8 +20,9 @@ fn read_ahead<R: RawImage>(raw: &mut R, offset: u64, page: usize, out: &mut [u8]
     ensures front { IfSome (R.bytes raw.old)
         (λ known. IfSome result (λ n. StandsBetween known offset 0 n out.new)) }
     ensures lost { IfSome (R.bytes raw.old) (λ known. IfNone result
-        ((length known < offset + page) ⊎ (R.failures raw.old < R.failures raw.new))) }
-    ensures image { IsReadOn (λ r. R.bytes r) (λ r. R.most_failures r) (λ r. R.failures r) raw.old raw.new }
+        ((length known < offset + page)
+        ⊎ HasFailed (R.fails raw.old) offset page (R.failures raw.old) (R.failures raw.new))) }
+    ensures image { IsReadOn R.bytes R.fails R.most_failures R.failures raw.old raw.new }
     ensures reads { R.reads raw.new ≡ R.reads raw.old + 1 }
 {
     match raw.read_at(offset, out) {
@@ -34,7 +35,7 @@ fn read_ahead<R: RawImage>(raw: &mut R, offset: u64, page: usize, out: &mut [u8]
 
 /// Fills `out`, whose first bytes were read before, in as many reads as it takes. False if a read failed or
 /// the bytes ended first.
-fn read_rest<R: RawImage>(raw: &mut R, offset: u64, have: usize, out: &mut [u8]) -> bool
+pub(crate) fn read_rest<R: RawImage>(raw: &mut R, offset: u64, have: usize, out: &mut [u8]) -> bool
     requires few_reads { R.reads raw.old + length out.old < 2 ^ 63 }
     requires in_range { offset + length out.old < 2 ^ 64 }
     requires have { have ≤ length out.old }
@@ -42,8 +43,9 @@ fn read_rest<R: RawImage>(raw: &mut R, offset: u64, have: usize, out: &mut [u8])
     ensures whole { IfSome (R.bytes raw.old)
         (λ known. OnTrue result (AreBytesAt (slice_get known) offset out.new)) }
     ensures not_whole { IfSome (R.bytes raw.old) (λ known. OnFalse result
-        ((length known < offset + length out.new) ⊎ (R.failures raw.old < R.failures raw.new))) }
-    ensures image { IsReadOn (λ r. R.bytes r) (λ r. R.most_failures r) (λ r. R.failures r) raw.old raw.new }
+        ((length known < offset + length out.new)
+        ⊎ HasFailed (R.fails raw.old) offset (length out.new) (R.failures raw.old) (R.failures raw.new))) }
+    ensures image { IsReadOn R.bytes R.fails R.most_failures R.failures raw.old raw.new }
     ensures reads { R.reads raw.new ≤ R.reads raw.old + length out.old }
 {
     let mut done = have;
@@ -77,8 +79,9 @@ fn reach<R: RawImage>(
     ensures stands { IfSome (R.bytes raw.old)
         (λ known. IfSome result (λ r. StandsBetween known start from r bytes.new)) }
     ensures lost { IfSome (R.bytes raw.old) (λ known. IfNone result
-        ((length known < start + from + page) ⊎ (R.failures raw.old < R.failures raw.new))) }
-    ensures image { IsReadOn (λ r. R.bytes r) (λ r. R.most_failures r) (λ r. R.failures r) raw.old raw.new }
+        ((length known < start + from + page)
+        ⊎ HasFailed (R.fails raw.old) (start + from) page (R.failures raw.old) (R.failures raw.new))) }
+    ensures image { IsReadOn R.bytes R.fails R.most_failures R.failures raw.old raw.new }
     ensures reads { R.reads raw.new ≤ R.reads raw.old + 1 }
 {
     if from > 0 {
@@ -109,8 +112,9 @@ fn read_next<R: RawImage>(
     ensures stands { IfSome (R.bytes raw.old)
         (λ known. StandsBetween known start (from + page) result.1 bytes.new) }
     ensures lost { IfSome (R.bytes raw.old) (λ known. OnFalse result.0
-        ((length known < start + from + page) ⊎ (R.failures raw.old < R.failures raw.new))) }
-    ensures image { IsReadOn (λ r. R.bytes r) (λ r. R.most_failures r) (λ r. R.failures r) raw.old raw.new }
+        ((length known < start + from + page)
+        ⊎ HasFailed (R.fails raw.old) (start + from) page (R.failures raw.old) (R.failures raw.new))) }
+    ensures image { IsReadOn R.bytes R.fails R.most_failures R.failures raw.old raw.new }
     ensures reads { R.reads raw.new ≤ R.reads raw.old + page + 1 }
 {
     let Some(ahead) = reach(raw, start, page, from, reached, bytes) else {
@@ -143,9 +147,9 @@ pub(crate) fn read_pages<R: RawImage>(
     ensures read { IfSome (R.bytes raw.old)
         (λ known. HoldsFrom known (first * page) page unreadable.new bytes.new) }
     ensures lost { IfSome (R.bytes raw.old) (λ known.
-        MarksFrom known first page (length unreadable.new) (R.failures raw.new - R.failures raw.old)
-        unreadable.new) }
-    ensures image { IsReadOn (λ r. R.bytes r) (λ r. R.most_failures r) (λ r. R.failures r) raw.old raw.new }
+        MarksFrom known (R.fails raw.old) first page (length unreadable.new)
+        (R.failures raw.new - R.failures raw.old) unreadable.new) }
+    ensures image { IsReadOn R.bytes R.fails R.most_failures R.failures raw.old raw.new }
     ensures reads { R.reads raw.new ≤ R.reads raw.old + (page + 1) * length unreadable.old }
 {
     let mut reached = 0;

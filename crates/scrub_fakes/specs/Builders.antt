@@ -8,7 +8,7 @@ use Rattle.scrub_frame.specs.declared.locator.Locator.{Locator}
 use Rattle.scrub_super.specs.Contents.{Contents}
 use Rattle.scrub_super.specs.Record.{record_bytes}
 use Rattle.scrub_super.specs.Chosen.{Choice, IsChoice}
-use Rattle.scrub_super.specs.Plan.{PlanValue, IsPlanOf}
+use Rattle.scrub_super.specs.Plan.{PlanValue, plan_of}
 
 -- a blank disk of three extents, each of four pages of 64 bytes
 pub record IsSmall (image : Image) : Type 0 where
@@ -32,4 +32,4 @@ pub record PutsRecord (old new : Image) (page : ℕ) (c : Contents) (size : ℕ)
 pub record IsPlanOfDisk (image : Image) (plan : PlanValue) : Type 0 where
   pub choice : Choice
   pub chosen : IsChoice image choice
-  pub by : IsPlanOf choice plan
+  pub by : plan ≡ plan_of choice

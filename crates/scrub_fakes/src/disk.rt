@@ -7,7 +7,7 @@ ghost use Rattle.scrub_disk.specs.Memory.{image_of, Puts, Marks};
 ghost use Rattle.scrub_frame.specs.declared.form.Form.{Form};
 ghost use Rattle.scrub_frame.specs.Frame.{frame};
 ghost use Rattle.scrub_run.specs.Run.{run_bytes};
-ghost use Rattle.scrub_super.specs.Record.{ArePointers};
+ghost use Rattle.scrub_super.specs.steps.Limits.{ArePointers};
 ghost use Rattle.scrub_super.specs.Planned.{AreChunkExtents};
 ghost use Rattle.scrub_fakes.specs.Builders.{IsSmall, IsLocatorOf, PutsRecord, IsPlanOfDisk};
 

@@ -1,6 +1,6 @@
 //! A raw image over borrowed bytes.
 
-ghost use Rattle.std.specs.Prelude.{◌≡◌, ◌≤◌, ◌<◌, ◌↔◌, Some, IsTrue};
+ghost use Rattle.std.specs.Prelude.{◌≡◌, ◌≤◌, ◌<◌, ◌↔◌, Some, IsTrue, nat_lt};
 
 use scrub_disk::{RawFault, RawImage};
 
@@ -64,6 +64,8 @@ impl<'a> RawBytes<'a> {
 
 impl RawImage for RawBytes<'_> {
     ghost bytes = { λ image. Some image.bytes.now };
+
+    ghost fails = { λ image _ _. nat_lt 0 image.faults };
 
     ghost reads = { λ image. image.reads };
 

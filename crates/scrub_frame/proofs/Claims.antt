@@ -11,7 +11,7 @@ use Rattle.scrub_frame.specs.declared.matcher.Matcher.{Matcher}
 use Rattle.scrub_frame.specs.Frame.{magic, head, head_size, seal, seal_size, mark, payload_start, close_size, frame_overhead, frame, BeginsWithFrame}
 use Rattle.scrub_frame.specs.Matching.{form_in, length_in, uuid_in, payload_end_in, close_in, HasTaken, NoFrameYet, NoFrameWithin, IsWhole}
 use Rattle.scrub_frame.proofs.Bytes.{part_at, number-bytes}
-use Rattle.scrub_frame.proofs.Frames.{stands, form-in_head, length-head, length-frame, length-close, seal-digest, overhead, frame_of_parts, BeginsWithHead, claimed, stands_claimed, too_short}
+use Rattle.scrub_frame.proofs.Frames.{length-magic, magic-first, stands, form-in_head, length-head, length-frame, length-close, seal-digest, overhead, frame_of_parts, BeginsWithHead, claimed, stands_claimed, too_short}
 use Rattle.scrub_frame.proofs.Feeding.{part_more}
 
 -- ---- what is in a head
@@ -32,14 +32,14 @@ module _ {x : List ℕ} {f : Form} {u : List ℕ} {n : ℕ} (i : IsHead x f u n)
   pub length-in : length_in x ≡ n
   length-in =
       let e : head f u n ≡ (magic f ++ u) ++ (big_bytes 4 n ++ []) =
-      sym (ap (λ t. (magic f ++ u) ++ t) (append-nil (big_bytes 4 n))) in
+      sym (append_assoc (magic f) u (big_bytes 4 n)) in
       ap length_in i.is
       ∙ ap (big_number 4) (ap (λ t. take 4 (drop 18 t)) e
-      ∙ part_at (magic f ++ u) (big_bytes 4 n) [] 18 4 (omega (arith, length-append (magic f) u, sixteen)) refl)
+      ∙ part_at (magic f ++ u) (big_bytes 4 n) [] 18 4 (omega (arith, length-magic f, length-append (magic f) u, sixteen)) refl)
       ∙ number-bytes n i.short
 
   pub uuid-in : uuid_in x ≡ u
-  uuid-in = ap uuid_in i.is ∙ part_at (magic f) u (big_bytes 4 n) 2 16 refl sixteen
+  uuid-in = ap uuid_in i.is ∙ part_at (magic f) u (big_bytes 4 n) 2 16 (length-magic f) sixteen
 
   pub payload_start-in : payload_start (form_in x) ≡ payload_start f
   payload_start-in = ap payload_start form-in
@@ -70,7 +70,8 @@ pub no_magic : {m : Matcher} {t : List ℕ} (room : ℕ) → HasTaken m t → le
     ((f : Form) → take 2 m.head ≡ magic f → ⊥) → NoFrameWithin room t
 no_magic {m} {t} room h whole behind differs rest f u b k = absurd (differs f (ap (take 2)
     (sym (take_all m.fed m.head (omega (arith, whole, behind))) ∙ h.head
-    ∙ sym (take-append-le head_size t rest (omega (arith, h.count, behind))) ∙ (stands (t ++ rest) f u b k).head_is)))
+    ∙ sym (take-append-le head_size t rest (omega (arith, h.count, behind))) ∙ (stands (t ++ rest) f u b k).head_is)
+    ∙ magic-first f (u ++ big_bytes 4 (length b))))
 
 module _ {m : Matcher} {t : List ℕ} {f : Form} {u : List ℕ} {n : ℕ} (h : HasTaken m t) (i : IsHead m.head f u n) where
   -- whatever follows them, the bytes begin with the head

@@ -17,6 +17,15 @@ use Rattle.scrub_frame.proofs.Bytes.{part-rest, part_at, bytes-number_at, bytes-
 
 -- ---- forms
 
+-- the two bytes of a magic
+pub length-magic : (f : Form) → length (magic f) ≡ 2
+length-magic Plain = refl
+length-magic Sealed = refl
+
+-- the first two bytes, where a magic comes first
+pub magic-first : (f : Form) (y : List ℕ) → take 2 (magic f ++ y) ≡ magic f
+magic-first f y = take_at (magic f) y 2 (length-magic f)
+
 pub length-seal : (f : Form) (b : List ℕ) → length (seal f b) ≡ seal_size f
 length-seal Plain b = refl
 length-seal Sealed b = length-sha256 b
@@ -36,7 +45,8 @@ length-close f u lu = omega (arith, length-append u (mark f), lu)
 -- ---- heads
 
 pub length-head : (f : Form) (u : List ℕ) (n : ℕ) → length (head f u n) ≡ 6 + length u
-length-head f u n = omega (arith, length-append u (big_bytes 4 n))
+length-head f u n =
+    omega (arith, length-magic f, length-append (magic f) (u ++ big_bytes 4 n), length-append u (big_bytes 4 n))
 
 -- the form in a head
 pub form-in_head : (f : Form) (u : List ℕ) (n : ℕ) → form_in (head f u n) ≡ f
@@ -48,16 +58,16 @@ pub head-injective : (f g : Form) (u v : List ℕ) (n m : ℕ) → length u ≡ 
     head f u n ≡ head g v m → (f ≡ g) × (u ≡ v) × (n ≡ m)
 head-injective f g u v n m lu lv hn hm same = (
   sym (form-in_head f u n) ∙ ap form_in same ∙ form-in_head g v m,
-  sym (part_at (magic f) u (big_bytes 4 n) 2 16 refl lu) ∙ ap (λ t. take 16 (drop 2 t)) same
-      ∙ part_at (magic g) v (big_bytes 4 m) 2 16 refl lv,
+  sym (part_at (magic f) u (big_bytes 4 n) 2 16 (length-magic f) lu) ∙ ap (λ t. take 16 (drop 2 t)) same
+      ∙ part_at (magic g) v (big_bytes 4 m) 2 16 (length-magic g) lv,
   bytes-injective n m hn hm (sym (size f u n lu) ∙ ap (λ t. take 4 (drop 18 t)) same ∙ size g v m lv),
 )
   where
     size : (h : Form) (w : List ℕ) (k : ℕ) → length w ≡ 16 → take 4 (drop 18 (head h w k)) ≡ big_bytes 4 k
     size h w k lw =
-        let e : head h w k ≡ (magic h ++ w) ++ (big_bytes 4 k ++ []) = sym (ap (λ t. (magic h ++ w) ++ t) (append-nil (big_bytes 4 k))) in
+        let e : head h w k ≡ (magic h ++ w) ++ (big_bytes 4 k ++ []) = sym (append_assoc (magic h) w (big_bytes 4 k)) in
         ap (λ t. take 4 (drop 18 t)) e
-        ∙ part_at (magic h ++ w) (big_bytes 4 k) [] 18 4 (omega (arith, length-append (magic h) w, lw)) refl
+        ∙ part_at (magic h ++ w) (big_bytes 4 k) [] 18 4 (omega (arith, length-magic h, length-append (magic h) w, lw)) refl
 
 -- the first two of twenty-two bytes
 pub first_two : (y : List ℕ) → length y ≡ head_size → take 2 y ≡ get_or y 0 0 ∷ get_or y 1 0 ∷ []

@@ -6,14 +6,10 @@ use Rattle.sha2.specs.Sha256.{sha256}
 use Rattle.scrub_frame.specs.declared.form.Form.{Form}
 use Rattle.scrub_frame.specs.declared.form.Form.TheVariants.{Plain, Sealed}
 
--- the second byte of a magic, by which the forms differ: 5E in a plain frame, 5F in a sealed one
-abbrev pub form_byte : Form → ℕ
-form_byte Plain = 0x5E
-form_byte Sealed = 0x5F
-
 -- the two bytes that a frame begins with: C5 5E, or C5 5F in a sealed one
 abbrev pub magic : Form → List ℕ
-magic form = 0xC5 ∷ form_byte form ∷ []
+magic Plain = 0xC5 ∷ 0x5E ∷ []
+magic Sealed = 0xC5 ∷ 0x5F ∷ []
 
 -- how many bytes a head has, in either form: 22
 abbrev pub head_size : ℕ
@@ -55,13 +51,11 @@ abbrev pub frame_overhead : Form → ℕ
 frame_overhead Plain = 38
 frame_overhead Sealed = 72
 
--- the least number of bytes that a frame of either form has besides its payload: 38
-abbrev pub least_overhead : ℕ
-least_overhead = frame_overhead Plain
-
--- the frame of a UUID and a payload: head, seal, payload, the UUID again, and the mark
+-- the frame of a UUID and a payload: the magic, the UUID and the payload's length in four bytes, then the seal, the
+-- payload, the UUID again, and the mark
 abbrev pub frame : Form → List ℕ → List ℕ → List ℕ
-frame form uuid payload = head form uuid (length payload) ++ (seal form payload ++ (payload ++ (uuid ++ mark form)))
+frame form uuid payload =
+    (magic form ++ (uuid ++ big_bytes 4 (length payload))) ++ (seal form payload ++ (payload ++ (uuid ++ mark form)))
 
 -- these have a frame: a UUID of sixteen bytes, and a payload whose length fits four bytes
 pub record HasFrame (uuid payload : List ℕ) : Type 0 where

@@ -2,7 +2,6 @@
 use Rattle.std.specs.Prelude.{◌≡◌, ◌<◌, ◌^◌, ℕ, List, ◌++◌, length}
 use Rattle.byteorder.specs.Endian.{big_bytes}
 use Rattle.scrub_frame.specs.declared.locator.Locator.{Locator}
-use Rattle.scrub_frame.specs.Frame.{digest_size}
 
 -- the bytes of a locator: extent, offset, length, UUID and digest
 abbrev pub locator_bytes : Locator → List ℕ
@@ -14,4 +13,4 @@ pub record IsLocator (l : Locator) : Type 0 where
   pub offset : l.offset < 2 ^ 32
   pub size : l.length < 2 ^ 32
   pub uuid : length l.uuid ≡ 16
-  pub digest : length l.digest ≡ digest_size
+  pub digest : length l.digest ≡ 32

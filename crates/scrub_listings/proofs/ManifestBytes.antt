@@ -36,7 +36,8 @@ use Rattle.scrub_check.specs.ChunkForms.{form_at}
 use Rattle.scrub_check.specs.Named.{named_by_shard}
 use Rattle.scrub_check.specs.Spares.{spares_of}
 use Rattle.scrub_check.specs.Status.{FindsFrame, NamesChunk}
-use Rattle.scrub_report.specs.Scrubbed.{Scrubbed, IsScrubbedBut}
+use Rattle.scrub_report.specs.Resets.{IsScrubbedBut}
+use Rattle.scrub_report.specs.Scrubbed.{Scrubbed}
 use Rattle.scrub_report.specs.Texts.{owner_text, uuid_text}
 use Rattle.scrub_report.proofs.OneIndex.{read_of}
 use Rattle.scrub_report.proofs.OneReader.{heads, no_tail, tails}
@@ -107,9 +108,9 @@ run_has image w l es bytes n run =
     let each = part_bytes entry_bytes es entries in
     λ k d below. entry_has (get_or es k d) (each k d below)
 
-binding_has : {resets : List ℕ} (image : Image) (s : Scrubbed) → IsScrubbedBut resets image s → HoldsBytes image → (b : BindingValue) →
+binding_has : (resets : List ℕ) (image : Image) (s : Scrubbed) → IsScrubbedBut resets image s → HoldsBytes image → (b : BindingValue) →
     IsNewestBinding s.read.runs b → HasBytes (record { id = b.id; locators = b.locators })
-binding_has image s x bytes b is =
+binding_has resets image s x bytes b is =
     let found = read_of image s.plan s.read x.read b.run is.entry.entries is.entry.is_read in
     member_bytes HasBytes is.entry.entries (record { id = b.id; locators = b.locators })
     (run_has image found.names.pointer found.locator is.entry.entries bytes found.names.chunk found.run) is.entry.among
@@ -133,13 +134,13 @@ names_of_bytes (b ∷ bs) each =
     (λ k d below. record { id = b.id; owner = refl; of_bytes = one.id; digest = one.digests k d below }))
     (names_of_bytes bs (All-tail (λ v. HasBytes (record { id = v.id; locators = v.locators })) b bs each))
 
-checked_of_bytes : {resets : List ℕ} (image : Image) (s : Scrubbed) → IsScrubbedBut resets image s → HoldsBytes image →
+checked_of_bytes : (resets : List ℕ) (image : Image) (s : Scrubbed) → IsScrubbedBut resets image s → HoldsBytes image →
     All (λ c. IsByteName (named_of c)) (of_shards s.checked)
-checked_of_bytes image s x bytes =
+checked_of_bytes resets image s x bytes =
     subst (λ (cs : List Checked). All (λ c. IsByteName (named_of c)) cs) (sym (shards_part s.plan.runs s.bindings s.checked x.checked.same))
     (unmapped IsByteName named_of (drop (length s.plan.runs) s.checked)
     (subst (λ (ns : List Named). All IsByteName ns) (sym (along_runs s.plan.runs s.bindings s.checked x.checked.same))
-    (names_of_bytes s.bindings (λ k d below. binding_has image s x bytes (get_or s.bindings k d) (x.bindings.newest k d below)))))
+    (names_of_bytes s.bindings (λ k d below. binding_has resets image s x bytes (get_or s.bindings k d) (x.bindings.newest k d below)))))
 
 -- ---- texts of bytes
 
@@ -238,11 +239,11 @@ record IsKnown (c : Checked) : Type 0 where
   name : IsByteName (named_of c)
   numbers : HasSmallNumbers c.locator
 
-all_known : {resets : List ℕ} (image : Image) (s : Scrubbed) → IsScrubbedBut resets image s → HoldsBytes image → All IsKnown (of_shards s.checked)
-all_known image s x bytes =
+all_known : (resets : List ℕ) (image : Image) (s : Scrubbed) → IsScrubbedBut resets image s → HoldsBytes image → All IsKnown (of_shards s.checked)
+all_known resets image s x bytes =
     let numbers : All IsSmall (of_shards s.checked) =
-    subst (All IsSmall) (sym (shards_part s.plan.runs s.bindings s.checked x.checked.same)) (small image s x) in
-    λ k d below. record { name = checked_of_bytes image s x bytes k d below; numbers = numbers k d below }
+    subst (All IsSmall) (sym (shards_part s.plan.runs s.bindings s.checked x.checked.same)) (small resets image s x) in
+    λ k d below. record { name = checked_of_bytes resets image s x bytes k d below; numbers = numbers k d below }
 
 same_traits : (u v : TraitsValue) → u.owner ≡ v.owner → u.length ≡ v.length → u.digest ≡ v.digest → u.status ≡ v.status →
     u.form ≡ v.form → u.place ≡ v.place → u.is_without_spare ≡ v.is_without_spare → u ≡ v
@@ -287,7 +288,7 @@ same_all all others (c ∷ cs) (d ∷ ds) hc hd e =
     (same_one all others c d (All-head IsKnown c cs hc) (All-head IsKnown d ds hd) (heads (held_locator all c) (held_locator others d) (map (held_locator all) cs) (map (held_locator others) ds) e))
     (same_all all others cs ds (All-tail IsKnown c cs hc) (All-tail IsKnown d ds hd) (tails (held_locator all c) (held_locator others d) (map (held_locator all) cs) (map (held_locator others) ds) e))
 
-pub same_shards : {resets others : List ℕ} (image other : Image) (s t : Scrubbed) → IsScrubbedBut resets image s → IsScrubbedBut others other t → HoldsBytes image →
+pub same_shards : (resets others : List ℕ) (image other : Image) (s t : Scrubbed) → IsScrubbedBut resets image s → IsScrubbedBut others other t → HoldsBytes image →
     HoldsBytes other → all_held s ≡ all_held t → all_traits s ≡ all_traits t
-same_shards image other s t x y bx by e =
-    same_all s.all t.all (of_shards s.checked) (of_shards t.checked) (all_known image s x bx) (all_known other t y by) e
+same_shards resets others image other s t x y bx by e =
+    same_all s.all t.all (of_shards s.checked) (of_shards t.checked) (all_known resets image s x bx) (all_known others other t y by) e

@@ -24,7 +24,9 @@ use Rattle.scrub_frame.specs.declared.locator.Locator.{Locator}
 use Rattle.scrub_frame.specs.Locator.{IsLocator}
 use Rattle.scrub_super.specs.Chosen.{Choice, IsChoice}
 use Rattle.scrub_super.specs.Contents.{Contents}
-use Rattle.scrub_super.specs.Plan.{IsPlanBy, IsPlanOf, IsPlanWithout, PlanValue}
+use Rattle.scrub_super.specs.Plan.{PlanValue, plan_of}
+use Rattle.scrub_super.specs.steps.PlanParts.{IsPlanBy, IsPlanWithout}
+use Rattle.scrub_super.proofs.PlanParts.{plan_parts}
 use Rattle.scrub_super.specs.Planned.{AreRetired}
 use Rattle.scrub_super.specs.Record.{AreContents}
 use Rattle.scrub_super.proofs.NewestRecords.{superblock_fits}
@@ -45,10 +47,10 @@ use Rattle.scrub_check.specs.ChunkForms.{form_at}
 use Rattle.scrub_check.specs.Named.{named_locators, named_by_shard}
 use Rattle.scrub_check.specs.Spares.{spares_of}
 use Rattle.scrub_check.proofs.Listed.{as_many}
-use Rattle.scrub_report.specs.Index.{indexed}
-use Rattle.scrub_report.specs.Scrubbed.{Scrubbed, IsScrubbedBut}
+use Rattle.scrub_report.specs.Resets.{IsScrubbedBut}
+use Rattle.scrub_report.specs.Scrubbed.{Scrubbed}
 use Rattle.scrub_report.specs.Texts.{owner_text, status_text, uuid_text}
-use Rattle.scrub_report.proofs.Indexable.{countable, entries_are, entries_fit, runs_few}
+use Rattle.scrub_report.proofs.Indexable.{countable, entries_are, entries_fit, indexed, runs_few}
 use Rattle.scrub_report.proofs.OneReader.{heads, no_tail, tails}
 use Rattle.scrub_report.proofs.ResetPlans.{plan_before}
 use Rattle.scrub_listings.specs.Manifest.{HeldValue, HoldTheSame, after_status_in, all_held, form_text, form_word, held_locator, hidden_runs, is_of_read_run, is_whole, looked_for, lost_runs, manifest_text, numbered_lines, of_shards, shard_lines, spare_text, text_by, two_digits}
@@ -569,11 +571,11 @@ total_of s = (length s.bindings, length (of_shards s.checked))
 abbrev bodies_of : Scrubbed → List (List ℕ)
 bodies_of s = bodies s.all s.plan.retired (lost_runs s) (hidden_runs s) (pairs_of s) (total_of s)
 
-text_of : {resets : List ℕ} (image : Image) (s : Scrubbed) → IsScrubbedBut resets image s → (b : Bool) → b ≡ true →
+text_of : (resets : List ℕ) (image : Image) (s : Scrubbed) → IsScrubbedBut resets image s → (b : Bool) → b ≡ true →
     text_by (after_status_in s.all) b s.plan.retired (lost_runs s) (hidden_runs s) s.bindings (of_shards s.checked)
     ≡ flat_map ended (bodies_of s)
-text_of image s x false e = absurd (false≢true e)
-text_of image s x true e =
+text_of resets image s x false e = absurd (false≢true e)
+text_of resets image s x true e =
     let cs = drop (length s.plan.runs) s.checked in
     let after = after_status_in s.all in
     let start = ended (retired_body s.plan.retired) ++ ended (runs_body (lost_runs s) (hidden_runs s)) in
@@ -587,23 +589,23 @@ text_of image s x true e =
 
 -- ---- sizes
 
-planned_small : (image : Image) (choice : Choice) (plan : PlanValue) → IsChoice image choice → IsPlanOf choice plan →
+planned_small : (image : Image) (choice : Choice) (plan : PlanValue) → IsChoice image choice → plan ≡ plan_of choice →
     All IsSmallNumber plan.retired
-planned_small image choice plan chosen is = by choice.superblock (superblock_fits chosen) is.by
+planned_small image choice plan chosen is = by choice.superblock (superblock_fits chosen) (plan_parts choice plan is).by
   where
     listed : (o : Option (List ℕ)) → IfSome o (AreRetired image.geometry.extents) → All IsSmallNumber (unwrap_or o [])
     listed None h = All-nil IsSmallNumber
     listed (Some es) h =
         All-weaker (λ e. e < image.geometry.extents) IsSmallNumber
-        (λ e below. omega (arith, below, image.geometry.extent_count.most)) es h.below
+        (λ e below. omega (arith, below, image.geometry.extents_most)) es h.below
 
     by : (c : Option Contents) → IfSome c (AreContents image.geometry) →
         MatchOption c (IsPlanWithout plan choice.geometry) (IsPlanBy plan) → All IsSmallNumber plan.retired
     by None fits planned = subst (All IsSmallNumber) (sym planned.retired) (All-nil IsSmallNumber)
     by (Some c) fits planned = subst (All IsSmallNumber) (sym planned.retired) (listed c.retired fits.retired)
 
-retired_small : {resets : List ℕ} (image : Image) (s : Scrubbed) → IsScrubbedBut resets image s → All IsSmallNumber s.plan.retired
-retired_small {resets} image s x =
+retired_small : (resets : List ℕ) (image : Image) (s : Scrubbed) → IsScrubbedBut resets image s → All IsSmallNumber s.plan.retired
+retired_small resets image s x =
     let old = plan_before resets s.choice s.plan x.plan in
     subst (All IsSmallNumber) (sym old.2) (planned_small image s.choice old.0 x.choice old.1)
 
@@ -617,22 +619,22 @@ numbers_small (b ∷ bs) each =
     (All-head (λ v. IsEntry (indexed v)) b bs each).each))
     (numbers_small bs (All-tail (λ v. IsEntry (indexed v)) b bs each))
 
-pub small : {resets : List ℕ} (image : Image) (s : Scrubbed) → IsScrubbedBut resets image s → All IsSmall (drop (length s.plan.runs) s.checked)
-small image s x =
+pub small : (resets : List ℕ) (image : Image) (s : Scrubbed) → IsScrubbedBut resets image s → All IsSmall (drop (length s.plan.runs) s.checked)
+small resets image s x =
     unmapped (λ (n : Named). HasSmallNumbers n.locator) named_of (drop (length s.plan.runs) s.checked)
     (subst (λ (ns : List Named). All (λ (n : Named). HasSmallNumbers n.locator) ns)
-    (sym (along_runs s.plan.runs s.bindings s.checked x.checked.same)) (numbers_small s.bindings (entries_are image s x)))
+    (sym (along_runs s.plan.runs s.bindings s.checked x.checked.same)) (numbers_small s.bindings (entries_are resets image s x)))
 
-lost_small : {resets : List ℕ} (image : Image) (s : Scrubbed) → IsScrubbedBut resets image s → IsSmallNumber (lost_runs s)
-lost_small image s x =
-    omega (arith, count_by-le-length is_none s.read.runs, as_many image s.plan s.read x.read, runs_few image s x)
+lost_small : (resets : List ℕ) (image : Image) (s : Scrubbed) → IsScrubbedBut resets image s → IsSmallNumber (lost_runs s)
+lost_small resets image s x =
+    omega (arith, count_by-le-length is_none s.read.runs, as_many image s.plan s.read x.read, runs_few resets image s x)
 
-hidden_small : {resets : List ℕ} (image : Image) (s : Scrubbed) → IsScrubbedBut resets image s → IsSmallNumber (hidden_runs s)
-hidden_small image s x =
+hidden_small : (resets : List ℕ) (image : Image) (s : Scrubbed) → IsScrubbedBut resets image s → IsSmallNumber (hidden_runs s)
+hidden_small resets image s x =
     omega (
       arith,
       hidden_few s.plan.runs s.bindings s.checked is_hidden (is_of_read_run s.read.runs) x.checked.same (λ id. refl),
-      runs_few image s x,
+      runs_few resets image s x,
     )
 
 names_few : (bs : List BindingValue) → All (λ b. length b.locators ≤ 64) bs → length (flat_map named_by_shard bs) ≤ 64 * length bs
@@ -644,27 +646,27 @@ names_few (b ∷ bs) few =
     length-map {B = Named} b.locators (λ (l : Locator). record { owner = Shard b.id; locator = l }) in
     omega (arith, rest, one, own, length-append (named_by_shard b) (flat_map named_by_shard bs))
 
-locators_few : {resets : List ℕ} (image : Image) (s : Scrubbed) → IsScrubbedBut resets image s → IsSmallNumber (length (of_shards s.checked))
-locators_few image s x =
+locators_few : (resets : List ℕ) (image : Image) (s : Scrubbed) → IsScrubbedBut resets image s → IsSmallNumber (length (of_shards s.checked))
+locators_few resets image s x =
     let cs = drop (length s.plan.runs) s.checked in
     let part : length (of_shards s.checked) ≡ length cs =
     ap (λ (us : List Checked). length us) (shards_part s.plan.runs s.bindings s.checked x.checked.same) in
     let names : length (map named_of cs) ≡ length (flat_map named_by_shard s.bindings) =
     ap (λ (ns : List Named). length ns) (along_runs s.plan.runs s.bindings s.checked x.checked.same) in
     let same : length (map named_of cs) ≡ length cs = length-map cs named_of in
-    let few : length (flat_map named_by_shard s.bindings) ≤ 64 * length s.bindings = names_few s.bindings (entries_fit image s x) in
-    let most : length s.bindings < 2 ^ 32 = countable image s x in
+    let few : length (flat_map named_by_shard s.bindings) ≤ 64 * length s.bindings = names_few s.bindings (entries_fit resets image s x) in
+    let most : length s.bindings < 2 ^ 32 = countable resets image s x in
     omega (arith, part, names, same, few, most)
 
-total_free : {resets : List ℕ} (image : Image) (s : Scrubbed) → IsScrubbedBut resets image s →
+total_free : (resets : List ℕ) (image : Image) (s : Scrubbed) → IsScrubbedBut resets image s →
     IsLine (total_body (length s.bindings) (length (of_shards s.checked)))
-total_free image s x =
+total_free resets image s x =
     let n = length s.bindings in
     let m = length (of_shards s.checked) in
-    let most : n < 2 ^ 32 = countable image s x in
+    let most : n < 2 ^ 32 = countable resets image s x in
     joined (codes "total" ++ (32 ∷ decimal n)) (32 ∷ decimal m)
     (joined (codes "total") (32 ∷ decimal n) (line_of_literal (codes "total") refl) (spaced_line (decimal n) (decimal_word n (omega (arith, most)))))
-    (spaced_line (decimal m) (decimal_word m (locators_few image s x)))
+    (spaced_line (decimal m) (decimal_word m (locators_few resets image s x)))
 
 -- ---- without a superblock nothing is named
 
@@ -683,17 +685,17 @@ record IsBare (s : Scrubbed) : Type 0 where
   read : s.read.runs ≡ []
   checked : s.checked ≡ []
 
-planned_bare : (choice : Choice) (plan : PlanValue) → IsPlanOf choice plan → plan.has_superblock ≡ false →
+planned_bare : (choice : Choice) (plan : PlanValue) → plan ≡ plan_of choice → plan.has_superblock ≡ false →
     (plan.retired ≡ []) × (plan.runs ≡ [])
-planned_bare choice plan is none = by choice.superblock is.by
+planned_bare choice plan is none = by choice.superblock (plan_parts choice plan is).by
   where
     by : (c : Option Contents) → MatchOption c (IsPlanWithout plan choice.geometry) (IsPlanBy plan) →
         (plan.retired ≡ []) × (plan.runs ≡ [])
     by None planned = (planned.retired, planned.runs)
     by (Some c) planned = absurd (false≢true (sym none ∙ planned.has))
 
-bare : {resets : List ℕ} (image : Image) (s : Scrubbed) → IsScrubbedBut resets image s → s.plan.has_superblock ≡ false → IsBare s
-bare {resets} image s x none =
+bare : (resets : List ℕ) (image : Image) (s : Scrubbed) → IsScrubbedBut resets image s → s.plan.has_superblock ≡ false → IsBare s
+bare resets image s x none =
     let old = plan_before resets s.choice s.plan x.plan in
     let planned = planned_bare s.choice old.0 old.1 (sym old.4 ∙ none) in
     let names = no_names s.plan.runs s.read.runs s.bindings s.checked (old.3 ∙ planned.1) (as_many image s.plan s.read x.read) x.bindings.newest x.checked.same in
@@ -702,30 +704,30 @@ bare {resets} image s x none =
 -- ---- the law
 
 -- what is said of the shards' locators, by the numbered ones
-said : {resets : List ℕ} (image : Image) (s : Scrubbed) → IsScrubbedBut resets image s →
+said : (resets : List ℕ) (image : Image) (s : Scrubbed) → IsScrubbedBut resets image s →
     map (λ p. held_locator s.all p.1) (pairs_along s.bindings (drop (length s.plan.runs) s.checked)) ≡ all_held s
-said image s x =
+said resets image s x =
     let cs = drop (length s.plan.runs) s.checked in
     sym (map-map (held_locator s.all) (λ (p : ℕ × Checked). p.1) (pairs_along s.bindings cs))
     ∙ ap (map (held_locator s.all)) (all_paired s.bindings cs (along_runs s.plan.runs s.bindings s.checked x.checked.same)
     ∙ sym (shards_part s.plan.runs s.bindings s.checked x.checked.same))
 
-held_all : {resets : List ℕ} (image : Image) (s : Scrubbed) → IsScrubbedBut resets image s → All IsHeld (pairs_of s)
-held_all image s x =
-    held_along s.bindings (drop (length s.plan.runs) s.checked) (entries_fit image s x)
-    (along_runs s.plan.runs s.bindings s.checked x.checked.same) (small image s x)
+held_all : (resets : List ℕ) (image : Image) (s : Scrubbed) → IsScrubbedBut resets image s → All IsHeld (pairs_of s)
+held_all resets image s x =
+    held_along s.bindings (drop (length s.plan.runs) s.checked) (entries_fit resets image s x)
+    (along_runs s.plan.runs s.bindings s.checked x.checked.same) (small resets image s x)
 
-all_lines : {resets : List ℕ} (image : Image) (s : Scrubbed) → IsScrubbedBut resets image s →
+all_lines : (resets : List ℕ) (image : Image) (s : Scrubbed) → IsScrubbedBut resets image s →
     All IsLine (bodies_of s)
-all_lines image s x =
+all_lines resets image s x =
     let l = lost_runs s in
     let h = hidden_runs s in
     let rest = map (held_body s.all) (pairs_of s) ++ total_body (length s.bindings) (length (of_shards s.checked)) ∷ [] in
-    All-cons IsLine (retired_body s.plan.retired) (runs_body l h ∷ rest) (retired_free s.plan.retired (retired_small image s x))
-    (All-cons IsLine (runs_body l h) rest (runs_free l h (lost_small image s x) (hidden_small image s x))
+    All-cons IsLine (retired_body s.plan.retired) (runs_body l h ∷ rest) (retired_free s.plan.retired (retired_small resets image s x))
+    (All-cons IsLine (runs_body l h) rest (runs_free l h (lost_small resets image s x) (hidden_small resets image s x))
     (All-append IsLine (map (held_body s.all) (pairs_of s)) (total_body (length s.bindings) (length (of_shards s.checked)) ∷ [])
-    (All-map IsLine (held_body s.all) (pairs_of s) (All-weaker IsHeld (λ p. IsLine (held_body s.all p)) (held_free s.all) (pairs_of s) (held_all image s x)))
-    (All-cons IsLine (total_body (length s.bindings) (length (of_shards s.checked))) [] (total_free image s x) (All-nil IsLine))))
+    (All-map IsLine (held_body s.all) (pairs_of s) (All-weaker IsHeld (λ p. IsLine (held_body s.all p)) (held_free s.all) (pairs_of s) (held_all resets image s x)))
+    (All-cons IsLine (total_body (length s.bindings) (length (of_shards s.checked))) [] (total_free resets image s x) (All-nil IsLine))))
 
 -- the text without a superblock
 abbrev bare_text : List ℕ
@@ -745,21 +747,21 @@ module _ (resets others : List ℕ) (image other : Image) (s t : Scrubbed) (x : 
       let qs = map (held_body t.all) (pairs_of t) ++ total_body (length t.bindings) (length (of_shards t.checked)) ∷ [] in
       let rs = runs_body (lost_runs s) (hidden_runs s) in
       let rt = runs_body (lost_runs t) (hidden_runs t) in
-      let lines = same_closed 10 (retired_body s.plan.retired ∷ rs ∷ ps) (retired_body t.plan.retired ∷ rt ∷ qs) (all_lines image s x) (all_lines other t y) e in
+      let lines = same_closed 10 (retired_body s.plan.retired ∷ rs ∷ ps) (retired_body t.plan.retired ∷ rt ∷ qs) (all_lines resets image s x) (all_lines others other t y) e in
       let behind = tails (retired_body s.plan.retired) (retired_body t.plan.retired) (rs ∷ ps) (rt ∷ qs) lines in
-      let runs = same_runs (lost_runs s) (hidden_runs s) (lost_runs t) (hidden_runs t) (lost_small image s x) (hidden_small image s x) (lost_small other t y) (hidden_small other t y) (heads rs rt ps qs behind) in
+      let runs = same_runs (lost_runs s) (hidden_runs s) (lost_runs t) (hidden_runs t) (lost_small resets image s x) (hidden_small resets image s x) (lost_small others other t y) (hidden_small others other t y) (heads rs rt ps qs behind) in
       record {
         superblock = hs ∙ sym ht;
-        retired = same_retired s.plan.retired t.plan.retired (retired_small image s x) (retired_small other t y) (heads (retired_body s.plan.retired) (retired_body t.plan.retired) (rs ∷ ps) (rt ∷ qs) lines);
+        retired = same_retired s.plan.retired t.plan.retired (retired_small resets image s x) (retired_small others other t y) (heads (retired_body s.plan.retired) (retired_body t.plan.retired) (rs ∷ ps) (rt ∷ qs) lines);
         lost = runs.0;
         hidden = runs.1;
-        shards = sym (said image s x) ∙ same_bodies s.all t.all (total_of s) (total_of t) (pairs_of s) (pairs_of t) (held_all image s x) (held_all other t y) (tails rs rt ps qs behind) ∙ said other t y;
+        shards = sym (said resets image s x) ∙ same_bodies s.all t.all (total_of s) (total_of t) (pairs_of s) (pairs_of t) (held_all resets image s x) (held_all others other t y) (tails rs rt ps qs behind) ∙ said others other t y;
       }
 
   without : s.plan.has_superblock ≡ false → t.plan.has_superblock ≡ false → HoldTheSame s t
   without hs ht =
-      let bs = bare image s x hs in
-      let bt = bare other t y ht in
+      let bs = bare resets image s x hs in
+      let bt = bare others other t y ht in
       record {
         superblock = hs ∙ sym ht;
         retired = bs.retired ∙ sym bt.retired;
@@ -777,11 +779,11 @@ module _ (resets others : List ℕ) (image other : Image) (s t : Scrubbed) (x : 
   by_superblock : (b c : Bool) → s.plan.has_superblock ≡ b → t.plan.has_superblock ≡ c →
       text_by (after_status_in s.all) b s.plan.retired (lost_runs s) (hidden_runs s) s.bindings (of_shards s.checked)
       ≡ text_by (after_status_in t.all) c t.plan.retired (lost_runs t) (hidden_runs t) t.bindings (of_shards t.checked) → HoldTheSame s t
-  by_superblock true true hs ht e = with_superblocks hs ht (sym (text_of image s x true refl) ∙ e ∙ text_of other t y true refl)
+  by_superblock true true hs ht e = with_superblocks hs ht (sym (text_of resets image s x true refl) ∙ e ∙ text_of others other t y true refl)
   by_superblock true false hs ht e =
-      absurd (never_bare (flat_map spaced_number s.plan.retired) _ (sym e ∙ text_of image s x true refl))
+      absurd (never_bare (flat_map spaced_number s.plan.retired) _ (sym e ∙ text_of resets image s x true refl))
   by_superblock false true hs ht e =
-      absurd (never_bare (flat_map spaced_number t.plan.retired) _ (e ∙ text_of other t y true refl))
+      absurd (never_bare (flat_map spaced_number t.plan.retired) _ (e ∙ text_of others other t y true refl))
   by_superblock false false hs ht e = without hs ht
 
   pub same_content : manifest_text s ≡ manifest_text t → HoldTheSame s t

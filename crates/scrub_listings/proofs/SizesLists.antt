@@ -355,10 +355,10 @@ clean_front bytes lost records ranges h = (
   }),
 )
 
-pub listing_known : (raw : Option (List ℕ)) (lacking : List ℕ) (failures : ℕ) (records : List FoundRecord) (ranges : List LostBytes) (lines : List SizesLine) (text : List ℕ) (clean : Bool) →
-    AreFoundInSome raw lacking failures records ranges →
+pub listing_known : (raw : Option (List ℕ)) (lacking : List ℕ) {fails : ℕ → ℕ → Bool} (failures : ℕ) (records : List FoundRecord) (ranges : List LostBytes) (lines : List SizesLine) (text : List ℕ) (clean : Bool) →
+    AreFoundInSome raw lacking fails failures records ranges →
     (CanMerge records ranges → AreInOrder records ranges lines) → text ≡ size_lines lines →
-    IsTrue clean ↔ AreCleanLists records ranges → IsSizesListingOf raw lacking failures text clean
+    IsTrue clean ↔ AreCleanLists records ranges → IsSizesListingOf raw lacking fails failures text clean
 listing_known raw lacking failures records ranges lines text clean some merged is answer =
     let bytes = some.bytes in
     let found = some.found in
@@ -381,10 +381,10 @@ listing_known raw lacking failures records ranges lines text clean some merged i
     }
 
 -- the sizes of all records in the bytes in which they were found
-pub sizes_known : (raw : Option (List ℕ)) (lacking : List ℕ) (failures : ℕ) (records : List FoundRecord) (ranges : List LostBytes) →
-    AreFoundInSome raw lacking failures records ranges → (o : Option Geometry) →
+pub sizes_known : (raw : Option (List ℕ)) (lacking : List ℕ) {fails : ℕ → ℕ → Bool} (failures : ℕ) (records : List FoundRecord) (ranges : List LostBytes) →
+    AreFoundInSome raw lacking fails failures records ranges → (o : Option Geometry) →
     MatchOption o (¬ AreCleanLists records ranges) (λ g. AreCleanLists records ranges × All (λ r. r.geometry ≡ g) records) →
-    AreSizesOf raw lacking failures o
+    AreSizesOf raw lacking fails failures o
 sizes_known raw lacking failures records ranges some o answer = record {
   bytes = some.bytes;
   known = some.known;
@@ -452,9 +452,9 @@ moved_record bytes others lost gone r same none nothing f =
     (λ i small. left_at bytes lost i (none (i / 512)) ∙ ap (λ (xs : List ℕ). slice_get xs i) same ∙ sym (left_at others gone i (nothing (i / 512))))
     f
 
-pub one_size_lem : (bytes lacking others : List ℕ) (failures more : ℕ) (g h : Geometry) →
-    AreSizesOf (Some bytes) lacking failures (Some g) → AreSizesOf (Some bytes) others more (Some h) → g ≡ h
-one_size_lem bytes lacking others failures more g h x y =
+pub one_size_lem : (bytes lacking others : List ℕ) (fails faults : ℕ → ℕ → Bool) (failures more : ℕ) (g h : Geometry) →
+    AreSizesOf (Some bytes) lacking fails failures (Some g) → AreSizesOf (Some bytes) others faults more (Some h) → g ≡ h
+one_size_lem bytes lacking others fails faults failures more g h x y =
     let one = x.sizes.clean.some in
     sym (x.sizes.each one.0 one.1)
     ∙ y.sizes.each one.0

@@ -191,10 +191,10 @@ some_clean_front bytes lost =
     let found = some_found bytes lost in
     truth (clean_front bytes lost found.0 found.1 found.2) (decided_clean found.0 found.1)
 
-pub some_sizes_listing : (raw : Option (List ℕ)) (lacking : List ℕ) (failures : ℕ) →
-    (text : List ℕ) × (clean : Bool) × IsSizesListingOf raw lacking failures text clean
-some_sizes_listing raw lacking failures =
-    let some = some_found_in raw lacking failures in
+pub some_sizes_listing : (raw : Option (List ℕ)) (lacking : List ℕ) (fails : ℕ → ℕ → Bool) (failures : ℕ) →
+    (text : List ℕ) × (clean : Bool) × IsSizesListingOf raw lacking fails failures text clean
+some_sizes_listing raw lacking fails failures =
+    let some = some_found_in raw lacking fails failures in
     let found = some.2.found in
     let lines = some_lines some.0 some.1 (can_merge some.2.bytes found.lost some.0 some.1 found.found) in
     let Clean : Type 0 = AreCleanLists some.0 some.1 in
@@ -204,9 +204,9 @@ some_sizes_listing raw lacking failures =
       listing_known raw lacking failures some.0 some.1 lines.0 (size_lines lines.0) clean.0 some.2 (λ can. lines.1) refl clean.1,
     )
 
-pub some_sizes_of : (raw : Option (List ℕ)) (lacking : List ℕ) (failures : ℕ) →
-    (found : Option Geometry) × AreSizesOf raw lacking failures found
-some_sizes_of raw lacking failures =
-    let some = some_found_in raw lacking failures in
+pub some_sizes_of : (raw : Option (List ℕ)) (lacking : List ℕ) (fails : ℕ → ℕ → Bool) (failures : ℕ) →
+    (found : Option Geometry) × AreSizesOf raw lacking fails failures found
+some_sizes_of raw lacking fails failures =
+    let some = some_found_in raw lacking fails failures in
     let sizes = some_sizes some.0 some.1 in
     (sizes.0, sizes_known raw lacking failures some.0 some.1 some.2 sizes.0 sizes.1)

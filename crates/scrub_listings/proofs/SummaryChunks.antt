@@ -9,7 +9,7 @@ use Rattle.scrub_scan.specs.declared.item.Item.{Item}
 use Rattle.scrub_scan.specs.declared.item.Item.TheVariants.{Chunk, Lost, Noise, Pad, Torn}
 use Rattle.scrub_check.specs.declared.lists.place.Place.{Place}
 use Rattle.scrub_check.specs.declared.statuses.checked.Checked.{Checked}
-use Rattle.scrub_check.specs.Chunks.{chunks, chunks_in, orphans, place_of}
+use Rattle.scrub_check.specs.Chunks.{chunks, orphans, place_of}
 use Rattle.scrub_check.specs.Live.{has_sound_at, is_chunk, live_bytes, size_of}
 use Rattle.scrub_listings.specs.Summary.{chunk_bytes, is_orphan, items_of, live_count, one_if, orphan_bytes}
 
@@ -45,6 +45,10 @@ sum_both f g h (x ∷ xs) both =
     let here = both x in
     let later = sum_both f g h xs both in
     omega (arith, a, b, d, here, later)
+
+-- the places of the chunks of one extent, in the order of its items
+abbrev chunks_in : Scanned → List Place
+chunks_in f = filter_map (place_of f.extent) f.findings.items
 
 pub chunks_counted : (all : List Scanned) → sum_by (items_of is_chunk) all ≡ length (chunks all)
 chunks_counted all =

@@ -56,29 +56,29 @@ pub record IsCleanFront (bytes : List ℕ) (lost : List Bool) : Type 0 where
   pub nothing_lost : (n : ℕ) → ¬ IsMarked lost n
 
 -- the text and the verdict whether it is clean are those of raw bytes, for some lost blocks that fit these first lacking
--- bytes and this many failures
-pub record IsSizesListing (bytes lacking : List ℕ) (failures : ℕ) (text : List ℕ) (clean : Bool) : Type 0 where
+-- bytes, the reads that may fail, and this many failures
+pub record IsSizesListing (bytes lacking : List ℕ) (fails : ℕ → ℕ → Bool) (failures : ℕ) (text : List ℕ) (clean : Bool) : Type 0 where
   pub lost : List Bool
-  pub loses : LosesBlocks bytes lacking failures lost
+  pub loses : LosesBlocks bytes lacking fails failures lost
   pub lines : AreSizesLines bytes lost text
   pub is_clean : IsTrue clean ↔ IsCleanFront bytes lost
 
 -- the listing of sizes of some bytes: those of the raw image if they are known, or else any
-pub record IsSizesListingOf (raw : Option (List ℕ)) (lacking : List ℕ) (failures : ℕ) (text : List ℕ) (clean : Bool) : Type 0 where
+pub record IsSizesListingOf (raw : Option (List ℕ)) (lacking : List ℕ) (fails : ℕ → ℕ → Bool) (failures : ℕ) (text : List ℕ) (clean : Bool) : Type 0 where
   pub bytes : List ℕ
   pub known : IfSome raw (λ all. bytes ≡ all)
-  pub listing : IsSizesListing bytes lacking failures text clean
+  pub listing : IsSizesListing bytes lacking fails failures text clean
 
 -- a disk has these sizes, by raw bytes with these lost blocks: there is a record, all records have them, and nothing is lost
 pub record AreSizesBy (bytes : List ℕ) (lost : List Bool) (g : Geometry) : Type 0 where
   pub clean : IsCleanFront bytes lost
   pub each : (r : FoundRecord) → IsFoundRecord (byte_left bytes lost) r → r.geometry ≡ g
 
--- the sizes of a disk by some bytes, as above, and for some lost blocks that fit these first lacking bytes and this many
--- failures; or None if there is no record, not all have the same sizes, or something is lost
-pub record AreSizesOf (raw : Option (List ℕ)) (lacking : List ℕ) (failures : ℕ) (found : Option Geometry) : Type 0 where
+-- the sizes of a disk by some bytes, as above, and for some lost blocks that fit these first lacking bytes, the reads that
+-- may fail, and this many failures; or None if there is no record, not all have the same sizes, or something is lost
+pub record AreSizesOf (raw : Option (List ℕ)) (lacking : List ℕ) (fails : ℕ → ℕ → Bool) (failures : ℕ) (found : Option Geometry) : Type 0 where
   pub bytes : List ℕ
   pub known : IfSome raw (λ all. bytes ≡ all)
   pub lost : List Bool
-  pub loses : LosesBlocks bytes lacking failures lost
+  pub loses : LosesBlocks bytes lacking fails failures lost
   pub sizes : MatchOption found (¬ IsCleanFront bytes lost) (AreSizesBy bytes lost)

@@ -60,9 +60,11 @@ pub fn find_sizes<R: RawImage>(
 ) -> Result<Option<Geometry>, OutOfMemory>
     requires few_reads { R.reads raw.old < 2 ^ 62 }
     ensures sizes { IfOk result
-        (AreSizesOf (R.bytes raw.old) lacking.now (R.failures raw.new - R.failures raw.old)) }
+        (AreSizesOf (R.bytes raw.old) lacking.now (R.fails raw.old)
+        (R.failures raw.new - R.failures raw.old)) }
     ensures failures { R.failures raw.old ≤ R.failures raw.new }
     ensures same_bytes { R.bytes raw.new ≡ R.bytes raw.old }
+    ensures same_fails { R.fails raw.new ≡ R.fails raw.old }
     ensures same_bound { R.most_failures raw.new ≡ R.most_failures raw.old }
     ensures reads { R.reads raw.new ≤ R.reads raw.old + max_extent_bytes }
 {
@@ -72,8 +74,9 @@ pub fn find_sizes<R: RawImage>(
 
 /// A law: the sizes that are found in given bytes are the same whatever blocks lack and whichever reads fail.
 pub fn one_size()
-    ensures { (bytes lacking others : List ℕ) (failures more : ℕ) (g h : Geometry) →
-        AreSizesOf (Some bytes) lacking failures (Some g) → AreSizesOf (Some bytes) others more (Some h) →
+    ensures { (bytes lacking others : List ℕ) (fails faults : ℕ → ℕ → Bool) (failures more : ℕ) (g h : Geometry) →
+        AreSizesOf (Some bytes) lacking fails failures (Some g) →
+        AreSizesOf (Some bytes) others faults more (Some h) →
         g ≡ h }
 {}
 
@@ -94,10 +97,11 @@ pub fn list_sizes<R: RawImage>(
 ) -> Result<Listing, OutOfMemory>
     requires few_reads { R.reads raw.old < 2 ^ 62 }
     ensures listing { IfOk result (λ l.
-        IsSizesListingOf (R.bytes raw.old) lacking.now (R.failures raw.new - R.failures raw.old)
-        l.text.items l.is_clean) }
+        IsSizesListingOf (R.bytes raw.old) lacking.now (R.fails raw.old)
+        (R.failures raw.new - R.failures raw.old) l.text.items l.is_clean) }
     ensures failures { R.failures raw.old ≤ R.failures raw.new }
     ensures same_bytes { R.bytes raw.new ≡ R.bytes raw.old }
+    ensures same_fails { R.fails raw.new ≡ R.fails raw.old }
     ensures same_bound { R.most_failures raw.new ≡ R.most_failures raw.old }
     ensures reads { R.reads raw.new ≤ R.reads raw.old + max_extent_bytes }
 {
@@ -116,12 +120,13 @@ pub fn one_sizes_listing()
 
 /// A law: for given bytes and lost blocks there is a listing, and with `one_sizes_listing` exactly one. It is
 /// decided whether it is clean. So raw bytes have a listing, and their sizes or none, whatever blocks lack and
-/// however many reads fail.
+/// whichever reads fail.
 pub fn each_front_has_a_sizes_listing()
     ensures text { (bytes : List ℕ) (lost : List Bool) → (text : List ℕ) × AreSizesLines bytes lost text }
-    ensures clean { (bytes : List ℕ) (lost : List Bool) → (clean : Bool) × (IsTrue clean ↔ IsCleanFront bytes lost) }
-    ensures listing { (raw : Option (List ℕ)) (lacking : List ℕ) (failures : ℕ) →
-        (text : List ℕ) × (clean : Bool) × IsSizesListingOf raw lacking failures text clean }
-    ensures sizes { (raw : Option (List ℕ)) (lacking : List ℕ) (failures : ℕ) →
-        (found : Option Geometry) × AreSizesOf raw lacking failures found }
+    ensures clean { (bytes : List ℕ) (lost : List Bool) →
+        (clean : Bool) × (IsTrue clean ↔ IsCleanFront bytes lost) }
+    ensures listing { (raw : Option (List ℕ)) (lacking : List ℕ) (fails : ℕ → ℕ → Bool) (failures : ℕ) →
+        (text : List ℕ) × (clean : Bool) × IsSizesListingOf raw lacking fails failures text clean }
+    ensures sizes { (raw : Option (List ℕ)) (lacking : List ℕ) (fails : ℕ → ℕ → Bool) (failures : ℕ) →
+        (found : Option Geometry) × AreSizesOf raw lacking fails failures found }
 {}

@@ -1,5 +1,5 @@
 -- Members that have ended, joined one by one.
-use Rattle.std.proofs.Common.{◌≡◌, Some, ◌+◌, ◌-◌, ◌++◌, ◌∷◌, ◌∙◌, ℕ, List, [], All, map, length, sum_by, arith, sym, ap, append_assoc, append-nil, length-append, Vec, Global}
+use Rattle.std.proofs.Common.{◌≡◌, Some, ◌+◌, ◌-◌, ◌++◌, ◌∷◌, ◌∙◌, ℕ, List, [], All, map, length, subst, sum_by, arith, sym, ap, append_assoc, append-nil, length-append, Vec, Global}
 use Rattle.std.specs.List.Sorted.{IsPermutation, IsStrictlyIncreasing}
 use Rattle.std.proofs.lemmas.List.{map-append}
 use Rattle.std.proofs.lemmas.List.Concat.{flat_map-append}
@@ -90,6 +90,7 @@ partition_of planned own joined lists is own_rises joined_rise whole = record {
   rising =
       All-same IsStrictlyIncreasing lists (joined ++ own ∷ []) is
       (All-push IsStrictlyIncreasing joined own joined_rise own_rises);
-  whole = rw (ap one_list is ∙ one_list_push joined own)
+  whole =
+      subst (λ (all : List ℕ). IsPermutation all planned) (sym (ap one_list is ∙ one_list_push joined own))
       (IsPermutation-trans (one_list joined ++ own) (own ++ one_list joined) planned (IsPermutation-append_comm (one_list joined) own) whole);
 }

@@ -3,11 +3,11 @@ use Rattle.std.proofs.Common.{◌≡◌, ◌++◌, ◌==◌, ◌&&◌, ℕ, Bool
 use Rattle.std.specs.List.{Contains, flat_map}
 use Rattle.std.proofs.lemmas.Bool.{eq-eqb}
 use Rattle.std.proofs.lemmas.List.Elements.{Contains-append_left, Contains-append_right, All-contains_itself}
-use Rattle.std.proofs.lemmas.List.Folds.{flat_map-map}
 use Rattle.scrub_disk.specs.Image.{Image}
 use Rattle.scrub_super.specs.declared.pages.SuperblockPage.{SuperblockPage}
 use Rattle.scrub_super.specs.Planned.{extents_in_use}
 use Rattle.scrub_super.proofs.PageLaws.{one_list_of_pages}
+use Rattle.scrub_super.proofs.PlanParts.{plan_parts}
 use Rattle.scrub_frame.proofs.Elements.{Contains-cases, Contains-filter}
 use Rattle.scrub_check.specs.declared.lists.kept_chunk.KeptChunk.{KeptChunk}
 use Rattle.scrub_check.specs.declared.statuses.checked.Checked.{Checked}
@@ -25,7 +25,8 @@ use Rattle.scrub_report.proofs.OneReport.{one_scrub}
 use Rattle.scrub_reclaim.specs.Doubts.{Acceptance, accepted_on}
 use Rattle.scrub_reclaim.specs.declared.doubts.Doubt.{Doubt}
 use Rattle.scrub_reclaim.specs.Doubts.{are_accepted, doubts_in}
-use Rattle.scrub_reclaim.specs.Reclaimable.{AreMoved, AreOfCandidates, AreReclaimLines, IsClear, IsMoved, accepted_in, candidate_lines, doubt_line, doubts_for, is_clear, pointing_to, points_to, reclaim_text, reclaimed, rooms_for, rooms_kept}
+use Rattle.scrub_reclaim.specs.Reclaimable.{AreMoved, AreOfCandidates, AreReclaimLines, IsClear, IsMoved, MoveValue, accepted_in, candidate_lines, doubt_line, doubts_for, is_clear, moves_of, pointing_to, points_to, reclaim_text, reclaimed, rooms_for, rooms_kept}
+use Rattle.scrub_reclaim.proofs.Mapped.{made_of, of_made}
 
 -- ---- what the code writes
 
@@ -114,21 +115,29 @@ among_parts {X} {A} f (z ∷ xs) x y among there = elim (Contains-cases z xs x a
 ]
 
 -- a locator points to its own place
-own_place : (c : Checked) (e : ℕ) → c.locator.extent ≡ e → points_to e c.locator.offset c ≡ true
-own_place c e same =
-    ap (λ b. b && (c.locator.offset == c.locator.offset)) (eq-eqb c.locator.extent e same)
-    ∙ eq-eqb c.locator.offset c.locator.offset refl
+own_place : (c : Checked) (e p : ℕ) → c.locator.extent ≡ e → c.locator.offset ≡ p → points_to e p c ≡ true
+own_place c e p same at =
+    ap (λ b. b && (c.locator.offset == p)) (eq-eqb c.locator.extent e same) ∙ eq-eqb c.locator.offset p at
 
 -- a locator that points to a chunk to keep is among the moves
 moved : (checked : List Checked) (a : CandidateValue) (c : Checked) → Contains checked c → c.locator.extent ≡ a.extent →
     IsKept a c → IsMoved checked a c
 moved checked a c there same k = record {
   sound = k.sound;
-  kept = k.kept;
-  line = subst (λ (cs : List Checked). Contains cs c) (flat_map-map (pointing_to checked a.extent) (λ (chunk : KeptChunk). chunk.start) a.chunks)
-      (among_parts (pointing_to checked a.extent) (map (λ chunk. chunk.start) a.chunks) c.locator.offset c k.kept
-      (Contains-filter (points_to a.extent c.locator.offset) checked c (own_place c a.extent same) there));
+  chunk = kept.0;
+  kept = kept.1;
+  start_is = kept.2;
+  line =
+      among_parts (moves_of checked a.extent) a.chunks kept.0 (move_by kept.0.bytes c) kept.1
+      (of_made (move_by kept.0.bytes) (pointing_to checked a.extent kept.0.start) c
+      (Contains-filter (points_to a.extent kept.0.start) checked c (own_place c a.extent kept.0.start same (sym kept.2)) there));
 }
+  where
+    kept : (chunk : KeptChunk) × Contains a.chunks chunk × (chunk.start ≡ c.locator.offset)
+    kept = made_of (λ (chunk : KeptChunk). chunk.start) a.chunks c.locator.offset k.kept
+
+    move_by : ℕ → Checked → MoveValue
+    move_by bytes d = record { named = d; bytes = bytes }
 
 all_moved : (checked : List Checked) (candidates : List CandidateValue) → AreSafe checked candidates →
     AreMoved checked candidates
@@ -138,8 +147,8 @@ all_moved checked candidates safe i d below j e within same =
 
 whole : (image : Image) (found : Scrubbed) → IsScrubbed image found → IsWholeScan image found.plan found.all
 whole image found x = record {
-  geometry = x.plan.geometry ∙ x.choice.geometry;
-  planned = x.plan.all ∙ ap (λ g. extents_in_use g.extents found.plan.retired) x.choice.geometry;
+  geometry = (plan_parts found.choice found.plan x.plan).geometry ∙ x.choice.geometry;
+  planned = (plan_parts found.choice found.plan x.plan).all ∙ ap (λ g. extents_in_use g.extents found.plan.retired) x.choice.geometry;
   findings = x.all;
 }
 

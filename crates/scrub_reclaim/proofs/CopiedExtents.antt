@@ -20,8 +20,9 @@ use Rattle.scrub_scan.proofs.Tilings.{one_tiling}
 use Rattle.scrub_check.specs.declared.statuses.status.Status.{Status}
 use Rattle.scrub_check.specs.declared.statuses.status.Status.TheVariants.{OutOfRange, Sound}
 use Rattle.scrub_check.specs.ChunkForms.{form_at, form_of}
-use Rattle.scrub_check.specs.Status.{BeginsAt, HasStatus, HasStatusIn, HasStatusInRetired, HasStatusInUse, InRange, NamesChunk, is_retired}
+use Rattle.scrub_check.specs.Status.{BeginsAt, HasStatus, HasStatusIn, HasStatusInRetired, InRange, NamesChunk, is_retired}
 use Rattle.scrub_check.proofs.OneStatus.{one_in_plan}
+use Rattle.scrub_check.proofs.RunStates.{HasStatusInUse}
 use Rattle.scrub_check.proofs.Payloads.{same_payload}
 use Rattle.scrub_reclaim.proofs.CarriedNames.{Carries}
 use Rattle.scrub_reclaim.proofs.NextPlaces.{Grown, chunk_is_item, chunk_of, found_there, frame_kept, item_there, starts_there}
@@ -45,7 +46,7 @@ pub sound_chunk : (image : Image) (w : ℕ) (l : Locator) (items : List Item) �
     Contains items (chunk_of l.offset n.found.form l.uuid n.payload)
 sound_chunk image w l items tiled n b =
     let x = extent_of image l.extent w in
-    let pos : 0 < image.geometry.page = omega (arith, image.geometry.page_size.least) in
+    let pos : 0 < image.geometry.page = omega (arith, image.geometry.page_least) in
     item_there x items (chunk_of l.offset n.found.form l.uuid n.payload) pos tiled.each
     (chunk_is_item x l.offset n.found.form l.uuid n.payload n.found.frame)
     (subst (λ (is : List Item). Contains (map start_of is) l.offset) (one_tiling x b.items items pos b.tiled tiled) b.begins)
@@ -57,7 +58,7 @@ pub form_there : (image : Image) (w : ℕ) (l : Locator) (all : List Scanned) (f
 form_there image w l all f g u b entry tiled there =
     ap (λ (o : Option Scanned). option_and_then form_of (option_and_then (λ h. find (λ item. start_of item == l.offset) h.findings.items) o)) entry
     ∙ ap (option_and_then form_of)
-    (found_there (extent_of image l.extent w) f.findings.items (chunk_of l.offset g u b) (omega (arith, image.geometry.page_size.least)) tiled.each there)
+    (found_there (extent_of image l.extent w) f.findings.items (chunk_of l.offset g u b) (omega (arith, image.geometry.page_least)) tiled.each there)
 
 -- ---- before and after
 

@@ -9,9 +9,9 @@ use Rattle.std.proofs.lemmas.Option.{same_Some}
 use Rattle.std.proofs.lemmas.List.Elements.{All-contains, All-contains_itself, All-filter}
 use Rattle.scrub_disk.specs.declared.geometry.Geometry.{Geometry}
 use Rattle.scrub_disk.specs.Image.{Image, byte, extent_bytes}
-use Rattle.scrub_frame.specs.Frame.{least_overhead}
 use Rattle.scrub_frame.specs.declared.locator.Locator.{Locator}
 use Rattle.scrub_super.specs.Plan.{PlanValue, pointer_of}
+use Rattle.scrub_super.proofs.PlanParts.{plan_parts}
 use Rattle.scrub_scan.specs.declared.item.Item.{Item}
 use Rattle.scrub_scan.specs.declared.item.Item.TheVariants.{Chunk, Pad, Torn, Noise, Lost}
 use Rattle.scrub_scan.specs.declared.standing.Standing.{Standing}
@@ -29,10 +29,9 @@ use Rattle.scrub_check.specs.declared.statuses.status.Status.TheVariants.{OutOfR
 use Rattle.scrub_check.specs.Candidates.{has_sound_alone}
 use Rattle.scrub_check.specs.Checked.{is_hidden, is_sound}
 use Rattle.scrub_check.specs.ChunkForms.{form_at, form_of}
-use Rattle.scrub_check.specs.Chunks.{frame_of_item}
 use Rattle.scrub_check.specs.Live.{is_chunk}
 use Rattle.scrub_check.specs.Runs.{ReadRunsValue}
-use Rattle.scrub_check.specs.Spares.{frames, frames_in, spares_of}
+use Rattle.scrub_check.specs.Spares.{frame_of_item, frames, frames_in, spares_of}
 use Rattle.scrub_check.specs.Status.{HasStatusIn}
 use Rattle.scrub_report.specs.Scrubbed.{Scrubbed, IsScrubbed, is_clean_extent, is_clean_item}
 use Rattle.scrub_report.proofs.OneReader.{one_scanned}
@@ -41,12 +40,13 @@ use Rattle.scrub_listings.specs.Manifest.{IsManifest, IsWholeImage, after_status
 use Rattle.scrub_listings.proofs.AllPass.{all_pass}
 use Rattle.scrub_reclaim.specs.Copy.{HasRoomAt, HoldsCopies, IsAfterCopies, IsPlanAfterCopies, IsSameButSpares, RoomValue, extents_of}
 use Rattle.scrub_reclaim.specs.Reset.{IsPlanIn, NameTheSame}
-use Rattle.scrub_reclaim.specs.Room.{IsRoom, has_room, is_zero_to, may_grow, place_in, room_fits, room_in}
+use Rattle.scrub_reclaim.specs.Room.{IsRoom, has_room, is_zero_to, may_grow, next_place, place_in, room_fits, room_in}
 use Rattle.scrub_reclaim.proofs.CarriedNames.{Carries, named_alike}
 use Rattle.scrub_reclaim.proofs.CopiedExtents.{IsFilled, filled_carries, form_there, sound_chunk, sound_under, zero_there}
 use Rattle.scrub_reclaim.proofs.NextPlaces.{Grown, chunk_of, frames_are_chunks, grown, place_above}
 use Rattle.scrub_reclaim.proofs.Reset.{HaveTheSameForms, IsScannedBy, IsTheSame, alike_items, carries, in_disk, one_plan_in, same_numbers, same_verdict, scanned_by}
 use Rattle.scrub_reclaim.proofs.ResetForms.{along, frames_along, spare_among, spare_too}
+use Rattle.scrub_reclaim.proofs.Mapped.{made_of, of_made}
 use Rattle.scrub_reclaim.proofs.RoomLines.{shows_room}
 use Rattle.scrub_reclaim.proofs.SparedTexts.{IsSaidAlike, said_alike, texts_alike}
 
@@ -68,21 +68,6 @@ room_cases (r ∷ rooms) e = by (r.extent == e) refl (room_cases rooms e)
     by true same rest = inl (r, (0, omega arith, refl), eqb-true r.extent e same)
     by false other (inl (s, there, is)) = inl (s, Contains-behind r rooms s there, is)
     by false other (inr none) = inr (λ there. neither other none (Contains-cases r.extent (extents_of rooms) e there))
-
--- an element that something is made of
-made_of : {X Y : Type 0} (h : X → Y) (xs : List X) (y : Y) → Contains (map h xs) y → (x : X) × Contains xs x × (h x ≡ y)
-made_of h [] y there = absurd (omega (arith, there.1))
-made_of h (x ∷ xs) y there = elim (Contains-cases (h x) (map h xs) y there) [
-  | inl here ↦ (x, (0, omega arith, refl), here)
-  | inr later ↦ let m = made_of h xs y later in (m.0, Contains-behind x xs m.0 m.1, m.2)
-]
-
-of_made : {X Y : Type 0} (h : X → Y) (xs : List X) (x : X) → Contains xs x → Contains (map h xs) (h x)
-of_made h [] x there = absurd (omega (arith, there.1))
-of_made h (y ∷ xs) x there = elim (Contains-cases y xs x there) [
-  | inl here ↦ (0, omega arith, ap h here)
-  | inr later ↦ Contains-behind (h y) (map h xs) (h x) (of_made h xs x later)
-]
 
 -- the elements that give something
 gives : {X Y : Type 0} (h : X → Option Y) (xs : List X) (y : Y) → Contains (filter_map h xs) y →
@@ -303,11 +288,11 @@ module _ (rooms : List RoomValue) (before after : Image) (found rest : Scrubbed)
   enough : (r : RoomValue) (f : Scanned) → HasRoom r f → r.place ≤ extent_bytes before.geometry
   enough r f h =
       let g = found.plan.geometry in
-      let space : not (nat_lt (room_in g f) least_overhead) ≡ true =
-      (and_parts (is_zero_to (place_in g f) f) (not (nat_lt (room_in g f) least_overhead)) (and_parts (may_grow found.checked f) (room_fits g f) h.fits).1).1 in
-      let some : least_overhead ≤ room_in g f =
-      ltb-false (room_in g f) least_overhead (not_true (nat_lt (room_in g f) least_overhead) space) in
-      let size : extent_bytes g ≡ extent_bytes before.geometry = ap extent_bytes (x.plan.geometry ∙ x.choice.geometry) in
+      let space : not (nat_lt (room_in g f) 38) ≡ true =
+      (and_parts (is_zero_to (place_in g f) f) (not (nat_lt (room_in g f) 38)) (and_parts (may_grow found.checked f) (room_fits g f) h.fits).1).1 in
+      let some : 38 ≤ room_in g f =
+      ltb-false (room_in g f) 38 (not_true (nat_lt (room_in g f) 38) space) in
+      let size : extent_bytes g ≡ extent_bytes before.geometry = ap extent_bytes ((plan_parts found.choice found.plan x.plan).geometry ∙ x.choice.geometry) in
       omega (arith, some, h.place_is, size)
 
   filled : (r : RoomValue) → Contains rooms r → (f g : Scanned) → IsScannedBy before found.plan f → IsScannedBy after rest.plan g →
@@ -322,8 +307,8 @@ module _ (rooms : List RoomValue) (before after : Image) (found rest : Scrubbed)
     is = is;
     grown =
         subst (λ (items : List Item). Grown (extent_of after r.extent g.pointer) r.place items g.findings.items)
-        (one_tiling (extent_of before r.extent f.pointer) shown.items f.findings.items (omega (arith, before.geometry.page_size.least)) shown.tiled was)
-        (grown (extent_of before r.extent f.pointer) (extent_of after r.extent g.pointer) r.place (omega (arith, before.geometry.page_size.least)) (ap (λ (s : Geometry). s.page) c.sizes) kept zero above moved shown.items g.findings.items shown.tiled is (all_pass is_clean_item shown.items shown.clean) shown.place_is);
+        same_items
+        (grown (extent_of before r.extent f.pointer) (extent_of after r.extent g.pointer) r.place (omega (arith, before.geometry.page_least)) (ap (λ (s : Geometry). s.page) c.sizes) kept zero above moved shown.items g.findings.items shown.tiled is (all_pass is_clean_item shown.items shown.clean) place_there);
   }
     where
       room : HasRoom r f
@@ -334,10 +319,22 @@ module _ (rooms : List RoomValue) (before after : Image) (found rest : Scrubbed)
           subst (λ (p : ℕ). IsRoom before r.extent f.pointer p) (sym room.place_is)
           (subst (λ (e : ℕ). IsRoom before e f.pointer (place_in found.plan.geometry f)) old room.shown)
 
+      was : IsTiling (extent_of before r.extent f.pointer) f.findings.items
+      was = subst (λ (e : ℕ). IsTiling (extent_of before e f.pointer) f.findings.items) old among.1.tiled
+
+      same_items : shown.items ≡ f.findings.items
+      same_items = one_tiling (extent_of before r.extent f.pointer) shown.items f.findings.items (omega (arith, before.geometry.page_least)) shown.tiled was
+
+      place_there : r.place ≡ next_place before.geometry.page f.pointer shown.items
+      place_there =
+          room.place_is
+          ∙ ap (λ (s : Geometry). place_in s f) ((plan_parts found.choice found.plan x.plan).geometry ∙ x.choice.geometry)
+          ∙ ap (next_place before.geometry.page f.pointer) (sym same_items)
+
       above : f.pointer ≤ r.place
       above =
-          let low = place_above before.geometry.page f.pointer shown.items (omega (arith, before.geometry.page_size.least)) in
-          omega (arith, low, shown.place_is)
+          let low = place_above before.geometry.page f.pointer shown.items (omega (arith, before.geometry.page_least)) in
+          omega (arith, low, place_there)
 
       moved : r.place ≤ g.pointer
       moved =
@@ -351,9 +348,6 @@ module _ (rooms : List RoomValue) (before after : Image) (found rest : Scrubbed)
 
       readable : (p : ℕ) → p < extent_bytes after.geometry → byte after r.extent p ≢ None
       readable = All-contains (λ (s : RoomValue). (p : ℕ) → p < extent_bytes after.geometry → byte after s.extent p ≢ None) rooms r c.readable there
-
-      was : IsTiling (extent_of before r.extent f.pointer) f.findings.items
-      was = subst (λ (e : ℕ). IsTiling (extent_of before e f.pointer) f.findings.items) old among.1.tiled
 
       is : IsTiling (extent_of after r.extent g.pointer) g.findings.items
       is = subst (λ (e : ℕ). IsTiling (extent_of after e g.pointer) g.findings.items) new here.1.tiled
@@ -485,7 +479,7 @@ module _ (rooms : List RoomValue) (before after : Image) (found rest : Scrubbed)
         chunks = is.grown.chunks;
         copies = λ fs placed.
             frames_are_chunks (extent_of after r.extent t.0.pointer) r.place fs is.grown.rest t.0.findings.items
-            (omega (arith, after.geometry.page_size.least)) is.grown.joined is.grown.each is.grown.among placed;
+            (omega (arith, after.geometry.page_least)) is.grown.joined is.grown.each is.grown.among placed;
       }
 
   said : All (λ (k : Checked). IsSaidAlike (after_status_in found.all k) (after_status_in rest.all k)) found.checked

@@ -2,6 +2,8 @@
 pub mod PageRanges
 pub mod JoinedPages
 pub mod ByPlace
+pub mod MoveLines
+pub mod Mapped
 pub mod Clear
 pub mod RunDoubts
 pub mod RemainsDoubts
@@ -21,3 +23,6 @@ pub mod CopyLaw
 pub mod RoomLines
 pub mod SoundDisks
 pub mod Existing
+pub mod SmallDisks
+pub mod FoundOnSmallDisks
+pub mod ActingCanHappen

@@ -15,8 +15,9 @@ use Rattle.scrub_frame.proofs.Elements.{Contains-behind, Contains-cases}
 use Rattle.scrub_scan.specs.declared.item.Item.{Item}
 use Rattle.scrub_scan.specs.declared.item.Item.TheVariants.{Chunk, Pad, Torn, Noise, Lost}
 use Rattle.scrub_scan.specs.Extent.{Extent, FrameAt, NoFrameAt, bound}
-use Rattle.scrub_scan.specs.Item.{start_of, stop_of, IsItem, IsChunk}
+use Rattle.scrub_scan.specs.Item.{start_of, stop_of, IsItem}
 use Rattle.scrub_scan.specs.Tiling.{Joins, IsTiling}
+use Rattle.scrub_scan.proofs.FrameBytes.{first_byte}
 use Rattle.scrub_scan.proofs.Tilings.{advances, one_item}
 use Rattle.scrub_check.specs.Live.{is_chunk}
 use Rattle.scrub_report.specs.Scrubbed.{is_clean_item}
@@ -108,7 +109,7 @@ chunk_of p f u b = Chunk f p (p + (length b + frame_overhead f)) u (length b) (s
 pub chunk_is_item : (x : Extent) (p : ℕ) (f : Form) (u b : List ℕ) → FrameAt x p f u b → IsItem x (chunk_of p f u b)
 chunk_is_item x p f u b placed = record {
   below = omega (arith, placed.fits, overhead_some f);
-  fits = (refl, (b, record { frame = placed; length = refl; stop = omega arith; digest_is = refl }));
+  fits = (b, placed, omega arith, refl, refl);
 }
 
 -- the item that fits at a place where one of the items begins is that one
@@ -153,8 +154,7 @@ found_there x (i ∷ items) item pos each there = by (start_of i == start_of ite
 
 -- at a zero byte there is no frame
 no_frame_at_zero : (x : Extent) (p : ℕ) → x.byte p ≡ Some 0 → NoFrameAt x p
-no_frame_at_zero x p is f u b h =
-    differ (sym is ∙ ap x.byte (let e : p ≡ p + 0 = omega arith in e) ∙ h.stands 0 (let size = length-frame f u b h.has_frame.sixteen in omega (arith, size, overhead_some f)))
+no_frame_at_zero x p is f u b h = differ (sym is ∙ first_byte x p f u b h)
   where
     differ : ◌≡◌ {A = Option ℕ} (Some 0) (Some 0xC5) → ⊥
     differ e = cc
@@ -164,7 +164,7 @@ zeros_are_item : (x : Extent) (start stop : ℕ) → start < x.pointer → start
     ((i : ℕ) → start ≤ i → i < stop → x.byte i ≡ Some 0) → IsItem x (Pad start stop)
 zeros_are_item x start stop below some to all = record {
   below = below;
-  fits = ((refl, to), no_frame_at_zero x start (all start (omega arith) some), λ i low high. all i low (omega (arith, high, to)));
+  fits = (to, no_frame_at_zero x start (all start (omega arith) some), λ i low high. all i low (omega (arith, high, to)));
 }
 
 -- ---- the items
@@ -219,16 +219,16 @@ module _ (x y : Extent) (o : ℕ) (pos : 0 < x.page) (page : y.page ≡ x.page) 
 
   chunk_kept : (f : Form) (start stop : ℕ) (u : List ℕ) (n : ℕ) (d : List ℕ) → IsItem x (Chunk f start stop u n d) →
       IsItem y (Chunk f start stop u n d)
-  chunk_kept f start stop u n d h =
-      let b = h.fits.1.0 in
-      let k : IsChunk x start f stop n u d b = h.fits.1.1 in
-      record {
-        below = omega (arith, h.below, above, moved);
-        fits = (
-          refl,
-          (b, record { frame = frame_kept x y o kept above moved start f u b k.frame; length = k.length; stop = k.stop; digest_is = k.digest_is }),
-        );
-      }
+  chunk_kept f start stop u n d h = record {
+    below = omega (arith, h.below, above, moved);
+    fits = (
+      h.fits.0,
+      frame_kept x y o kept above moved start f u h.fits.0 h.fits.1,
+      h.fits.2,
+      h.fits.3,
+      h.fits.4,
+    );
+  }
 
   bound_after : (p : ℕ) → bound y p ≡ min y.pointer ((p / x.page + 1) * x.page)
   bound_after p = ap (λ n. min y.pointer ((p / n + 1) * n)) page
@@ -238,8 +238,8 @@ module _ (x y : Extent) (o : ℕ) (pos : 0 < x.page) (page : y.page ≡ x.page) 
   pad_kept start stop h inside =
       let ahead = advances x (Pad start stop) pos h in
       zeros_are_item y start stop (omega (arith, h.below, above, moved)) ahead.0
-      (omega (arith, bound_after start, h.fits.0.1, inside, above, moved))
-      (λ i low high. kept i (omega (arith, high, inside, above)) ∙ h.fits.2 i low (omega (arith, high, h.fits.0.1)))
+      (omega (arith, bound_after start, h.fits.0, inside, above, moved))
+      (λ i low high. kept i (omega (arith, high, inside, above)) ∙ h.fits.2 i low (omega (arith, high, h.fits.0)))
 
   -- zeros up to the old pointer reach the place
   pad_grown : (start stop : ℕ) → IsItem x (Pad start stop) → stop ≡ x.pointer → o ≡ (start / x.page + 1) * x.page →
@@ -250,7 +250,7 @@ module _ (x y : Extent) (o : ℕ) (pos : 0 < x.page) (page : y.page ≡ x.page) 
       (λ i low high. kept i high ∙ by i low high (cases_lt i x.pointer))
     where
       by : (i : ℕ) → start ≤ i → i < o → (i < x.pointer) ⊎ (x.pointer ≤ i) → x.byte i ≡ Some 0
-      by i low high (inl less) = h.fits.2 i low (omega (arith, less, ends, h.fits.0.1))
+      by i low high (inl less) = h.fits.2 i low (omega (arith, less, ends, h.fits.0))
       by i low high (inr le) = zeros i le high
 
   -- the new item that begins where one that fits does
@@ -278,7 +278,7 @@ module _ (x y : Extent) (o : ℕ) (pos : 0 < x.page) (page : y.page ≡ x.page) 
       (ap stop_of same ∙ sym here, λ is. same)
   last_item (Pad start stop) new h clean ends place fits at =
       let bounded : o ≡ (start / x.page + 1) * x.page =
-      place ∙ past_other x.page start x.pointer pos h.below (omega (arith, h.fits.0.1, ends)) in
+      place ∙ past_other x.page start x.pointer pos h.below (omega (arith, h.fits.0, ends)) in
       let same : new ≡ Pad start o = same_item (Pad start o) new (pad_grown start stop h ends bounded) fits at in
       (ap stop_of same, λ is. absurd (false≢true is))
   last_item (Torn start stop) new h clean ends place fits at = absurd (false≢true clean)

@@ -26,13 +26,13 @@ use Rattle.scrub_scan.specs.Findings.{IsFindings}
 use Rattle.scrub_scan.specs.Item.{start_of, stop_of, IsItem}
 use Rattle.scrub_scan.specs.Scanned.{Scanned}
 use Rattle.scrub_scan.specs.Tiling.{Joins, IsTiling}
+use Rattle.scrub_scan.proofs.FrameBytes.{first_byte}
 use Rattle.scrub_scan.proofs.Tilings.{one_item}
 use Rattle.scrub_check.specs.declared.statuses.checked.Checked.{Checked}
 use Rattle.scrub_check.specs.Candidates.{CandidateValue}
 use Rattle.scrub_check.specs.Checked.{is_dangling}
-use Rattle.scrub_check.specs.Chunks.{frame_of_item}
 use Rattle.scrub_check.specs.Live.{is_chunk}
-use Rattle.scrub_check.specs.Spares.{copies_of, frames, frames_in, is_copy_of, spares_of}
+use Rattle.scrub_check.specs.Spares.{copies_of, frame_of_item, frames, frames_in, is_copy_of, spares_of}
 use Rattle.scrub_check.proofs.Counts.{count_in, count_out}
 use Rattle.scrub_report.specs.Scrubbed.{Scrubbed, IsScrubbed}
 use Rattle.scrub_listings.specs.Manifest.{is_without_spare}
@@ -97,11 +97,6 @@ item_over x (i ∷ items) a p joined low high = elim (cases_lt p (stop_of i)) [
       let rest = item_over x items (stop_of i) p joined.1 le high in
       (rest.0, Contains-behind i items rest.0 rest.1, rest.2, rest.3)
 ]
-
--- a frame begins with a byte that isn't zero
-first_byte : (x : Extent) (p : ℕ) (f : Form) (u b : List ℕ) → FrameAt x p f u b → x.byte p ≡ Some 0xC5
-first_byte x p f u b placed =
-    ap (λ (k : ℕ). x.byte k) (let e : p ≡ p + 0 = omega arith in e) ∙ placed.stands 0 (omega arith)
 
 -- a byte after one that can't be read, on the same page, can't be read either
 lost_after : (image : Image) (e i j : ℕ) → i ≤ j → i % image.geometry.page ≤ j % image.geometry.page →
@@ -194,7 +189,7 @@ module _ (image : Image) (found : Scrubbed) (scrubbed : IsScrubbed image found) 
       x = extent_of image f.extent f.pointer
 
       pos : 0 < x.page
-      pos = omega (arith, image.geometry.page_size.least)
+      pos = omega (arith, image.geometry.page_least)
 
       tiled : IsTiling x f.findings.items
       tiled = (All-contains (λ (g : Scanned). IsFindings image g.extent g.pointer g.findings) found.all f scrubbed.all.findings among).tiled
@@ -227,9 +222,9 @@ module _ (image : Image) (found : Scrubbed) (scrubbed : IsScrubbed image found) 
         | inl less ↦ record { item = Chunk form start stop u n d; among = there; chunk = refl; after = less; before = high }
         | inr le ↦ absurd (not_at (Chunk form start stop u n d) there is (omega (arith, low, le)))
       ]
-      by (Pad start stop) there is low high = absurd (not_zero (is.fits.2 p low (omega (arith, high, is.fits.0.1))))
+      by (Pad start stop) there is low high = absurd (not_zero (is.fits.2 p low (omega (arith, high, is.fits.0))))
       by (Lost start stop) there is low high =
-          let below : p < (start / x.page + 1) * x.page = omega (arith, high, is.fits.0.1) in
+          let below : p < (start / x.page + 1) * x.page = omega (arith, high, is.fits.0) in
           let page = same_page x.page start p pos low below in
           let mark : ℕ = 0xC5 in
           absurd (none-some mark (sym (lost_after image f.extent start p low page.1 page.0 is.fits.2) ∙ first))

@@ -12,11 +12,13 @@ use Rattle.std.proofs.lemmas.Grind.{common_steps}
 use Rattle.std.proofs.lemmas.List.Elements.{All-contains, All-contains_itself, All-filter, All-head, All-tail}
 use Rattle.scrub_disk.specs.declared.geometry.Geometry.{Geometry}
 use Rattle.scrub_disk.specs.Image.{Image, byte}
-use Rattle.scrub_frame.specs.Frame.{least_overhead}
 use Rattle.scrub_frame.specs.declared.locator.Locator.{Locator}
 use Rattle.scrub_super.specs.Chosen.{Choice}
 use Rattle.scrub_super.specs.Contents.{Contents}
-use Rattle.scrub_super.specs.Plan.{IsPlanBy, IsPlanOf, IsPlanWithout, IsReset, PlanValue, pointer_of, pointer_reset, pointers_reset}
+use Rattle.scrub_super.specs.Plan.{PlanValue, plan_of, pointer_of}
+use Rattle.scrub_super.specs.Reset.{IsReset, pointer_reset, pointers_reset}
+use Rattle.scrub_super.specs.steps.PlanParts.{IsPlanBy, IsPlanWithout}
+use Rattle.scrub_super.proofs.PlanParts.{plan_parts}
 use Rattle.scrub_super.specs.Planned.{extents_in_use}
 use Rattle.scrub_super.specs.Record.{AreContents}
 use Rattle.scrub_super.proofs.Laws.{one_choice_lem}
@@ -42,14 +44,16 @@ use Rattle.scrub_check.specs.Runs.{NamesChunkIn, ReadRunsValue}
 use Rattle.scrub_check.specs.Status.{BeginsAt, CanStand, FindsFrame, HasStatus, HasStatusIn, HasStatusInRetired, HasUnreadableByte, InRange, NamesChunk, is_retired}
 use Rattle.scrub_check.specs.Spares.{spares_by}
 use Rattle.scrub_check.specs.WholeScan.{IsWholeScan}
-use Rattle.scrub_report.specs.Index.{IsIndex, index_entries}
-use Rattle.scrub_report.specs.Scrubbed.{IsPlanBut, Scrubbed, IsScrubbed, IsScrubbedBut}
+use Rattle.scrub_report.specs.Answer.{AnswerValue, IsScrubAnswer}
+use Rattle.scrub_report.specs.Index.{index_entries}
+use Rattle.scrub_report.specs.Resets.{IsPlanBut, IsScrubbedBut}
+use Rattle.scrub_report.specs.Scrubbed.{Scrubbed, IsScrubbed}
 use Rattle.scrub_report.proofs.OneReader.{one_plan}
 use Rattle.scrub_report.proofs.OneReport.{one_scrub}
 use Rattle.scrub_report.proofs.ResetPlans.{whole_but}
 use Rattle.scrub_listings.specs.Manifest.{IsManifest, IsManifestBut, IsWholeBut, IsWholeImage, after_status_in, hidden_runs, is_of_read_run, is_of_shard, is_whole, is_whole_by, lost_runs, manifest_text, of_shards, text_by}
 use Rattle.scrub_reclaim.specs.Doubts.{Acceptance}
-use Rattle.scrub_reclaim.specs.Reclaimable.{IsMoved, moves, reclaimed}
+use Rattle.scrub_reclaim.specs.Reclaimable.{IsMoved, MoveValue, reclaimed}
 use Rattle.scrub_reclaim.specs.Reset.{IsAfterReset, IsForeseen, IsListedWithoutMoves, IsPlanAfterReset, IsPlanIn, IsReclaimed, NameTheSame}
 use Rattle.scrub_reclaim.proofs.CarriedNames.{Carries, NamesPayload, named_alike}
 use Rattle.scrub_reclaim.proofs.Clear.{safe_to_reclaim}
@@ -73,7 +77,7 @@ in_range g h l sizes r = subst (λ (sizes : Geometry). InRange sizes l) (sym siz
 
 unreadable : {image other : Image} (l : Locator) → AreAlike image other l.extent → HasUnreadableByte image l →
     HasUnreadableByte other l
-unreadable l a h = subst (λ (at : ℕ → Option ℕ). HasGap at l.offset (l.length + least_overhead)) (sym a.bytes) h
+unreadable l a h = subst (λ (at : ℕ → Option ℕ). HasGap at l.offset (l.length + 38)) (sym a.bytes) h
 
 can_stand : {image other : Image} (w : ℕ) (l : Locator) → AreAlike image other l.extent → CanStand image w l →
     CanStand other w l
@@ -134,7 +138,7 @@ status_in_retired image other l sizes _ h = absurd h
 -- ---- under the pointer 0
 
 -- no frame ends at or before 0
-no_frame : (l : Locator) → l.offset + l.length + least_overhead ≤ 0 → ⊥
+no_frame : (l : Locator) → l.offset + l.length + 38 ≤ 0 → ⊥
 no_frame l below = omega (arith, below)
 
 status_at_zero : (image other : Image) (l : Locator) → other.geometry ≡ image.geometry → (s : Status) → HasStatus image 0 l s →
@@ -169,7 +173,7 @@ pointer_behind plan k =
 
 -- a plan has a write pointer for each extent but extent 0
 how_many : (image : Image) (plan : PlanValue) → IsPlanIn image plan → length plan.pointers ≡ image.geometry.extents - 1
-how_many image plan x = by x.choice.superblock (superblock_fits x.chosen) x.follows.by
+how_many image plan x = by x.choice.superblock (superblock_fits x.chosen) (plan_parts x.choice plan x.follows).by
   where
     by : (s : Option Contents) → IfSome s (AreContents image.geometry) →
         MatchOption s (IsPlanWithout plan x.choice.geometry) (IsPlanBy plan) →
@@ -180,7 +184,7 @@ how_many image plan x = by x.choice.superblock (superblock_fits x.chosen) x.foll
         ∙ ap (λ (g : Geometry). g.extents - 1) x.chosen.geometry
     by (Some c) fits is =
         let count : length plan.pointers ≡ length c.pointers = ap (λ (ws : List ℕ). length ws) is.pointers in
-        omega (arith, count, fits.pointers.count)
+        omega (arith, count, fits.pointer_count)
 
 -- what has a write pointer is an extent of the disk, and not extent 0
 pub in_disk : (image : Image) (plan : PlanValue) → IsPlanIn image plan → (e w : ℕ) → pointer_of plan e ≡ Some w →
@@ -227,7 +231,7 @@ names_in {image} {other} {old} {new} l t n = by (alike t n.pointer n.has_pointer
   where
     by : (n.pointer ≡ 0) ⊎ AreAlike image other l.extent → NamesPayload other new l n.chunk.payload
     by (inl none) =
-        absurd (no_frame l (subst (λ w. l.offset + l.length + least_overhead ≤ w) none n.chunk.found.can.below))
+        absurd (no_frame l (subst (λ w. l.offset + l.length + 38 ≤ w) none n.chunk.found.can.below))
     by (inr a) = record {
       names = record {
         in_use = ap (λ (rs : List ℕ). list_any (λ r. r == l.extent) rs) t.retired ∙ n.in_use;
@@ -297,7 +301,7 @@ same_items image other old new e w v is js t pw pv x y = by (alike t w pw)
     by : (w ≡ 0) ⊎ AreAlike image other e → js ≡ is
     by (inl none) = no_items (extent_of other e v) js (same ∙ none) y ∙ sym (no_items (extent_of image e w) is none x)
     by (inr a) =
-        one_tiling (extent_of other e w) js is (omega (arith, other.geometry.page_size.least))
+        one_tiling (extent_of other e w) js is (omega (arith, other.geometry.page_least))
         (subst (λ (p : ℕ). IsTiling (extent_of other e p) js) same y)
         (subst (λ (z : Extent). IsTiling z is) (same_extent w a) x)
 
@@ -344,14 +348,17 @@ HaveTheSameForms s t = All (λ (c : Checked). c.status ≡ Sound → form_at t.a
 -- a named locator into a listed extent would have to be moved
 none_into : (image : Image) (accepted : Acceptance) (e : ℕ) (x : IsListedWithoutMoves image accepted e) (c : Checked) →
     Contains x.found.checked c → c.locator.extent ≢ e
-none_into image accepted e x c there into = none (subst (λ (ms : List Checked). Contains ms c) x.unmoved line)
+none_into image accepted e x c there into = none move (subst (λ (ms : List MoveValue). Contains ms move) x.unmoved is.line)
   where
-    none : Contains [] c → ⊥
-    none (k, below, is) = omega (arith, below)
+    none : (m : MoveValue) → Contains [] m → ⊥
+    none m (k, below, same) = omega (arith, below)
 
-    line : Contains (moves x.found.checked x.candidate) c
-    line =
-        (All-contains (λ (d : Checked). d.locator.extent ≡ x.candidate.extent → IsMoved x.found.checked x.candidate d) x.found.checked c (All-contains (λ (a : CandidateValue). All (λ (d : Checked). d.locator.extent ≡ a.extent → IsMoved x.found.checked a d) x.found.checked) (reclaimed accepted x.pages x.found) x.candidate (safe_to_reclaim image accepted x.pages x.found x.scrubbed) x.listed) there (into ∙ sym x.extent_is)).line
+    is : IsMoved x.found.checked x.candidate c
+    is =
+        (All-contains (λ (d : Checked). d.locator.extent ≡ x.candidate.extent → IsMoved x.found.checked x.candidate d) x.found.checked c (All-contains (λ (a : CandidateValue). All (λ (d : Checked). d.locator.extent ≡ a.extent → IsMoved x.found.checked a d) x.found.checked) (reclaimed accepted x.pages x.found) x.candidate (safe_to_reclaim image accepted x.pages x.found x.scrubbed) x.listed) there (into ∙ sym x.extent_is))
+
+    move : MoveValue
+    move = record { named = c; bytes = is.chunk.bytes }
 
 pub one_plan_in : (image : Image) (p q : PlanValue) → IsPlanIn image p → IsPlanIn image q → p ≡ q
 one_plan_in image p q x y =
@@ -499,7 +506,7 @@ none_kept m [] = refl
 none_kept m (w ∷ ws) = ap (λ (vs : List ℕ). w ∷ vs) (none_kept (m + 1) ws)
 
 pub reset_of : (resets : List ℕ) (choice : Choice) (plan : PlanValue) → IsPlanBut resets choice plan →
-    (old : PlanValue) × IsPlanOf choice old × IsReset old resets plan
+    (old : PlanValue) × (old ≡ plan_of choice) × IsReset old resets plan
 reset_of [] choice plan is = (
   plan,
   is,
@@ -519,7 +526,7 @@ had_pointer old new (suc k) v long is = (
 
 module _ (extents : List ℕ) (before after : Image) (found rest : Scrubbed) (x : IsScrubbedBut extents before found) (y : IsScrubbed after rest)
     (f : IsForeseen extents before after) where
-  without : (old : PlanValue) × IsPlanOf found.choice old × IsReset old extents found.plan
+  without : (old : PlanValue) × (old ≡ plan_of found.choice) × IsReset old extents found.plan
   without = reset_of extents found.choice found.plan x.plan
 
   plan_was : IsPlanIn before without.0
@@ -615,10 +622,10 @@ module _ (accepted : Acceptance) (extents : List ℕ) (before after : Image) whe
       same_form (get_or found.checked i d).locator (λ e. ¬ Contains extents e) found.all rest.all
       (scans extents before after found rest x y r.reset) (apart i d below))
 
-  pub the_same_index : (a b : List ℕ) → IsReclaimed accepted extents before after → IsIndex before a →
-      IsIndex after b → a ≡ b
+  pub the_same_index : (a b : AnswerValue) → IsReclaimed accepted extents before after → IsScrubAnswer before a →
+      IsScrubAnswer after b → a.index ≡ b.index
   the_same_index a b r x y =
       let same = the_same_named x.found y.found r x.scrubbed y.scrubbed in
-      x.bytes_are
+      x.index
       ∙ ap₂ (λ (checked : List Checked) (bindings : List BindingValue). run_bytes (index_entries checked bindings)) (sym same.checked) (sym same.bindings)
-      ∙ sym y.bytes_are
+      ∙ sym y.index

@@ -8,7 +8,8 @@ use Rattle.std.proofs.lemmas.List.Folds.{Any-from_list_any}
 use Rattle.std.proofs.lemmas.Option.{same_Some}
 use Rattle.scrub_disk.specs.Image.{Image}
 use Rattle.scrub_super.specs.declared.pages.SuperblockPage.{SuperblockPage}
-use Rattle.scrub_super.specs.Plan.{IsPlanOf, IsReset, PlanValue, pointer_of}
+use Rattle.scrub_super.specs.Plan.{PlanValue, plan_of, pointer_of}
+use Rattle.scrub_super.specs.Reset.{IsReset}
 use Rattle.scrub_super.proofs.PageLaws.{one_list_of_pages}
 use Rattle.scrub_scan.specs.declared.standing.Standing.{Standing}
 use Rattle.scrub_scan.specs.AllFindings.{extent_numbers}
@@ -17,9 +18,12 @@ use Rattle.scrub_scan.specs.Scanned.{Scanned}
 use Rattle.scrub_check.specs.declared.statuses.checked.Checked.{Checked}
 use Rattle.scrub_check.specs.Candidates.{CandidateValue}
 use Rattle.scrub_check.specs.Checked.{is_sound}
-use Rattle.scrub_check.specs.Live.{has_sound_at, is_sound_at}
+use Rattle.scrub_check.specs.Live.{has_sound_at}
 use Rattle.scrub_check.specs.Spares.{frames, spares_by}
-use Rattle.scrub_report.specs.Scrubbed.{Scrubbed, IsScrubbed, IsScrubbedBut}
+use Rattle.scrub_check.specs.steps.SoundPlaces.{is_sound_at}
+use Rattle.scrub_check.proofs.Counts.{any_counts}
+use Rattle.scrub_report.specs.Resets.{IsScrubbedBut}
+use Rattle.scrub_report.specs.Scrubbed.{Scrubbed, IsScrubbed}
 use Rattle.scrub_report.proofs.OneReport.{one_scrub}
 use Rattle.scrub_listings.specs.Manifest.{IsManifest, IsManifestBut, IsWholeBut, IsWholeImage, after_status_in}
 use Rattle.scrub_reclaim.specs.Doubts.{Acceptance}
@@ -35,7 +39,7 @@ module _ (accepted : Acceptance) (extents : List ℕ) (image : Image) (l : AreLi
 
   reset : IsReset found.plan extents rest.plan
   reset =
-      let without : (old : PlanValue) × IsPlanOf rest.choice old × IsReset old extents rest.plan = reset_of extents rest.choice rest.plan y.plan in
+      let without : (old : PlanValue) × (old ≡ plan_of rest.choice) × IsReset old extents rest.plan = reset_of extents rest.choice rest.plan y.plan in
       subst (λ (p : PlanValue). IsReset p extents rest.plan)
       (one_plan_in image without.0 found.plan (record { choice = rest.choice; chosen = y.choice; follows = without.1 }) (record { choice = found.choice; chosen = x.choice; follows = x.plan }))
       without.2
@@ -87,7 +91,7 @@ module _ (accepted : Acceptance) (extents : List ℕ) (image : Image) (l : AreLi
   -- a live chunk isn't in one of the extents
   not_live : (e p : ℕ) → has_sound_at found.checked e p ≡ true → ¬ Contains extents e
   not_live e p live among =
-      let one : Any (λ (c : Checked). is_sound_at e p c ≡ true) found.checked = Any-from_list_any (is_sound_at e p) found.checked live in
+      let one : Any (λ (c : Checked). is_sound_at e p c ≡ true) found.checked = Any-from_list_any (is_sound_at e p) found.checked (any_counts (is_sound_at e p) found.checked ∙ live) in
       let c : Checked = one.1 in
       let into : c.locator.extent ≡ e =
       eqb-true c.locator.extent e

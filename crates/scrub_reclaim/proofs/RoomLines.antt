@@ -1,14 +1,16 @@
 -- What the code finds of an extent's room, by sorted numbers and by the last item.
-use Rattle.std.proofs.Common.{◌≡◌, ◌==◌, ◌&&◌, ◌++◌, ◌-◌, ◌<◌, ◌≤◌, ◌+◌, ℕ, zero, suc, Bool, true, false, cond, not, nat_lt, Option, Some, None, List, [], ◌∷◌, length, get_or, arith, refl, sym, ◌∙◌, ap, subst, append-nil, inl, inr, if◌then◌else◌}
+use Rattle.std.proofs.Common.{◌≡◌, ◌≢◌, ◌⊎◌, ◌==◌, ◌&&◌, ◌||◌, ◌++◌, ◌-◌, ◌<◌, ◌≤◌, ◌+◌, ◌*◌, ◌/◌, ◌%◌, ℕ, zero, suc, Bool, true, false, cond, not, nat_lt, Option, Some, None, List, [], ◌∷◌, length, get_or, arith, refl, sym, ◌∙◌, ap, subst, append-nil, inl, inr, if◌then◌else◌}
 use Rattle.std.specs.Option.{option_map_or}
 use Rattle.std.specs.List.{All, flat_map, list_all, list_any, slice_get}
 use Rattle.std.specs.List.Sorted.{IsPermutation}
-use Rattle.std.proofs.lemmas.Bool.{cases_lt, false≢true, ltb-false}
+use Rattle.std.proofs.Math.Nat.{mod-lt, mul-mod_left}
+use Rattle.std.proofs.lemmas.Bool.{cases_lt, eq-eqb, eqb-true, false≢true, ltb-false}
 use Rattle.std.proofs.lemmas.List.Sorted.{list_any-IsPermutation}
+use Rattle.std.proofs.lemmas.Nat.{div-add-mod'}
 use Rattle.std.proofs.lemmas.Option.{none-some, same_Some}
 use Rattle.scrub_disk.specs.declared.geometry.Geometry.{Geometry}
 use Rattle.scrub_disk.specs.Image.{Image, byte, extent_bytes}
-use Rattle.scrub_frame.specs.Frame.{least_overhead}
+use Rattle.scrub_super.proofs.PlanParts.{plan_parts}
 use Rattle.scrub_scan.specs.declared.item.Item.{Item}
 use Rattle.scrub_scan.specs.Findings.{IsFindings, is_nonzero, nonzero_places}
 use Rattle.scrub_scan.specs.Scanned.{Scanned}
@@ -18,8 +20,8 @@ use Rattle.scrub_check.specs.Live.{is_chunk}
 use Rattle.scrub_check.proofs.Reclaimable.{named_by_sound_alone}
 use Rattle.scrub_check.specs.steps.LocatorIndex.{AreBarredExtents}
 use Rattle.scrub_report.specs.Scrubbed.{Scrubbed, IsScrubbed, is_clean_extent, is_clean_item}
-use Rattle.scrub_reclaim.specs.Room.{IsRoom, ends_in_chunk, has_room, is_listed_as, is_zero_to, may_grow, place_in, room_fits, room_in, room_if, room_text, room_where, rooms_where}
-use Rattle.scrub_reclaim.specs.steps.Room.{may_grow_by}
+use Rattle.scrub_reclaim.specs.Room.{IsRoom, ends_in_chunk, has_room, is_listed_as, is_zero_to, may_grow, next_place, place_in, room_fits, room_in, room_if, room_line, room_where, rooms_where}
+use Rattle.scrub_reclaim.specs.steps.Room.{may_grow_by, room_text}
 
 -- ---- which extents
 
@@ -33,13 +35,13 @@ pub closed : (is_listed : Bool) (g : Geometry) (checked : List Checked) (unsound
     AreBarredExtents checked unsound → r ≡ may_grow_by unsound f → r ≡ false → old ≡ old ++ room_if is_listed g checked f
 closed is_listed g checked unsound f old r are is barred =
     sym (append-nil old)
-    ∙ ap (λ (t : Bool). old ++ (if t then room_text is_listed g f else [])) (sym barred ∙ is ∙ grows_by checked unsound f are)
+    ∙ ap (λ (t : Bool). old ++ (if t && room_fits g f then room_line is_listed f.extent (place_in g f) (room_in g f) else [])) (sym barred ∙ is ∙ grows_by checked unsound f are)
 
 -- and one that does has its own
 pub open_line : (is_listed : Bool) (g : Geometry) (checked : List Checked) (unsound : List ℕ) (f : Scanned) (r : Bool) →
     AreBarredExtents checked unsound → r ≡ may_grow_by unsound f → r ≡ true → room_text is_listed g f ≡ room_if is_listed g checked f
 open_line is_listed g checked unsound f r are is free =
-    ap (λ (t : Bool). if t then room_text is_listed g f else []) (sym free ∙ is ∙ grows_by checked unsound f are)
+    ap (λ (t : Bool). if t && room_fits g f then room_line is_listed f.extent (place_in g f) (room_in g f) else []) (sym free ∙ is ∙ grows_by checked unsound f are)
 
 -- an extent that isn't listed as wanted has no line
 pub passed_over : (is_listed : Bool) (g : Geometry) (checked : List Checked) (listed : List ℕ) (f : Scanned) (r : Bool) (old : List ℕ) →
@@ -138,6 +140,34 @@ zeros_to at w n place first is free within p low below = by (is_nonzero (at p)) 
         subst (λ (o : Option ℕ). option_map_or (λ q. not (nat_lt q place)) o true ≡ true) (is ∙ least.1) free in
         absurd (omega (arith, not_less least.0 place there, least.2, below))
 
+-- at a page bound and directly after a chunk it is the pointer
+is_pointer : (page w : ℕ) (items : List Item) → (w % page ≡ 0) ⊎ (ends_in_chunk items ≡ true) → next_place page w items ≡ w
+is_pointer page w items (inl bound) =
+    ap (λ (t : Bool). if t || ends_in_chunk items then w else (w / page + 1) * page) (eq-eqb (w % page) 0 bound)
+is_pointer page w items (inr chunk) = by (w % page == 0) (ends_in_chunk items) chunk
+  where
+    by : (t b : Bool) → b ≡ true → (if t || b then w else (w / page + 1) * page) ≡ w
+    by true b is = refl
+    by false true is = refl
+    by false false is = absurd (false≢true is)
+
+-- or else it is the next page bound
+is_bound : (page w : ℕ) (items : List Item) → 0 < page → w % page ≢ 0 → ends_in_chunk items ≡ false →
+    (w < next_place page w items) × (next_place page w items < w + page) × (next_place page w items % page ≡ 0)
+is_bound page w items pos off none = by (w % page == 0) (ends_in_chunk items) refl none
+  where
+    by : (t b : Bool) → (w % page == 0) ≡ t → b ≡ false →
+        (w < (if t || b then w else (w / page + 1) * page)) × ((if t || b then w else (w / page + 1) * page) < w + page)
+        × ((if t || b then w else (w / page + 1) * page) % page ≡ 0)
+    by true b at none = absurd (off (eqb-true (w % page) 0 at))
+    by false true at none = absurd (false≢true (sym none))
+    by false false at none =
+        let split : (w / page + 1) * page ≡ w / page * page + page = omega arith in (
+          omega (arith, split, div-add-mod' w page, mod-lt w pos),
+          omega (arith, split, div-add-mod' w page, mod-lt w pos, off),
+          mul-mod_left (w / page + 1) page,
+        )
+
 pub shows_room : (image : Image) (found : Scrubbed) → IsScrubbed image found →
     All (λ f. has_room found.plan.geometry found.checked f ≡ true →
     IsRoom image f.extent f.pointer (place_in found.plan.geometry f)) found.all
@@ -145,21 +175,28 @@ shows_room image found x i d below roomy =
     let f : Scanned = get_or found.all i d in
     let g : Geometry = found.plan.geometry in
     let is : IsFindings image f.extent f.pointer f.findings = x.all.findings i d below in
-    let sizes : g ≡ image.geometry = x.plan.geometry ∙ x.choice.geometry in
+    let sizes : g ≡ image.geometry = (plan_parts found.choice found.plan x.plan).geometry ∙ x.choice.geometry in
     let grows : may_grow found.checked f ≡ true = first_part (may_grow found.checked f) (room_fits g f) roomy in
     let fits : room_fits g f ≡ true = second_part (may_grow found.checked f) (room_fits g f) roomy in
-    let zero : is_zero_to (place_in g f) f ≡ true = first_part (is_zero_to (place_in g f) f) (not (nat_lt (room_in g f) least_overhead)) fits in
-    let space : not (nat_lt (room_in g f) least_overhead) ≡ true = second_part (is_zero_to (place_in g f) f) (not (nat_lt (room_in g f) least_overhead)) fits in
-    let enough : least_overhead ≤ room_in g f = not_less (room_in g f) least_overhead space in
+    let zero : is_zero_to (place_in g f) f ≡ true = first_part (is_zero_to (place_in g f) f) (not (nat_lt (room_in g f) 38)) fits in
+    let space : not (nat_lt (room_in g f) 38) ≡ true = second_part (is_zero_to (place_in g f) f) (not (nat_lt (room_in g f) 38)) fits in
+    let enough : 38 ≤ room_in g f = not_less (room_in g f) 38 space in
     let whole : extent_bytes g ≡ extent_bytes image.geometry = ap extent_bytes sizes in
+    let at : place_in g f ≡ next_place image.geometry.page f.pointer f.findings.items = ap (λ (h : Geometry). place_in h f) sizes in
     record {
       items = f.findings.items;
       tiled = is.tiled;
       clean = clean_part (length f.findings.bad_pages == 0) (list_all is_clean_item f.findings.items) (has_sound_alone found.checked f) grows;
-      place_is = ap (λ (h : Geometry). place_in h f) sizes;
+      at_pointer = λ pointed. at ∙ is_pointer image.geometry.page f.pointer f.findings.items pointed;
+      at_bound = λ off none.
+          subst
+          (λ (p : ℕ). (f.pointer < p) × (p < f.pointer + image.geometry.page) × (p % image.geometry.page ≡ 0))
+          (sym at)
+          (is_bound image.geometry.page f.pointer f.findings.items (omega (arith, image.geometry.page_least)) off none);
       zeros =
-          zeros_to (byte image f.extent) f.pointer (extent_bytes image.geometry - f.pointer) (place_in g f) f.findings.tail_first is.tail.least zero
+          zeros_to (byte image f.extent) f.pointer (extent_bytes image.geometry - f.pointer) (place_in g f) f.findings.tail_first is.tail_least zero
           (omega (arith, enough, whole));
+      fits = omega (arith, enough, whole);
     }
   where
     first_part : (a b : Bool) → (a && b) ≡ true → a ≡ true
@@ -174,3 +211,25 @@ shows_room image found x i d below roomy =
     clean_part true true c all = refl
     clean_part true false c all = absurd (false≢true all)
     clean_part false b c all = absurd (false≢true all)
+
+-- ---- what a line shows
+
+-- an extent with a line has room
+has_line : (is_listed : Bool) (g : Geometry) (checked : List Checked) (f : Scanned) → room_if is_listed g checked f ≢ [] →
+    has_room g checked f ≡ true
+has_line is_listed g checked f some = by (has_room g checked f) some
+  where
+    by : (b : Bool) → (if b then room_line is_listed f.extent (place_in g f) (room_in g f) else []) ≢ [] → b ≡ true
+    by true there = refl
+    by false there = absurd (there refl)
+
+pub line_named : (is_listed : Bool) (g : Geometry) (checked : List Checked) (f : Scanned) → room_if is_listed g checked f ≢ [] →
+    room_if is_listed g checked f ≡ room_line is_listed f.extent (place_in g f) (room_in g f)
+line_named is_listed g checked f some =
+    ap (λ (t : Bool). if t then room_line is_listed f.extent (place_in g f) (room_in g f) else []) (has_line is_listed g checked f some)
+
+pub line_shows_room : (image : Image) (found : Scrubbed) (is_listed : Bool) → IsScrubbed image found →
+    All (λ f. room_if is_listed found.plan.geometry found.checked f ≢ [] →
+    IsRoom image f.extent f.pointer (place_in found.plan.geometry f)) found.all
+line_shows_room image found is_listed x i d below some =
+    shows_room image found x i d below (has_line is_listed found.plan.geometry found.checked (get_or found.all i d) some)

@@ -15,7 +15,9 @@ use Rattle.scrub_frame.specs.declared.locator.Locator.{Locator}
 use Rattle.scrub_super.specs.Chosen.{Choice}
 use Rattle.scrub_super.specs.Contents.{Contents}
 use Rattle.scrub_super.specs.Pages.{AreHeldBytes, AreSuperblockPages, is_odd}
-use Rattle.scrub_super.specs.Plan.{IsPlanBy, IsPlanOf, IsPlanWithout, PlanValue}
+use Rattle.scrub_super.specs.Plan.{PlanValue}
+use Rattle.scrub_super.specs.steps.PlanParts.{IsPlanBy, IsPlanWithout}
+use Rattle.scrub_super.proofs.PlanParts.{plan_parts}
 use Rattle.scrub_super.specs.declared.pages.SuperblockPage.{SuperblockPage}
 use Rattle.scrub_super.specs.declared.pages.SuperblockPage.TheVariants.{Lost, Record, Damaged, Stray, Held}
 use Rattle.scrub_scan.specs.Scanned.{Scanned}
@@ -288,7 +290,7 @@ module _ (image : Image) (pages : List SuperblockPage) (found : Scrubbed) (x : I
       ∙ eqb-true (length found.choice.bad_pages) 0 (and_parts (is_some found.choice.superblock && not found.choice.tie) (length found.choice.bad_pages == 0) choice_is).1
 
   planned : found.plan.has_superblock ≡ true
-  planned = by found.choice.superblock has x.plan.by
+  planned = by found.choice.superblock has (plan_parts found.choice found.plan x.plan).by
     where
       by : (o : Option Contents) → is_some o ≡ true → MatchOption o (IsPlanWithout found.plan found.choice.geometry) (IsPlanBy found.plan) →
           found.plan.has_superblock ≡ true

@@ -11,7 +11,7 @@ use Rattle.scrub_check.specs.declared.lists.kept_chunk.KeptChunk.{KeptChunk}
 use Rattle.scrub_check.specs.declared.statuses.checked.Checked.{Checked}
 use Rattle.scrub_check.specs.declared.statuses.status.Status.TheVariants.{Sound}
 use Rattle.scrub_scan.specs.declared.standing.Standing.{Standing}
-use Rattle.scrub_check.specs.Candidates.{CandidateValue, starts_of}
+use Rattle.scrub_check.specs.Candidates.{CandidateValue}
 use Rattle.scrub_check.specs.Live.{has_sound_at}
 use Rattle.scrub_check.specs.Spares.{spares_of}
 use Rattle.scrub_report.specs.declared.parts.Parts.{Parts}
@@ -47,17 +47,23 @@ points_to e p c = (c.locator.extent == e) && (c.locator.offset == p)
 abbrev pub pointing_to : List Checked → ℕ → ℕ → List Checked
 pointing_to checked e p = filter (points_to e p) checked
 
--- the named locators that point to the chunks that a candidate keeps, by ascending chunk
-abbrev pub moves : List Checked → CandidateValue → List Checked
-moves checked a = flat_map (λ k. pointing_to checked a.extent k.start) a.chunks
+-- a move: a named locator to a chunk to keep, and how many bytes the chunk's frame takes
+pub record MoveValue : Type 0 where
+  pub named : Checked
+  pub bytes : ℕ
 
--- the line of a move of a frame of so many bytes: `move EXTENT OFFSET LENGTH UUID OWNER BYTES` and a line feed
-abbrev pub move_line : ℕ → Checked → List ℕ
-move_line bytes c = codes "move" ++ spaced (place_text c.locator) ++ spaced (owner_text c.owner) ++ spaced (decimal bytes) ++ 10 ∷ []
+-- the moves of a chunk to keep of extent e: the named locators that point to it, in their order
+abbrev pub moves_of : List Checked → ℕ → KeptChunk → List MoveValue
+moves_of checked e k = map (λ c. record { named = c; bytes = k.bytes }) (pointing_to checked e k.start)
 
--- the lines of the named locators that point to a chunk to keep of extent e
-abbrev pub kept_lines : List Checked → ℕ → KeptChunk → List ℕ
-kept_lines checked e k = flat_map (move_line k.bytes) (pointing_to checked e k.start)
+-- the moves of a candidate, by ascending chunk
+abbrev pub moves : List Checked → CandidateValue → List MoveValue
+moves checked a = flat_map (moves_of checked a.extent) a.chunks
+
+-- the line of a move: `move EXTENT OFFSET LENGTH UUID OWNER BYTES` and a line feed
+abbrev pub move_line : MoveValue → List ℕ
+move_line m =
+    codes "move" ++ spaced (place_text m.named.locator) ++ spaced (owner_text m.named.owner) ++ spaced (decimal m.bytes) ++ 10 ∷ []
 
 -- the text of an extent to reclaim: `reclaim EXTENT FREE`
 abbrev pub freed_text : ℕ → ℕ → List ℕ
@@ -67,9 +73,9 @@ freed_text extent free = codes "reclaim" ++ spaced (decimal extent) ++ spaced (d
 abbrev pub reclaim_line : CandidateValue → List ℕ
 reclaim_line a = freed_text a.extent a.free ++ 10 ∷ []
 
--- a candidate's line and those of its moves, by ascending chunk
+-- a candidate's line and those of its moves
 abbrev pub candidate_lines : List Checked → CandidateValue → List ℕ
-candidate_lines checked a = reclaim_line a ++ flat_map (kept_lines checked a.extent) a.chunks
+candidate_lines checked a = reclaim_line a ++ flat_map move_line (moves checked a)
 
 -- the lines of some candidates and their moves, in their order
 abbrev pub all_candidate_lines : List Checked → List CandidateValue → List ℕ
@@ -139,13 +145,16 @@ pub record AreOfCandidates (image : Image) (accepted : Acceptance) (report text 
   pub text_is :
       text ≡ doubt_lines (accepted_in accepted found) (doubts_for accepted pages found) ++ all_candidate_lines found.checked (if clear then found.candidates else []) ++ rooms_for (if clear then found.candidates else []) found
 
--- a named locator is sound, points to a chunk that a candidate keeps, and has a line among its moves
+-- a named locator is sound and points to a chunk that a candidate keeps, and with the bytes of the chunk's frame it is among the
+-- candidate's moves
 pub record IsMoved (checked : List Checked) (a : CandidateValue) (c : Checked) : Type 0 where
   pub sound : c.status ≡ Sound
-  pub kept : Contains (starts_of a.chunks) c.locator.offset
-  pub line : Contains (moves checked a) c
+  pub chunk : KeptChunk
+  pub kept : Contains a.chunks chunk
+  pub start_is : chunk.start ≡ c.locator.offset
+  pub line : Contains (moves checked a) (record { named = c; bytes = chunk.bytes })
 
--- each named locator into one of these extents is sound, points to a chunk to keep, and has a line among the moves
+-- each named locator into one of these extents is sound, points to a chunk to keep, and is among the moves
 abbrev pub AreMoved : List Checked → List CandidateValue → Type 0
 AreMoved checked candidates = All (λ a. All (λ c. c.locator.extent ≡ a.extent → IsMoved checked a c) checked) candidates
 

@@ -4,7 +4,7 @@ use Rattle.scrub_disk.specs.Image.{Image, byte}
 use Rattle.scrub_super.specs.declared.pages.SuperblockPage.{SuperblockPage}
 use Rattle.scrub_super.specs.Chosen.{Choice, IsChoice}
 use Rattle.scrub_super.specs.Pages.{AreSuperblockPages}
-use Rattle.scrub_super.specs.Plan.{PlanValue, IsPlanOf, pointer_of}
+use Rattle.scrub_super.specs.Plan.{PlanValue, plan_of, pointer_of}
 use Rattle.scrub_check.specs.Candidates.{CandidateValue}
 use Rattle.scrub_check.specs.ChunkForms.{form_at}
 use Rattle.scrub_check.specs.declared.statuses.status.Status.TheVariants.{Sound}
@@ -31,7 +31,7 @@ pub record IsListedWithoutMoves (image : Image) (accepted : Acceptance) (e : ℕ
 pub record IsPlanIn (image : Image) (plan : PlanValue) : Type 0 where
   pub choice : Choice
   pub chosen : IsChoice image choice
-  pub follows : IsPlanOf choice plan
+  pub follows : plan ≡ plan_of choice
 
 -- the new plan comes from a superblock just if the old one does, it names the same runs and the same retired extents, and
 -- all extents but these have the same write pointer

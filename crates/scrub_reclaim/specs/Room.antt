@@ -1,11 +1,10 @@
 -- Where the next frame can be put in an extent.
-use Rattle.std.specs.Prelude.{◌≡◌, ◌<◌, ◌≤◌, ◌+◌, ◌-◌, ◌*◌, ◌/◌, ◌%◌, ◌==◌, ◌&&◌, ◌||◌, ◌++◌, ℕ, Bool, true, false, nat_lt, List, [], ◌∷◌, codes, map, not, if◌then◌else◌}
+use Rattle.std.specs.Prelude.{◌≡◌, ◌≢◌, ◌⊎◌, ◌<◌, ◌≤◌, ◌+◌, ◌-◌, ◌*◌, ◌/◌, ◌%◌, ◌==◌, ◌&&◌, ◌||◌, ◌++◌, ℕ, Bool, true, false, nat_lt, List, [], ◌∷◌, codes, map, not, if◌then◌else◌}
 use Rattle.std.specs.Fmt.{decimal}
 use Rattle.std.specs.List.{flat_map, list_all, list_any}
 use Rattle.std.specs.Option.{option_map_or}
 use Rattle.scrub_disk.specs.declared.geometry.Geometry.{Geometry}
 use Rattle.scrub_disk.specs.Image.{Image, byte, extent_bytes}
-use Rattle.scrub_frame.specs.Frame.{least_overhead}
 use Rattle.scrub_scan.specs.declared.item.Item.{Item}
 use Rattle.scrub_scan.specs.Extent.{extent_of}
 use Rattle.scrub_scan.specs.Findings.{is_nonzero}
@@ -47,10 +46,10 @@ room_in g f = extent_bytes g - place_in g f
 abbrev pub is_zero_to : ℕ → Scanned → Bool
 is_zero_to place f = option_map_or (λ first. not (nat_lt first place)) f.findings.tail_first true
 
--- from a scanned extent's pointer to the place for the next frame there is nothing but zeros, and a frame of no payload fits
--- from there on
+-- from a scanned extent's pointer to the place for the next frame there is nothing but zeros, and a frame of no payload,
+-- 38 bytes, fits from there on
 abbrev pub room_fits : Geometry → Scanned → Bool
-room_fits g f = is_zero_to (place_in g f) f && not (nat_lt (room_in g f) least_overhead)
+room_fits g f = is_zero_to (place_in g f) f && not (nat_lt (room_in g f) 38)
 
 -- a scanned extent has room at the place for the next frame
 abbrev pub has_room : Geometry → List Checked → Scanned → Bool
@@ -66,13 +65,10 @@ abbrev pub room_line : Bool → ℕ → ℕ → ℕ → List ℕ
 room_line is_listed extent place bytes =
     room_word is_listed ++ spaced (decimal extent) ++ spaced (decimal place) ++ spaced (decimal bytes) ++ 10 ∷ []
 
--- the line of a scanned extent into which a chunk can be put, if a frame fits, or else nothing
-abbrev pub room_text : Bool → Geometry → Scanned → List ℕ
-room_text is_listed g f = if room_fits g f then room_line is_listed f.extent (place_in g f) (room_in g f) else []
-
 -- the line of a scanned extent, if it has room, or else nothing
 abbrev pub room_if : Bool → Geometry → List Checked → Scanned → List ℕ
-room_if is_listed g checked f = if may_grow checked f then room_text is_listed g f else []
+room_if is_listed g checked f =
+    if has_room g checked f then room_line is_listed f.extent (place_in g f) (room_in g f) else []
 
 -- the extent is among the listed ones, or it isn't, as wanted
 abbrev pub is_listed_as : Bool → List ℕ → ℕ → Bool
@@ -94,11 +90,15 @@ room_lines g all checked candidates =
 
 -- ---- what is there
 
--- in extent e under the pointer w each item is a chunk or zeros, this is the place for the next frame, and each byte from the
--- pointer to it is zero or can't be read
+-- in extent e under the pointer w each item is a chunk or zeros; the place is the pointer, if that is at a page bound or the last
+-- item is a chunk, or else the next page bound; each byte from the pointer to it is zero or can't be read; and a frame of no
+-- payload, 38 bytes, fits from there on
 pub record IsRoom (image : Image) (e w place : ℕ) : Type 0 where
   pub items : List Item
   pub tiled : IsTiling (extent_of image e w) items
   pub clean : list_all is_clean_item items ≡ true
-  pub place_is : place ≡ next_place image.geometry.page w items
+  pub at_pointer : (w % image.geometry.page ≡ 0) ⊎ (ends_in_chunk items ≡ true) → place ≡ w
+  pub at_bound : w % image.geometry.page ≢ 0 → ends_in_chunk items ≡ false →
+      (w < place) × (place < w + image.geometry.page) × (place % image.geometry.page ≡ 0)
   pub zeros : (p : ℕ) → w ≤ p → p < place → is_nonzero (byte image e p) ≡ false
+  pub fits : place + 38 ≤ extent_bytes image.geometry

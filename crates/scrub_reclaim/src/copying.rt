@@ -9,10 +9,10 @@ ghost use Rattle.scrub_reclaim.specs.Copy.{HoldsCopies, IsAfterCopies, IsSameBut
 ghost use Rattle.scrub_reclaim.specs.Reset.{NameTheSame};
 
 /// A law: a copy loses nothing that is named. Let extents have room, each at a place, let anything be written
-/// from there on, and let the new write pointers be at these places or above. Then the same is named, with the same
-/// statuses and forms, and the manifest and its verdict are the same, but that a locator without spares may
-/// have got some. Each chunk of these extents is still one, and whole frames from the places on, one directly
-/// after the other, are chunks.
+/// from there on, and let the new write pointers be at these places or above. Then the same is named, with
+/// the same statuses and forms, and the manifest and its verdict are the same, but that a locator without
+/// spares may have got some. Each chunk of these extents is still one, and whole frames from the places on,
+/// one directly after the other, are chunks.
 pub fn a_copy_loses_nothing()
     ensures named { (rooms : List RoomValue) (before after : Image) (found rest : Scrubbed) →
         IsAfterCopies rooms before after → IsScrubbed before found → IsScrubbed after rest →

@@ -2,6 +2,7 @@
 //! moved first, and where there is room for it, as lines; and the laws of a copy and of a reset.
 #![tactic(auto)]
 
+mod acting;
 mod copying;
 pub mod doubting;
 pub mod doubts;
@@ -14,6 +15,7 @@ pub mod room;
 mod sound_disks;
 mod spare_doubts;
 
+pub use acting::acting_can_happen;
 pub use copying::a_copy_loses_nothing;
 pub use doubts::Acceptance;
 pub use page_ranges::neighbouring_pages_are_joined;

@@ -4,25 +4,26 @@
 ghost use Rattle.std.specs.Prelude.{◌≡◌, ◌≢◌, ◌++◌, ◌≤◌, ℕ, [], All, Bool, true, List, IfOk, OnOk, Some};
 ghost use Rattle.std.specs.Prelude.{map, string_bytes, if◌then◌else◌};
 ghost use Rattle.std.specs.List.{flat_map};
+ghost use Rattle.scrub_disk.specs.declared.geometry.Geometry.{Geometry};
 ghost use Rattle.scrub_disk.specs.Image.{Image};
 ghost use Rattle.scrub_super.specs.declared.pages.SuperblockPage.{SuperblockPage};
 ghost use Rattle.scrub_super.specs.Pages.{AreSuperblockPages};
+ghost use Rattle.scrub_scan.specs.Scanned.{Scanned};
 ghost use Rattle.scrub_check.specs.declared.statuses.checked.Checked.{Checked};
-ghost use Rattle.scrub_report.specs.Answer.{AreTakingsBy};
-ghost use Rattle.scrub_report.specs.Index.{IsIndex};
+ghost use Rattle.scrub_report.specs.Answer.{AnswerValue, AreTakingsBy, IsScrubAnswer};
 ghost use Rattle.scrub_report.specs.Parts.{IsScan};
 ghost use Rattle.scrub_report.specs.Report.{IsReport};
 ghost use Rattle.scrub_report.specs.Scrubbed.{Scrubbed, IsScrubbed};
 ghost use Rattle.scrub_listings.specs.Manifest.{IsManifest, IsManifestBut, IsWholeBut, IsWholeImage};
 ghost use Rattle.scrub_reclaim.specs.Doubts.{Acceptance};
-ghost use Rattle.scrub_reclaim.specs.steps.Moves.{AreRisingPlaces, PointAlike};
+ghost use Rattle.scrub_reclaim.specs.steps.Moves.{AreRisingPlaces, PointAlike, kept_lines, move_text};
 ghost use Rattle.scrub_reclaim.specs.Reclaimable.{AcceptsNoSpare, KeepsSpares, AreMoved, AreOfCandidates};
 ghost use Rattle.scrub_reclaim.specs.Reclaimable.{AreReclaimLines, IsClear, IsListedByLast};
 ghost use Rattle.scrub_reclaim.specs.Reclaimable.{all_candidate_lines, candidate_lines, is_clear};
-ghost use Rattle.scrub_reclaim.specs.Reclaimable.{kept_lines, move_line, reclaim_line, reclaimed, rooms_kept};
+ghost use Rattle.scrub_reclaim.specs.Reclaimable.{reclaim_line, reclaimed, rooms_kept};
 ghost use Rattle.scrub_reclaim.specs.Remains.{AcceptsNoRemains, KeepsRemains};
 ghost use Rattle.scrub_reclaim.specs.Reset.{AreListedWithoutSpares, IsReclaimed, NameTheSame};
-ghost use Rattle.scrub_reclaim.specs.Room.{IsRoom, has_room, place_in};
+ghost use Rattle.scrub_reclaim.specs.Room.{IsRoom, place_in, room_if, room_in, room_line};
 
 use crate::doubting::doubts_of;
 use crate::doubts::{Acceptance, are_accepted, doubt_lines};
@@ -51,7 +52,7 @@ fn append_move(
     one: &Checked,
     bytes: u32,
 ) -> Result<(), OutOfMemory>
-    ensures { OnOk result (string_bytes text.new ≡ string_bytes text.old ++ move_line bytes one.now) }
+    ensures { OnOk result (string_bytes text.new ≡ string_bytes text.old ++ move_text bytes one.now) }
 {
     let place = PlaceText::of(&one.locator);
     let owner = owner_text(alloc, one.owner)?;
@@ -66,7 +67,7 @@ fn append_moves(
     bytes: u32,
 ) -> Result<(), OutOfMemory>
     ensures { OnOk result (string_bytes text.new ≡ string_bytes text.old ++
-        flat_map (move_line bytes) (map (λ one. one.now) some.now)) }
+        flat_map (move_text bytes) (map (λ one. one.now) some.now)) }
 {
     for one in some {
         append_move(alloc, text, *one, bytes)?;
@@ -259,7 +260,7 @@ pub fn reclaimed_are_candidates()
 {}
 
 /// A law: no move is forgotten. Each named locator into an extent to reclaim is sound, points to a chunk to
-/// keep, and has a line among the moves.
+/// keep, and is among the moves, with the bytes of the chunk's frame. Each move has a line.
 pub fn reclaiming_is_safe()
     ensures { (image : Image) (accepted : Acceptance) (pages : List SuperblockPage) (found : Scrubbed) →
         IsScrubbed image found →
@@ -308,20 +309,28 @@ pub fn a_reset_loses_nothing()
     ensures whole { (accepted : Acceptance) (extents : List ℕ) (image : Image) (a b : Bool) →
         AreListedWithoutSpares accepted extents image → IsWholeBut extents image a → IsWholeImage image b →
         a ≡ b }
-    ensures index { (accepted : Acceptance) (extents : List ℕ) (before after : Image) (a b : List ℕ) →
-        IsReclaimed accepted extents before after → IsIndex before a → IsIndex after b → a ≡ b }
+    ensures index { (accepted : Acceptance) (extents : List ℕ) (before after : Image) (a b : AnswerValue) →
+        IsReclaimed accepted extents before after → IsScrubAnswer before a → IsScrubAnswer after b →
+        a.index ≡ b.index }
 {}
 
-/// A law: an extent that a chunk can be put into has room from its next place on.
+/// A law: what a line `room` or `last-room` shows. It has the number of the extent, the place for the next
+/// frame and the bytes from there on. The extent's items are chunks and zeros alone. The place is the write
+/// pointer, if that is at a page bound or directly after a chunk, or else the next page bound. From the
+/// pointer to the place no byte that can be read is other than zero, and 38 bytes or more fit from there on.
 pub fn a_line_shows_room()
-    ensures { (image : Image) (found : Scrubbed) → IsScrubbed image found →
-        All (λ f. has_room found.plan.geometry found.checked f ≡ true →
+    ensures line { (is_listed : Bool) (geometry : Geometry) (checked : List Checked) (f : Scanned) →
+        room_if is_listed geometry checked f ≢ [] → room_if is_listed geometry checked f ≡
+        room_line is_listed f.extent (place_in geometry f) (room_in geometry f) }
+    ensures room { (image : Image) (found : Scrubbed) (is_listed : Bool) → IsScrubbed image found →
+        All (λ f. room_if is_listed found.plan.geometry found.checked f ≢ [] →
         IsRoom image f.extent f.pointer (place_in found.plan.geometry f)) found.all }
 {}
 
 /// A law: each image has a text of the lines of what can be reclaimed, and a verdict whether it is clear,
 /// whatever is accepted. With `one_reclaim_listing`, it has exactly one of each.
 pub fn each_image_has_a_reclaim_listing()
-    ensures text { (image : Image) (accepted : Acceptance) → (text : List ℕ) × AreReclaimLines image accepted text }
+    ensures text { (image : Image) (accepted : Acceptance) →
+        (text : List ℕ) × AreReclaimLines image accepted text }
     ensures clear { (image : Image) (accepted : Acceptance) → (clear : Bool) × IsClear image accepted clear }
 {}

@@ -12,8 +12,8 @@ ghost use Rattle.scrub_check.specs.Checked.{is_sound};
 ghost use Rattle.scrub_check.specs.Live.{is_chunk};
 ghost use Rattle.scrub_check.specs.steps.LocatorIndex.{AreBarredExtents};
 ghost use Rattle.scrub_reclaim.specs.Room.{ends_in_chunk, is_listed_as, is_zero_to, next_place, room_if};
-ghost use Rattle.scrub_reclaim.specs.Room.{room_line, room_lines, room_text, room_where, rooms_where};
-ghost use Rattle.scrub_reclaim.specs.steps.Room.{may_grow_by};
+ghost use Rattle.scrub_reclaim.specs.Room.{room_line, room_lines, room_where, rooms_where};
+ghost use Rattle.scrub_reclaim.specs.steps.Room.{may_grow_by, room_text};
 
 use scrub_check::{Candidate, Checked};
 use scrub_disk::{Geometry, OutOfMemory, PageSource};

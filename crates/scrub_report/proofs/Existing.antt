@@ -6,7 +6,8 @@ use Rattle.std.proofs.lemmas.List.Elements.{All-cons, All-replicate}
 use Rattle.std.proofs.lemmas.List.Sorted.{IsPermutation-refl}
 use Rattle.scrub_disk.specs.Image.{Image}
 use Rattle.scrub_super.specs.Chosen.{Choice, IsChoice}
-use Rattle.scrub_super.specs.Plan.{IsPlan, IsPlanBy, IsPlanOf, IsPlanWithout, IsReset, PlanValue, pointers_reset}
+use Rattle.scrub_super.specs.Plan.{IsPlan, PlanValue}
+use Rattle.scrub_super.specs.Reset.{pointers_reset}
 use Rattle.scrub_super.proofs.PlansFit.{plan_fits, reset_fits}
 use Rattle.scrub_super.proofs.RecordsThere.{some_choice, some_plan}
 use Rattle.scrub_scan.specs.Scanned.{Scanned}
@@ -20,9 +21,10 @@ use Rattle.scrub_check.proofs.StatusThere.{some_checked, some_read_runs}
 use Rattle.scrub_pool.specs.Passes.{one_list}
 use Rattle.scrub_pool.specs.Takings.{TakingsValue}
 use Rattle.scrub_report.specs.Answer.{AnswerValue, ArePlannedExtents, AreTakingsBy, IsScrubAnswer}
-use Rattle.scrub_report.specs.Index.{IsIndex, index_entries}
+use Rattle.scrub_report.specs.Index.{index_entries}
 use Rattle.scrub_report.specs.Report.{report_text}
-use Rattle.scrub_report.specs.Scrubbed.{IsPlanBut, IsScrubbedBut, Scrubbed, is_clean, is_in_doubt}
+use Rattle.scrub_report.specs.Resets.{IsPlanBut, IsScrubbedBut}
+use Rattle.scrub_report.specs.Scrubbed.{Scrubbed, is_clean, is_in_doubt}
 use Rattle.scrub_report.proofs.OneIndex.{read_runs_are_runs}
 
 -- ---- plans
@@ -98,12 +100,8 @@ some_answer image =
       record { found = found.0; scrubbed = found.1; report = refl; index = refl; clean = refl },
     )
 
-pub some_index : (image : Image) → (bytes : List ℕ) × IsIndex image bytes
-some_index image =
-    let found = some_scrub [] image in (
-      run_bytes (index_entries found.0.checked found.0.bindings),
-      record { found = found.0; scrubbed = found.1; bytes_are = refl },
-    )
+pub some_index : (image : Image) → (bytes : List ℕ) × (a : AnswerValue) × IsScrubAnswer image a × (bytes ≡ a.index)
+some_index image = let answer = some_answer image in (answer.0.index, answer.0, answer.1, refl)
 
 pub some_planned_extents : (image : Image) → (planned : List ℕ) × ArePlannedExtents image planned
 some_planned_extents image =

@@ -16,10 +16,11 @@ use Rattle.serde_json.specs.Written.{comma_if, compact_text}
 use Rattle.serde_json.proofs.Texts.{print-outline}
 use Rattle.scrub_scan.specs.Scanned.{Scanned}
 use Rattle.scrub_report.specs.Json.{list, natural, natural_or_null, with_keys}
-use Rattle.scrub_report.specs.Report.{extent_data, items_data, numbers_data}
+use Rattle.scrub_report.specs.Report.{extent_data, numbers_data}
 use Rattle.scrub_run.specs.declared.shard_id.ShardId.{ShardId}
 use Rattle.scrub_report.specs.declared.listed.Listed.{Listed}
 use Rattle.scrub_report.specs.steps.Tokens.{ArePieces, all_keys, begun_tokens, ended_tokens, extent_keys, extent_pairs, extents_tokens, first_keys, last_keys, members_tokens, piece_text, value_tokens}
+use Rattle.scrub_report.specs.steps.Values.{items_data}
 use Rattle.scrub_report.proofs.Tokens.{keys_joined, list_tokens, object_tokens}
 
 -- whether the last token ends a value

@@ -21,7 +21,9 @@ use Rattle.sha2.specs.Sha256.{sha256}
 use Rattle.scrub_disk.specs.Image.{Image, extent_bytes}
 use Rattle.scrub_super.specs.Chosen.{Choice, IsChoice}
 use Rattle.scrub_super.specs.Contents.{Contents}
-use Rattle.scrub_super.specs.Plan.{IsPlanBy, IsPlanOf, IsPlanWithout, PlanValue}
+use Rattle.scrub_super.specs.Plan.{PlanValue, plan_of}
+use Rattle.scrub_super.specs.steps.PlanParts.{IsPlanBy, IsPlanWithout}
+use Rattle.scrub_super.proofs.PlanParts.{plan_parts}
 use Rattle.scrub_super.specs.Record.{AreContents}
 use Rattle.scrub_super.proofs.NewestRecords.{superblock_fits}
 use Rattle.scrub_frame.specs.declared.locator.Locator.{Locator}
@@ -35,10 +37,15 @@ use Rattle.scrub_check.specs.Checked.{is_broken}
 use Rattle.scrub_check.specs.Runs.{AreReadRuns, ReadRunsValue}
 use Rattle.scrub_check.specs.Status.{NamesChunk}
 use Rattle.scrub_check.proofs.Listed.{as_many}
-use Rattle.scrub_report.specs.Index.{index_entries, indexed}
-use Rattle.scrub_report.specs.Scrubbed.{IsPlanBut, Scrubbed, IsScrubbed, IsScrubbedBut}
+use Rattle.scrub_report.specs.Index.{index_entries}
+use Rattle.scrub_report.specs.Resets.{IsPlanBut, IsScrubbedBut}
+use Rattle.scrub_report.specs.Scrubbed.{Scrubbed, IsScrubbed}
 use Rattle.scrub_report.proofs.OneIndex.{read_of, read_runs_are_runs}
 use Rattle.scrub_report.proofs.ResetPlans.{plan_before}
+
+-- a binding as an entry, as the index has it
+abbrev pub indexed : BindingValue → EntryValue
+indexed b = record { id = b.id; locators = b.locators }
 
 -- ---- a run has no more entries than bytes
 
@@ -148,14 +155,14 @@ runs_within runs bound k d hk = by (get_or runs k d) (slice_get-get_or runs k d 
     by None here = omega arith
     by (Some es) here = omega (arith, bound k es here, length-map es (λ (e : EntryValue). e.id.0))
 
-planned_few : (image : Image) (choice : Choice) (plan : PlanValue) → IsChoice image choice → IsPlanOf choice plan →
+planned_few : (image : Image) (choice : Choice) (plan : PlanValue) → IsChoice image choice → plan ≡ plan_of choice →
     length plan.runs ≤ 32
-planned_few image choice plan chosen is = by choice.superblock (superblock_fits chosen) is.by
+planned_few image choice plan chosen is = by choice.superblock (superblock_fits chosen) (plan_parts choice plan is).by
   where
     by : (c : Option Contents) → IfSome c (AreContents image.geometry) →
         MatchOption c (IsPlanWithout plan choice.geometry) (IsPlanBy plan) → length plan.runs ≤ 32
     by None fits planned = omega (arith, ap length planned.runs)
-    by (Some c) fits planned = omega (arith, ap length planned.runs, fits.runs.count)
+    by (Some c) fits planned = omega (arith, ap length planned.runs, fits.run_count)
 
 -- a plan has few runs
 runs_few_by : (resets : List ℕ) (image : Image) (choice : Choice) (plan : PlanValue) → IsChoice image choice → IsPlanBut resets choice plan →
@@ -165,11 +172,11 @@ runs_few_by resets image choice plan chosen planned =
     let few : length old.0.runs ≤ 32 = planned_few image choice old.0 chosen old.1 in
     omega (arith, few, ap length old.3)
 
-pub runs_few : {resets : List ℕ} (image : Image) (s : Scrubbed) → IsScrubbedBut resets image s → length s.plan.runs ≤ 32
-runs_few {resets} image s x = runs_few_by resets image s.choice s.plan x.choice x.plan
+pub runs_few : (resets : List ℕ) (image : Image) (s : Scrubbed) → IsScrubbedBut resets image s → length s.plan.runs ≤ 32
+runs_few resets image s x = runs_few_by resets image s.choice s.plan x.choice x.plan
 
-few_runs : {resets : List ℕ} (image : Image) (s : Scrubbed) → IsScrubbedBut resets image s → length s.read.runs ≤ 32
-few_runs image s x = omega (arith, as_many image s.plan s.read x.read, runs_few image s x)
+few_runs : (resets : List ℕ) (image : Image) (s : Scrubbed) → IsScrubbedBut resets image s → length s.read.runs ≤ 32
+few_runs resets image s x = omega (arith, as_many image s.plan s.read x.read, runs_few resets image s x)
 
 -- a run can have as many entries as a map of read runs has bindings, and each of these is an entry
 module _ (resets : List ℕ) (image : Image) (choice : Choice) (plan : PlanValue) (read : ReadRunsValue) (bindings : List BindingValue)
@@ -204,16 +211,16 @@ module _ (resets : List ℕ) (image : Image) (choice : Choice) (plan : PlanValue
   pub locators_fit : All (λ b. length b.locators ≤ 64) bindings
   locators_fit k d hk = (entries_of_map k d hk).few
 
-pub countable : {resets : List ℕ} (image : Image) (s : Scrubbed) → IsScrubbedBut resets image s → length s.bindings < 2 ^ 32
-countable {resets} image s x = countable_map resets image s.choice s.plan s.read s.bindings x.choice x.plan x.read x.bindings
+pub countable : (resets : List ℕ) (image : Image) (s : Scrubbed) → IsScrubbedBut resets image s → length s.bindings < 2 ^ 32
+countable resets image s x = countable_map resets image s.choice s.plan s.read s.bindings x.choice x.plan x.read x.bindings
 
 -- each binding is an entry
-pub entries_are : {resets : List ℕ} (image : Image) (s : Scrubbed) → IsScrubbedBut resets image s → All (λ b. IsEntry (indexed b)) s.bindings
-entries_are {resets} image s x = entries_of_map resets image s.choice s.plan s.read s.bindings x.choice x.plan x.read x.bindings
+pub entries_are : (resets : List ℕ) (image : Image) (s : Scrubbed) → IsScrubbedBut resets image s → All (λ b. IsEntry (indexed b)) s.bindings
+entries_are resets image s x = entries_of_map resets image s.choice s.plan s.read s.bindings x.choice x.plan x.read x.bindings
 
 -- each has at most as many locators as an entry can have
-pub entries_fit : {resets : List ℕ} (image : Image) (s : Scrubbed) → IsScrubbedBut resets image s → All (λ b. length b.locators ≤ 64) s.bindings
-entries_fit {resets} image s x = locators_fit resets image s.choice s.plan s.read s.bindings x.choice x.plan x.read x.bindings
+pub entries_fit : (resets : List ℕ) (image : Image) (s : Scrubbed) → IsScrubbedBut resets image s → All (λ b. length b.locators ≤ 64) s.bindings
+entries_fit resets image s x = locators_fit resets image s.choice s.plan s.read s.bindings x.choice x.plan x.read x.bindings
 
 -- ---- the index is a run
 
@@ -234,10 +241,10 @@ pub index_run : (image : Image) (s : Scrubbed) → IsScrubbed image s → AreEnt
 index_run image s x = record {
   count =
       let all = length-filter_both (is_kept s) (λ b. not (is_kept s b)) (λ b. refl) s.bindings in
-      omega (arith, countable image s x, all, length-map (filter (is_kept s) s.bindings) indexed);
+      omega (arith, countable [] image s x, all, length-map (filter (is_kept s) s.bindings) indexed);
   each =
       All-map IsEntry indexed (filter (is_kept s) s.bindings)
-      (All-filter (is_kept s) (λ b. IsEntry (indexed b)) s.bindings (entries_are image s x));
+      (All-filter (is_kept s) (λ b. IsEntry (indexed b)) s.bindings (entries_are [] image s x));
   rising =
       indexed_rise (filter (is_kept s) s.bindings)
       (AllPairs-filter (λ b c. IsBelow b.id c.id) (is_kept s) s.bindings x.bindings.bindings_of_map.rising);

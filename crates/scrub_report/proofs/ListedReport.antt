@@ -20,10 +20,10 @@ use Rattle.scrub_report.specs.declared.shards.Shards.{Shards}
 use Rattle.scrub_report.specs.Json.{list, natural, with_keys}
 use Rattle.scrub_report.specs.steps.Lists.{AreListsOf, AreShardsOf, IsReportBy, is_clean_listed}
 use Rattle.scrub_report.specs.Parts.{AreJudgedBut}
-use Rattle.scrub_report.specs.Report.{candidate_data, dangling_data, entry_counts, extent_data, extents_data, geometry_data, hidden_data, ids_data, numbers_data, place_data, report_text, runs_data, shared_data, super_data}
+use Rattle.scrub_report.specs.Report.{candidate_data, dangling_data, entry_counts, extent_data, ids_data, numbers_data, place_data, report_text, runs_data, shared_data, super_data}
 use Rattle.scrub_report.specs.Scrubbed.{IsScrubbed, Scrubbed, is_clean, is_clean_choice, is_clean_extent}
 use Rattle.scrub_report.specs.steps.Tokens.{extent_pairs, listed_text}
-use Rattle.scrub_report.specs.steps.Values.{locator_data, row_data}
+use Rattle.scrub_report.specs.steps.Values.{geometry_data, hidden_data, locator_data, row_data}
 use Rattle.scrub_report.proofs.KeptRuns.{all_counted}
 use Rattle.scrub_report.proofs.LocatorValues.{dangling_shown, hidden_shown}
 use Rattle.scrub_report.proofs.RunRows.{rows_shown}
@@ -75,7 +75,7 @@ module _ {D : Type 0} (image : Image) (bindings : List BindingValue) (broken : L
       ap (λ (rows : List RunRow). list (map row_data rows)) lists.runs_are
       ∙ rw (judged.rows.locators_are, judged.rows.entries_are, judged.rows.states_are) at (rows_shown j.runs.items)
 
-  extents_are : list (map (λ (q : Scanned × ℕ). extent_data q.1 q.0) (extent_pairs l)) ≡ extents_data j.checked.items j.scan.all.extents
+  extents_are : list (map (λ (q : Scanned × ℕ). extent_data q.1 q.0) (extent_pairs l)) ≡ list (map (λ f. extent_data (live_bytes j.checked.items f) f) j.scan.all.extents)
   extents_are =
       (λ i. list (map (λ (q : Scanned × ℕ). extent_data q.1 q.0) (zip ((lists.scan_is i).all.extents) l.liveness.live.items)))
       ∙ ap list (beside_scanned j.checked.items j.scan.all.extents l.liveness.live.items lists.liveness_is.live)

@@ -6,8 +6,8 @@ use Rattle.std.proofs.lemmas.Bool.{false≢true}
 use Rattle.serde_json.specs.Data.{Data}
 use Rattle.scrub_check.specs.declared.statuses.checked.Checked.{Checked}
 use Rattle.scrub_check.specs.Checked.{dangling, hidden, is_dangling, is_hidden, is_sound}
-use Rattle.scrub_report.specs.steps.Values.{locator_data}
-use Rattle.scrub_report.specs.Report.{dangling_data, hidden_data}
+use Rattle.scrub_report.specs.steps.Values.{hidden_data, locator_data}
+use Rattle.scrub_report.specs.Report.{dangling_data}
 
 -- two functions that agree on what passes a test agree on the filtered list
 same_shown : {X : Type 0} (p : X → Bool) (f g : X → Data) → ((x : X) → p x ≡ true → f x ≡ g x) → (xs : List X) →

@@ -1,15 +1,12 @@
 -- A choice has one plan, and a plan has one scan.
-use Rattle.std.proofs.Common.{◌≡◌, ◌<◌, ℕ, Option, Some, None, MatchOption, List, [], ◌∷◌, arith, refl, sym, ◌∙◌, ap}
+use Rattle.std.proofs.Common.{◌≡◌, ◌<◌, ℕ, Some, List, [], ◌∷◌, arith, refl, sym, ◌∙◌, ap}
 use Rattle.std.proofs.Math.Path.{ap₂}
 use Rattle.std.proofs.lemmas.Option.{same_Some}
 use Rattle.std.specs.List.{All}
 use Rattle.std.proofs.lemmas.List.Elements.{All-head, All-tail}
-use Rattle.scrub_disk.specs.declared.geometry.Geometry.{Geometry}
 use Rattle.scrub_disk.specs.Image.{Image}
 use Rattle.scrub_super.specs.Chosen.{Choice}
-use Rattle.scrub_super.specs.Contents.{Contents}
-use Rattle.scrub_super.specs.Planned.{extents_in_use}
-use Rattle.scrub_super.specs.Plan.{PlanValue, IsPlanBy, IsPlanOf, IsPlanWithout, pointer_of}
+use Rattle.scrub_super.specs.Plan.{PlanValue, plan_of, pointer_of}
 use Rattle.scrub_scan.specs.declared.findings.Findings.{Findings}
 use Rattle.scrub_scan.specs.AllFindings.{AreAllFindings, HaveFindings, extent_numbers}
 use Rattle.scrub_scan.specs.Extent.{extent_of}
@@ -30,20 +27,8 @@ same_plan p q hg hp ht hw hr hs = λ i. record {
   has_superblock = hs i;
 }
 
--- the same for a superblock or none
-same_choice : (g : Geometry) (s : Option Contents) (p q : PlanValue) → MatchOption s (IsPlanWithout p g) (IsPlanBy p) →
-    MatchOption s (IsPlanWithout q g) (IsPlanBy q) →
-    (p.retired ≡ q.retired) × (p.pointers ≡ q.pointers) × (p.runs ≡ q.runs) × (p.has_superblock ≡ q.has_superblock)
-same_choice g None p q x y =
-    (x.retired ∙ sym y.retired, x.pointers ∙ sym y.pointers, x.runs ∙ sym y.runs, x.has ∙ sym y.has)
-same_choice g (Some c) p q x y =
-    (x.retired ∙ sym y.retired, x.pointers ∙ sym y.pointers, x.runs ∙ sym y.runs, x.has ∙ sym y.has)
-
-pub one_plan : (choice : Choice) (p q : PlanValue) → IsPlanOf choice p → IsPlanOf choice q → p ≡ q
-one_plan choice p q x y =
-    let known = same_choice choice.geometry choice.superblock p q x.by y.by in
-    same_plan p q (x.geometry ∙ sym y.geometry)
-    (x.all ∙ ap (extents_in_use choice.geometry.extents) known.0 ∙ sym y.all) known.0 known.1 known.2 known.3
+pub one_plan : (choice : Choice) (p q : PlanValue) → p ≡ plan_of choice → q ≡ plan_of choice → p ≡ q
+one_plan choice p q x y = x ∙ sym y
 
 -- ---- one reader
 
@@ -53,9 +38,9 @@ same_findings f g hi hc hf hb = λ i. record { items = hi i; tail_count = hc i; 
 
 one_findings : (image : Image) (e w : ℕ) (f g : Findings) → IsFindings image e w f → IsFindings image e w g → f ≡ g
 one_findings image e w f g x y =
-    let pos : 0 < image.geometry.page = omega (arith, image.geometry.page_size.least) in
+    let pos : 0 < image.geometry.page = omega (arith, image.geometry.page_least) in
     same_findings f g (one_tiling (extent_of image e w) f.items g.items pos x.tiled y.tiled)
-    (x.tail.counted ∙ sym y.tail.counted) (x.tail.least ∙ sym y.tail.least) (x.bad_pages ∙ sym y.bad_pages)
+    (x.tail_counted ∙ sym y.tail_counted) (x.tail_least ∙ sym y.tail_least) (x.bad_pages ∙ sym y.bad_pages)
 
 same_scanned : (f g : Scanned) → f.extent ≡ g.extent → f.pointer ≡ g.pointer → f.findings ≡ g.findings → f ≡ g
 same_scanned f g he hp hf = λ i. record { extent = he i; pointer = hp i; findings = hf i }

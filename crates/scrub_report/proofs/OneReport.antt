@@ -11,7 +11,8 @@ use Rattle.scrub_check.proofs.OneList.{one_list, one_shared, one_broken}
 use Rattle.scrub_report.specs.Answer.{AnswerValue, IsScrubAnswer, ArePlannedExtents}
 use Rattle.scrub_report.specs.Index.{index_entries}
 use Rattle.scrub_report.specs.Report.{report_text}
-use Rattle.scrub_report.specs.Scrubbed.{Scrubbed, IsScrubbed, IsScrubbedBut, is_clean, is_in_doubt}
+use Rattle.scrub_report.specs.Resets.{IsScrubbedBut}
+use Rattle.scrub_report.specs.Scrubbed.{Scrubbed, IsScrubbed, is_clean, is_in_doubt}
 use Rattle.scrub_report.proofs.OneIndex.{one_list_of_runs, one_list_of_checked, read_runs_are_runs}
 use Rattle.scrub_report.proofs.OneReader.{one_plan, one_reader}
 use Rattle.scrub_report.proofs.ResetPlans.{one_plan_but}

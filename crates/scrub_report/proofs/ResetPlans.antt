@@ -4,23 +4,26 @@ use Rattle.std.proofs.lemmas.Bool.{eqb-true, false≢true}
 use Rattle.scrub_disk.specs.declared.geometry.Geometry.{Geometry}
 use Rattle.scrub_disk.specs.Image.{Image}
 use Rattle.scrub_super.specs.Chosen.{Choice, IsChoice}
-use Rattle.scrub_super.specs.Plan.{IsPlanOf, IsReset, PlanValue, pointers_reset}
+use Rattle.scrub_super.specs.Plan.{PlanValue, plan_of}
+use Rattle.scrub_super.specs.Reset.{IsReset, pointers_reset}
 use Rattle.scrub_super.specs.Planned.{extents_in_use}
+use Rattle.scrub_super.specs.steps.PlanParts.{IsPlanInParts}
+use Rattle.scrub_super.proofs.PlanParts.{plan_parts}
 use Rattle.scrub_scan.specs.AllFindings.{AreAllFindings}
 use Rattle.scrub_scan.specs.Scanned.{Scanned}
 use Rattle.scrub_check.specs.WholeScan.{IsWholeScan}
 use Rattle.scrub_report.specs.Answer.{ArePlannedExtents}
-use Rattle.scrub_report.specs.Scrubbed.{IsPlanBut}
+use Rattle.scrub_report.specs.Resets.{IsPlanBut}
 use Rattle.scrub_report.proofs.OneReader.{one_plan, same_plan}
 
 -- the plan of no resets, and of some
-pub none_reset : (resets : List ℕ) (choice : Choice) (plan : PlanValue) → (length resets == 0) ≡ true → IsPlanOf choice plan →
+pub none_reset : (resets : List ℕ) (choice : Choice) (plan : PlanValue) → (length resets == 0) ≡ true → plan ≡ plan_of choice →
     IsPlanBut resets choice plan
 none_reset [] choice plan none is = is
 none_reset (e ∷ es) choice plan none is =
     let no : length (e ∷ es) ≡ 0 = eqb-true (length (e ∷ es)) 0 none in absurd (omega (arith, no))
 
-pub some_reset : (resets : List ℕ) (choice : Choice) (old plan : PlanValue) → (length resets == 0) ≡ false → IsPlanOf choice old →
+pub some_reset : (resets : List ℕ) (choice : Choice) (old plan : PlanValue) → (length resets == 0) ≡ false → old ≡ plan_of choice →
     IsReset old resets plan → IsPlanBut resets choice plan
 some_reset [] choice old plan some is reset = absurd (false≢true (sym some))
 some_reset (e ∷ es) choice old plan some is reset = (old, is, reset)
@@ -28,14 +31,16 @@ some_reset (e ∷ es) choice old plan some is reset = (old, is, reset)
 -- all extents in use are planned
 pub whole_but : (resets : List ℕ) (choice : Choice) (plan : PlanValue) (image : Image) (all : List Scanned) → IsChoice image choice →
     IsPlanBut resets choice plan → AreAllFindings image plan all → IsWholeScan image plan all
-whole_but [] choice plan image all chosen is found = record {
-  geometry = is.geometry ∙ chosen.geometry;
-  planned = is.all ∙ ap (λ (g : Geometry). extents_in_use g.extents plan.retired) chosen.geometry;
-  findings = found;
-}
+whole_but [] choice plan image all chosen is found =
+    let by : IsPlanInParts choice plan = plan_parts choice plan is in
+    record {
+      geometry = by.geometry ∙ chosen.geometry;
+      planned = by.all ∙ ap (λ (g : Geometry). extents_in_use g.extents plan.retired) chosen.geometry;
+      findings = found;
+    }
 whole_but (e ∷ es) choice plan image all chosen is found =
     let old = is.0 in
-    let by : IsPlanOf choice old = is.1 in
+    let by : IsPlanInParts choice old = plan_parts choice old is.1 in
     let reset : IsReset old (e ∷ es) plan = is.2 in
     record {
       geometry = reset.geometry ∙ by.geometry ∙ chosen.geometry;
@@ -69,7 +74,7 @@ one_plan_but (e ∷ es) choice p q x y =
 
 -- what a plan has that isn't a write pointer is that of the plan without resets
 pub plan_before : (resets : List ℕ) (choice : Choice) (plan : PlanValue) → IsPlanBut resets choice plan →
-    (old : PlanValue) × IsPlanOf choice old × (plan.retired ≡ old.retired) × (plan.runs ≡ old.runs) × (plan.has_superblock ≡ old.has_superblock)
+    (old : PlanValue) × (old ≡ plan_of choice) × (plan.retired ≡ old.retired) × (plan.runs ≡ old.runs) × (plan.has_superblock ≡ old.has_superblock)
 plan_before [] choice plan is = (plan, is, refl, refl, refl)
 plan_before (e ∷ es) choice plan is =
     let reset : IsReset is.0 (e ∷ es) plan = is.2 in

@@ -2,7 +2,7 @@
 use Rattle.std.specs.Prelude.{◌≡◌, ◌+◌, ℕ, List, Bool, length}
 use Rattle.scrub_disk.specs.Image.{Image}
 use Rattle.scrub_super.specs.Chosen.{Choice, IsChoice}
-use Rattle.scrub_super.specs.Plan.{PlanValue, IsPlanOf}
+use Rattle.scrub_super.specs.Plan.{PlanValue, plan_of}
 use Rattle.scrub_pool.specs.Takings.{IsPartition, TakingsValue}
 use Rattle.scrub_run.specs.Run.{run_bytes}
 use Rattle.scrub_report.specs.Scrubbed.{Scrubbed, IsScrubbed, is_clean}
@@ -28,7 +28,7 @@ pub record ArePlannedExtents (image : Image) (planned : List ℕ) : Type 0 where
   pub choice : Choice
   pub plan : PlanValue
   pub chosen : IsChoice image choice
-  pub follows : IsPlanOf choice plan
+  pub follows : plan ≡ plan_of choice
   pub are : planned ≡ plan.planned
 
 -- what a scan of the image by this many workers beside the caller took: a list for each of them and one for the caller,

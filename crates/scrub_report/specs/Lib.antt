@@ -1,6 +1,7 @@
 -- For public clauses.
 pub mod Output
 pub mod Scrubbed
+pub mod Resets
 pub mod Json
 pub mod Texts
 pub mod Report

@@ -25,7 +25,8 @@ use Rattle.scrub_report.specs.declared.parts.Parts.{Parts}
 use Rattle.scrub_report.specs.declared.runs.RunRow.{RunRow}
 use Rattle.scrub_report.specs.declared.scanning.Scan.{Scan}
 use Rattle.scrub_report.specs.Report.{entry_counts}
-use Rattle.scrub_report.specs.Scrubbed.{IsPlanBut, IsScrubbedBut, Scrubbed, is_clean_choice, is_clean_extent, is_clean_list, is_in_doubt}
+use Rattle.scrub_report.specs.Resets.{IsPlanBut, IsScrubbedBut}
+use Rattle.scrub_report.specs.Scrubbed.{Scrubbed, is_clean_choice, is_clean_extent, is_clean_list, is_in_doubt}
 
 module _ {D : Type 0} where
   -- what was chosen, planned and scanned is as it is in the image, as if these extents had been reset

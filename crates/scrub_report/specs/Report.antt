@@ -3,20 +3,18 @@ use Rattle.std.specs.Prelude.{◌≡◌, ℕ, List, [], ◌∷◌, ◌++◌, Opt
 use Rattle.std.specs.List.{zip}
 use Rattle.serde_json.specs.Data.{Data, Members, boolean, object, put, string}
 use Rattle.serde_json.specs.Written.{compact_text}
-use Rattle.scrub_disk.specs.declared.geometry.Geometry.{Geometry}
 use Rattle.scrub_disk.specs.Image.{Image}
 use Rattle.scrub_frame.specs.declared.locator.Locator.{Locator}
 use Rattle.scrub_super.specs.Chosen.{Choice}
-use Rattle.scrub_scan.specs.declared.item.Item.{Item}
 use Rattle.scrub_scan.specs.Line.{line_of}
 use Rattle.scrub_scan.specs.Scanned.{Scanned}
 use Rattle.scrub_run.specs.declared.shard_id.ShardId.{ShardId}
-use Rattle.scrub_merge.specs.Binding.{BindingValue, Runs}
+use Rattle.scrub_merge.specs.Binding.{Runs}
 use Rattle.scrub_check.specs.declared.statuses.checked.Checked.{Checked}
 use Rattle.scrub_check.specs.declared.lists.place.Place.{Place}
 use Rattle.scrub_check.specs.declared.lists.place.SharedPlace.{SharedPlace}
 use Rattle.scrub_check.specs.declared.runs.RunState.{RunState}
-use Rattle.scrub_check.specs.Candidates.{CandidateValue, starts_of}
+use Rattle.scrub_check.specs.Candidates.{CandidateValue}
 use Rattle.scrub_check.specs.Checked.{dangling, hidden}
 use Rattle.scrub_check.specs.Chunks.{orphans, twins}
 use Rattle.scrub_check.specs.Live.{live_bytes}
@@ -32,10 +30,6 @@ numbers_data numbers = list (map natural numbers)
 abbrev pub ids_data : List ShardId → Data
 ids_data ids = list (map (λ id. string (id_text id)) ids)
 
--- the value of `geometry`: how many extents a disk has, how many bytes a page, and how many pages an extent
-abbrev pub geometry_data : Geometry → Data
-geometry_data g = with_keys ((codes "extents", natural g.extents) ∷ (codes "page", natural g.page) ∷ (codes "pages", natural g.pages) ∷ [])
-
 -- the value of `super`: the unreadable pages of extent 0, the generation and page of the record that counts, or null,
 -- how many pages have a valid record, and whether there is a tie
 abbrev pub super_data : Choice → Data
@@ -46,17 +40,13 @@ super_data choice = with_keys (
     (codes "records", natural choice.records) ∷
     (codes "tie", boolean choice.tie) ∷ [])
 
--- a list of the lines of items
-abbrev pub items_data : List Item → Data
-items_data items = list (map (λ item. string (line_of item)) items)
-
 -- one of `extents`: unreadable pages, number, the lines of its items, live bytes, write pointer, how many bytes its
 -- tail has, and the offset of the first of them, or null
 abbrev pub extent_data : ℕ → Scanned → Data
 extent_data live s = with_keys (
     (codes "bad", numbers_data s.findings.bad_pages) ∷
     (codes "extent", natural s.extent) ∷
-    (codes "items", items_data s.findings.items) ∷
+    (codes "items", list (map (λ item. string (line_of item)) s.findings.items)) ∷
     (codes "live", natural live) ∷
     (codes "pointer", natural s.pointer) ∷
     (codes "tail", natural s.findings.tail_count) ∷
@@ -79,11 +69,7 @@ runs_data locators entries states = list (map (λ r. run_data r.0 r.1.0 r.1.1) (
 abbrev pub entry_counts : Runs → List (Option ℕ)
 entry_counts runs = map (option_map length) runs
 
--- the identifiers of the doubtful bindings, in their order
-abbrev pub doubtful_ids : List BindingValue → List ShardId
-doubtful_ids bindings = map (λ b. b.id) (filter (λ b. b.doubtful) bindings)
-
--- a checked locator's extent, length, offset, UUID and owner
+-- a checked locator's extent, length, offset, UUID and owner: all that one of `hidden` has
 abbrev pub locator_members : Checked → Members
 locator_members c = members (
     (codes "extent", natural c.locator.extent) ∷
@@ -91,10 +77,6 @@ locator_members c = members (
     (codes "offset", natural c.locator.offset) ∷
     (codes "owner", string (owner_text c.owner)) ∷
     (codes "uuid", string (uuid_text c.locator.uuid)) ∷ [])
-
--- one of `hidden`: a locator and its owner
-abbrev pub hidden_data : Checked → Data
-hidden_data c = object (locator_members c)
 
 -- one of `dangling`: a locator, its owner, and its status as `reason`
 abbrev pub dangling_data : Checked → Data
@@ -114,23 +96,20 @@ shared_data s = with_keys ((codes "count", natural s.count) ∷ (codes "extent",
 
 -- one of `candidates`: an extent, how many bytes reclaiming it frees, and the starts of the chunks to move first
 abbrev pub candidate_data : CandidateValue → Data
-candidate_data c = with_keys ((codes "extent", natural c.extent) ∷ (codes "free", natural c.free) ∷ (codes "keep", numbers_data (starts_of c.chunks)) ∷ [])
+candidate_data c = with_keys ((codes "extent", natural c.extent) ∷ (codes "free", natural c.free) ∷ (codes "keep", numbers_data (map (λ k. k.start) c.chunks)) ∷ [])
 
--- the value of `extents`: each scanned extent, with its live bytes
-abbrev pub extents_data : List Checked → List Scanned → Data
-extents_data checked all = list (map (λ f. extent_data (live_bytes checked f) f) all)
-
--- the report of what was found: one object of fifteen keys, in ascending order of their bytes
+-- the report of what was found: one object of fifteen keys, in ascending order of their bytes; of `geometry` how many
+-- extents a disk has, how many bytes a page, and how many pages an extent
 abbrev pub report_data : Scrubbed → Data
 report_data s = with_keys (
     (codes "broken", ids_data s.broken) ∷
     (codes "candidates", list (map candidate_data s.candidates)) ∷
     (codes "clean", boolean (is_clean s)) ∷
     (codes "dangling", list (map dangling_data (dangling s.checked))) ∷
-    (codes "doubtful", ids_data (doubtful_ids s.bindings)) ∷
-    (codes "extents", extents_data s.checked s.all) ∷
-    (codes "geometry", geometry_data s.plan.geometry) ∷
-    (codes "hidden", list (map hidden_data (hidden s.checked))) ∷
+    (codes "doubtful", ids_data (map (λ b. b.id) (filter (λ b. b.doubtful) s.bindings))) ∷
+    (codes "extents", list (map (λ f. extent_data (live_bytes s.checked f) f) s.all)) ∷
+    (codes "geometry", with_keys ((codes "extents", natural s.plan.geometry.extents) ∷ (codes "page", natural s.plan.geometry.page) ∷ (codes "pages", natural s.plan.geometry.pages) ∷ [])) ∷
+    (codes "hidden", list (map (λ c. object (locator_members c)) (hidden s.checked))) ∷
     (codes "orphans", list (map place_data (orphans s.all s.checked))) ∷
     (codes "retired", numbers_data s.plan.retired) ∷
     (codes "runs", runs_data s.plan.runs (entry_counts s.read.runs) s.read.states) ∷

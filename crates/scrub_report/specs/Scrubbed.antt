@@ -1,9 +1,9 @@
 -- What is found on a whole disk, each part as it is in the image, and whether it is clean.
-use Rattle.std.specs.Prelude.{◌≡◌, ◌==◌, ◌&&◌, ◌||◌, ℕ, Bool, true, false, not, List, [], ◌∷◌, length, is_none, is_some}
+use Rattle.std.specs.Prelude.{◌≡◌, ◌==◌, ◌&&◌, ◌||◌, Bool, true, false, not, List, length, is_none, is_some}
 use Rattle.std.specs.List.{list_all, list_any}
 use Rattle.scrub_disk.specs.Image.{Image}
 use Rattle.scrub_super.specs.Chosen.{Choice, IsChoice}
-use Rattle.scrub_super.specs.Plan.{PlanValue, IsPlanOf, IsReset}
+use Rattle.scrub_super.specs.Plan.{PlanValue, plan_of}
 use Rattle.scrub_scan.specs.declared.item.Item.{Item}
 use Rattle.scrub_scan.specs.declared.item.Item.TheVariants.{Chunk, Pad}
 use Rattle.scrub_scan.specs.Scanned.{Scanned}
@@ -37,15 +37,10 @@ pub record Scrubbed : Type 0 where
 abbrev pub is_in_doubt : Choice → ReadRunsValue → Bool
 is_in_doubt choice read = choice.tie || not (length choice.bad_pages == 0) || list_any is_none read.runs
 
--- the plan follows from the choice, as if these extents had been reset
-abbrev pub IsPlanBut : List ℕ → Choice → PlanValue → Type 0
-IsPlanBut [] choice plan = IsPlanOf choice plan
-IsPlanBut (e ∷ es) choice plan = (old : PlanValue) × IsPlanOf choice old × IsReset old (e ∷ es) plan
-
--- each part of what is found is as it is in the image, as if these extents had been reset
-pub record IsScrubbedBut (resets : List ℕ) (image : Image) (s : Scrubbed) : Type 0 where
+-- each part of what is found is as it is in the image, with a plan that follows from the choice in this way
+pub record IsScrubbedBy (follows : Choice → PlanValue → Type 0) (image : Image) (s : Scrubbed) : Type 0 where
   pub choice : IsChoice image s.choice
-  pub plan : IsPlanBut resets s.choice s.plan
+  pub plan : follows s.choice s.plan
   pub all : AreAllFindings image s.plan s.all
   pub read : AreReadRuns image s.plan s.read
   pub bindings : IsShardMap s.read.runs s.bindings
@@ -54,9 +49,9 @@ pub record IsScrubbedBut (resets : List ℕ) (image : Image) (s : Scrubbed) : Ty
   pub broken : AreBrokenShards s.checked s.broken
   pub candidates : AreCandidates s.plan s.all s.checked (is_in_doubt s.choice s.read) s.candidates
 
--- each part of what is found is as it is in the image
+-- each part of what is found is as it is in the image, with the plan of the choice
 abbrev pub IsScrubbed : Image → Scrubbed → Type 0
-IsScrubbed image s = IsScrubbedBut [] image s
+IsScrubbed image s = IsScrubbedBy (λ choice plan. plan ≡ plan_of choice) image s
 
 -- the item is neither torn nor noise nor lost, so it is a chunk or zeros
 abbrev pub is_clean_item : Item → Bool

@@ -10,10 +10,11 @@ ghost use Rattle.scrub_check.specs.declared.statuses.checked.Checked.{Checked};
 ghost use Rattle.scrub_check.specs.Checked.{AreBrokenShards};
 ghost use Rattle.scrub_report.specs.Answer.{AnswerValue, IsScrubAnswer, ArePlannedExtents};
 ghost use Rattle.scrub_report.specs.Answer.{AreTakingsBy};
-ghost use Rattle.scrub_report.specs.Index.{IsIndex, index_entries};
+ghost use Rattle.scrub_report.specs.Index.{index_entries};
 ghost use Rattle.scrub_report.specs.steps.Lists.{AreShardsOf, IsReportBy};
 ghost use Rattle.scrub_report.specs.Parts.{AreJudgedBut, IsScan};
-ghost use Rattle.scrub_report.specs.Scrubbed.{IsScrubbed, IsScrubbedBut, Scrubbed};
+ghost use Rattle.scrub_report.specs.Resets.{IsScrubbedBut};
+ghost use Rattle.scrub_report.specs.Scrubbed.{IsScrubbed, Scrubbed};
 
 use crate::index::index_bytes;
 use crate::listed::{is_clean_listed, listed_of};
@@ -222,9 +223,9 @@ pub fn one_list_of_planned_extents()
 /// A law: the recovered index is an index run, whose entries are the shards of the map that aren't broken. So
 /// `read_run` reads it back as these entries.
 pub fn the_index_is_a_run()
-    ensures { (image : Image) (bytes : List ℕ) → IsIndex image bytes →
+    ensures { (image : Image) (a : AnswerValue) → IsScrubAnswer image a →
         (found : Scrubbed) × IsScrubbed image found ×
-        IsRun bytes (index_entries found.checked found.bindings) }
+        IsRun a.index (index_entries found.checked found.bindings) }
 {}
 
 /// A law: an image has at most one report, one index and one verdict whether it is clean. So the answer is
@@ -233,13 +234,18 @@ pub fn one_report()
     ensures { (image : Image) (a b : AnswerValue) → IsScrubAnswer image a → IsScrubAnswer image b → a ≡ b }
 {}
 
-/// A law: each image has a report, an index and a verdict, and a list of planned extents; also all that a scan
-/// finds as if extents had been reset. With `one_report`, it has exactly one of each.
+/// A law: each image has a report, an index and a verdict, and a list of planned extents. With `one_report`, it
+/// has exactly one of each.
 pub fn each_image_has_a_report()
     ensures report { (image : Image) → (a : AnswerValue) × IsScrubAnswer image a }
-    ensures index { (image : Image) → (bytes : List ℕ) × IsIndex image bytes }
+    ensures index { (image : Image) →
+        (bytes : List ℕ) × (a : AnswerValue) × IsScrubAnswer image a × (bytes ≡ a.index) }
     ensures planned { (image : Image) → (planned : List ℕ) × ArePlannedExtents image planned }
     ensures takings { (image : Image) (workers : ℕ) →
         (takings : TakingsValue) × AreTakingsBy image workers takings }
-    ensures found { (resets : List ℕ) (image : Image) → (found : Scrubbed) × IsScrubbedBut resets image found }
+{}
+
+/// A law: each image has all that a scan finds as if extents had been reset.
+pub fn each_image_has_findings_under_resets()
+    ensures { (resets : List ℕ) (image : Image) → (found : Scrubbed) × IsScrubbedBut resets image found }
 {}

@@ -23,8 +23,8 @@ mod sizes;
 pub mod texts;
 
 pub use answer::{
-    ScrubAnswer, ScrubFault, each_image_has_a_report, one_list_of_planned_extents, one_report,
-    scrub, scrub_in_order, the_index_is_a_run,
+    ScrubAnswer, ScrubFault, each_image_has_a_report, each_image_has_findings_under_resets,
+    one_list_of_planned_extents, one_report, scrub, scrub_in_order, the_index_is_a_run,
 };
 pub use clean::are_clean_items;
 pub use output::{WriteFault, write_out};

@@ -4,7 +4,7 @@ ghost use Rattle.std.specs.Prelude.{◌≡◌, ◌≤◌, IfOk};
 ghost use Rattle.scrub_super.specs.Chosen.{IsChoice};
 ghost use Rattle.scrub_report.specs.Answer.{AreTakingsBy};
 ghost use Rattle.scrub_report.specs.Parts.{IsScan, IsScanBut};
-ghost use Rattle.scrub_report.specs.Scrubbed.{IsPlanBut};
+ghost use Rattle.scrub_report.specs.Resets.{IsPlanBut};
 ghost use Rattle.std.specs.List.Sorted.{IsStrictlyIncreasing};
 
 use crate::answer::ScrubFault;

@@ -1,8 +1,7 @@
 //! What the report says of the shard map: how many shards it has, and which of them are doubtful.
 
 ghost use Rattle.std.specs.Prelude.{◌≡◌, IfOk};
-ghost use Rattle.scrub_report.specs.steps.Lists.{AreShardsOf};
-ghost use Rattle.scrub_report.specs.Report.{doubtful_ids};
+ghost use Rattle.scrub_report.specs.steps.Lists.{AreShardsOf, doubtful_ids};
 
 use scrub_disk::OutOfMemory;
 use scrub_merge::{Binding, ShardMap};

@@ -1,18 +1,18 @@
 -- Index runs as payloads: `RUN1`, the number of entries, the entries, and the SHA-256 (FIPS 180-4) of all before it.
 -- Numbers are big-endian.
-use Rattle.std.specs.Prelude.{◌≡◌, ◌<◌, ◌^◌, ℕ, List, [], ◌∷◌, ◌++◌, length, All, AllPairs}
+use Rattle.std.specs.Prelude.{◌≡◌, ◌<◌, ◌^◌, ℕ, List, ◌++◌, length, All, AllPairs, codes}
 use Rattle.std.specs.List.{flat_map}
 use Rattle.byteorder.specs.Endian.{big_bytes}
 use Rattle.sha2.specs.Sha256.{sha256}
 use Rattle.scrub_run.specs.Entry.{EntryValue, entry_bytes, IsEntry, IsBelow}
 
--- the four bytes that each run begins with, `RUN1`
+-- the four bytes that each run begins with
 abbrev pub run_magic : List ℕ
-run_magic = 0x52 ∷ 0x55 ∷ 0x4E ∷ 0x31 ∷ []
+run_magic = codes "RUN1"
 
--- all of a run before its digest
+-- all of a run before its digest: `RUN1`, the number of entries in four bytes, and the entries
 abbrev pub run_body : List EntryValue → List ℕ
-run_body entries = run_magic ++ (big_bytes 4 (length entries) ++ flat_map entry_bytes entries)
+run_body entries = codes "RUN1" ++ (big_bytes 4 (length entries) ++ flat_map entry_bytes entries)
 
 -- the bytes of the run of these entries: magic, number of entries, entries, and the digest of all before it
 abbrev pub run_bytes : List EntryValue → List ℕ
@@ -22,11 +22,12 @@ run_bytes entries = run_body entries ++ sha256 (run_body entries)
 abbrev pub RisesById : List EntryValue → Type 0
 RisesById entries = AllPairs (λ e f. IsBelow e.id f.id) entries
 
--- what a run can hold: fewer than 2^32 entries, each with at most 64 locators, in strictly ascending order of identifier
+-- what a run can hold: fewer than 2^32 entries, each with at most 64 locators, each identifier below those of all later
+-- entries
 pub record AreEntries (entries : List EntryValue) : Type 0 where
   pub count : length entries < 2 ^ 32
   pub each : All IsEntry entries
-  pub rising : RisesById entries
+  pub rising : AllPairs (λ e f. IsBelow e.id f.id) entries
 
 -- the payload is, from its first byte to its last, the run of these entries; that of no entries has forty bytes
 pub record IsRun (payload : List ℕ) (entries : List EntryValue) : Type 0 where

@@ -13,7 +13,7 @@ pub page_byte : (image : Image) (e i : ℕ) (o : Option (List ℕ)) → HasWhole
     is_none o ≡ true
 page_byte image e i None whole he hi is gap = refl
 page_byte image e i (Some bytes) whole he hi is gap =
-    let pos : 0 < image.geometry.page = omega (arith, image.geometry.page_size.least) in
+    let pos : 0 < image.geometry.page = omega (arith, image.geometry.page_least) in
     let q : i / image.geometry.page < image.geometry.pages =
     div_below i image.geometry.page image.geometry.pages pos (omega (arith, hi)) in
     let l : length bytes ≡ image.geometry.page = whole e (i / image.geometry.page) bytes he q is in
@@ -27,7 +27,7 @@ pub part_stands : (image : Image) (e place last page : ℕ) (bytes : List ℕ) �
     place < extent_bytes image.geometry → image.page e (place / page) ≡ Some bytes → length bytes ≡ page →
     last ≤ page → AreBytesAt (byte image e) place (between (place % page) last bytes)
 part_stands image e place last page bytes same within read l most k hk =
-    let pos : 0 < page = omega (arith, same, image.geometry.page_size.least) in
+    let pos : 0 < page = omega (arith, same, image.geometry.page_least) in
     let lp : length (between (place % page) last bytes) ≡ last - place % page =
     length-between bytes (place % page) last (omega (arith, l, most)) in
     let j : k < last - place % page = omega (arith, hk, lp) in

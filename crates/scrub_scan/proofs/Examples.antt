@@ -1,5 +1,5 @@
 -- The definitions on worked examples, where they compute: lines, and tilings of small extents under some pointers.
-use Rattle.std.proofs.Common.{◌≡◌, ◌<◌, ◌≤◌, ◌+◌, ℕ, Bool, true, false, List, [], ◌∷◌, length, replicate, slice_get, get_or, arith, refl, ap, lit<, zero, suc, Option, Some, None}
+use Rattle.std.proofs.Common.{◌≡◌, ◌≢◌, ◌<◌, ◌≤◌, ◌+◌, ℕ, Bool, true, false, List, [], ◌∷◌, length, replicate, slice_get, get_or, arith, refl, ap, lit<, zero, suc, Option, Some, None}
 use Rattle.std.specs.Prelude.{codes, nat_lt}
 use Rattle.std.proofs.lemmas.Bool.{lt-ltb}
 use Rattle.std.specs.Fmt.{digits}
@@ -9,13 +9,13 @@ use Rattle.uuid.specs.Text.{by_index}
 use Rattle.sha2.specs.Sha256.{sha256}
 use Rattle.scrub_frame.specs.declared.form.Form.TheVariants.{Plain, Sealed}
 use Rattle.scrub_frame.specs.Frame.{frame, magic, frame_overhead}
-use Rattle.scrub_frame.proofs.Frames.{length-frame}
 use Rattle.scrub_scan.specs.declared.item.Item.TheVariants.{Chunk, Pad, Torn, Noise, Lost}
-use Rattle.scrub_scan.specs.Extent.{Extent, FrameAt, NoFrameAt, IsZero, IsUnreadableAt, HasMagic}
+use Rattle.scrub_scan.specs.Extent.{Extent, FrameAt, NoFrameAt, IsZero, HasMagic}
 use Rattle.scrub_scan.specs.Item.{IsItem}
 use Rattle.scrub_scan.specs.Line.{line_of}
 use Rattle.scrub_scan.specs.Tiling.{IsTiling}
 use Rattle.scrub_scan.specs.steps.OneFrame.{one_frame_at}
+use Rattle.scrub_scan.proofs.FrameBytes.{first_byte}
 
 -- the UUID of sixteen bytes 11
 ones : List ℕ
@@ -71,7 +71,7 @@ tiling_under_41 = record {
   joined = (refl, refl);
   each = All-cons (IsItem (abc_under 41)) (Chunk Plain 0 41 ones 3 (sha256 abc)) [] (record {
     below = lit< tt;
-    fits = (refl, (abc, record { frame = stands 41 (omega arith); length = refl; stop = refl; digest_is = refl }));
+    fits = (abc, stands 41 (omega arith), refl, refl, refl);
   }) (All-nil (IsItem (abc_under 41)));
 }
 
@@ -90,7 +90,7 @@ no_frame_under w h f u b k =
     let round : frame_overhead f ≡ 38 = ap frame_overhead same.0 in
     omega (arith, k.fits, long, round, h)
 
-is_readable : (w : ℕ) → ¬ IsUnreadableAt (abc_under w) 0
+is_readable : (w : ℕ) → (abc_under w).byte 0 ≢ None
 unfolding abc_under ones abc
 is_readable w none = absurd (cc)
 
@@ -115,7 +115,7 @@ tiling_under_40 = record {
   each = All-cons (IsItem (abc_under 40)) (Torn 0 40) [] (record {
     below = lit< tt;
     fits = (
-      (refl, refl),
+      refl,
       no_frame_under 40 (lit< tt),
       is_readable 40,
       is_not_zero 40 (lit< tt),
@@ -132,7 +132,7 @@ tiling_under_1 = record {
   each = All-cons (IsItem (abc_under 1)) (Noise 0 1) [] (record {
     below = lit< tt;
     fits = (
-      (refl, refl),
+      refl,
       no_frame_under 1 (lit< tt),
       is_readable 1,
       is_not_zero 1 (lit< tt),
@@ -157,8 +157,7 @@ zeros_then_lost = record { byte = λ i. zero_or_lost (nat_lt i 64); page = 64; p
 
 no_frame_in_zeros : (p : ℕ) → NoFrameAt zeros_then_lost p
 unfolding zeros_then_lost zero_or_lost
-no_frame_in_zeros p f u b k =
-    first (nat_lt (p + 0) 64) (k.stands 0 (omega (arith, length-frame f u b k.has_frame.sixteen)))
+no_frame_in_zeros p f u b k = first (nat_lt p 64) (first_byte zeros_then_lost p f u b k)
   where
     first : (b : Bool) → zero_or_lost b ≡ Some 0xC5 → ⊥
     first true e = cc
@@ -170,9 +169,9 @@ tiling_of_zeros_then_lost = record {
   joined = (refl, (refl, refl));
   each = All-cons (IsItem zeros_then_lost) (Pad 0 64) (Lost 64 100 ∷ []) (record {
     below = lit< tt;
-    fits = ((refl, refl), no_frame_in_zeros 0, λ i low high. ap zero_or_lost (lt-ltb i 64 high));
+    fits = (refl, no_frame_in_zeros 0, λ i low high. ap zero_or_lost (lt-ltb i 64 high));
   }) (All-cons (IsItem zeros_then_lost) (Lost 64 100) [] (record {
     below = lit< tt;
-    fits = ((refl, refl), no_frame_in_zeros 64, refl);
+    fits = (refl, no_frame_in_zeros 64, refl);
   }) (All-nil (IsItem zeros_then_lost)));
 }

@@ -8,7 +8,7 @@ use Rattle.sha2.specs.Sha256.{sha256}
 use Rattle.scrub_disk.specs.Image.{Image, AreBytesAt, unreadable_pages}
 use Rattle.scrub_frame.specs.declared.form.Form.{Form}
 use Rattle.scrub_frame.specs.declared.form.Form.TheVariants.{Plain, Sealed}
-use Rattle.scrub_frame.specs.Frame.{frame, head, magic, seal, mark, payload_start, head_size, frame_overhead, HasFrame}
+use Rattle.scrub_frame.specs.Frame.{frame, head, magic, seal, mark, payload_start, head_size, frame_overhead}
 use Rattle.scrub_frame.specs.Matching.{form_in, length_in, uuid_in}
 use Rattle.scrub_frame.proofs.Claims.{IsHead, form-in, length-in, uuid-in}
 use Rattle.scrub_frame.proofs.Decisions.{Decided, decided_like, decided_both, decided_less, decided_at_most, decided_number, decided_below, decided_some}
@@ -17,7 +17,7 @@ use Rattle.scrub_super.proofs.BytesHere.{bytes_here, length-bytes_here, exactly,
 use Rattle.scrub_scan.specs.declared.item.Item.{Item}
 use Rattle.scrub_scan.specs.declared.item.Item.TheVariants.{Chunk, Pad, Torn, Noise, Lost}
 use Rattle.scrub_scan.specs.declared.findings.Findings.{Findings}
-use Rattle.scrub_scan.specs.Extent.{Extent, extent_of, FrameAt, NoFrameAt, bound, IsUnreadableAt, IsZero, HasMagic}
+use Rattle.scrub_scan.specs.Extent.{Extent, extent_of, FrameAt, NoFrameAt, bound, IsZero, HasMagic}
 use Rattle.scrub_scan.specs.Item.{start_of, stop_of, IsItem}
 use Rattle.scrub_scan.specs.Tiling.{Joins, IsTiling}
 use Rattle.scrub_scan.specs.Findings.{tail, IsFindings}
@@ -129,25 +129,25 @@ some_item x p below = by_frame (some_frame x p)
       refl,
       record {
         below = below;
-        fits = (refl, (k.2, record { frame = k.3; length = refl; stop = refl; digest_is = refl }));
+        fits = (k.2, k.3, refl, refl, refl);
       },
     )
     by_frame (inr none) = by_page (decided_none (x.byte p))
       where
-        by_page : Decided (IsUnreadableAt x p) → (item : Item) × (start_of item ≡ p) × IsItem x item
+        by_page : Decided (x.byte p ≡ None) → (item : Item) × (start_of item ≡ p) × IsItem x item
         by_page (inl lost) =
-            (Lost p stop, refl, record { below = below; fits = ((refl, refl), none, lost) })
+            (Lost p stop, refl, record { below = below; fits = (refl, none, lost) })
         by_page (inr there) = by_zeros (decided_zero x p)
           where
             by_zeros : Decided (IsZero x p) → (item : Item) × (start_of item ≡ p) × IsItem x item
-            by_zeros (inl zeros) = (Pad p stop, refl, record { below = below; fits = ((refl, refl), none, zeros) })
+            by_zeros (inl zeros) = (Pad p stop, refl, record { below = below; fits = (refl, none, zeros) })
             by_zeros (inr other) = by_magic (decided_magic x p)
               where
                 by_magic : Decided (HasMagic x p) → (item : Item) × (start_of item ≡ p) × IsItem x item
                 by_magic (inl m) =
-                    (Torn p stop, refl, record { below = below; fits = ((refl, refl), none, there, other, m) })
+                    (Torn p stop, refl, record { below = below; fits = (refl, none, there, other, m) })
                 by_magic (inr m) =
-                    (Noise p stop, refl, record { below = below; fits = ((refl, refl), none, there, other, m) })
+                    (Noise p stop, refl, record { below = below; fits = (refl, none, there, other, m) })
 
 -- ---- tilings
 
@@ -182,14 +182,14 @@ some_tiling x pos =
 
 pub some_findings : (image : Image) (e w : ℕ) → (found : Findings) × IsFindings image e w found
 some_findings image e w =
-    let tiled = some_tiling (extent_of image e w) (omega (arith, image.geometry.page_size.least)) in (
+    let tiled = some_tiling (extent_of image e w) (omega (arith, image.geometry.page_least)) in (
       record {
         items = tiled.0;
         tail_count = length (tail image e w);
         tail_first = slice_get (tail image e w) 0;
         bad_pages = unreadable_pages image e;
       },
-      record { tiled = tiled.1; tail = record { counted = refl; least = refl }; bad_pages = refl },
+      record { tiled = tiled.1; tail_counted = refl; tail_least = refl; bad_pages = refl },
     )
 
 -- ---- all planned extents

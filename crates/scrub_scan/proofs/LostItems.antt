@@ -10,12 +10,12 @@ use Rattle.std.proofs.lemmas.List.Elements.{All-head, All-tail}
 use Rattle.scrub_disk.specs.Image.{Image, byte, extent_bytes, HasWholePages}
 use Rattle.scrub_disk.proofs.Filters.{filter_yes, filter_no}
 use Rattle.scrub_frame.specs.Frame.{frame, frame_overhead}
-use Rattle.scrub_frame.proofs.Frames.{length-frame}
+use Rattle.scrub_frame.proofs.Frames.{length-frame, overhead}
 use Rattle.scrub_scan.specs.declared.item.Item.{Item}
 use Rattle.scrub_scan.specs.declared.item.Item.TheVariants.{Chunk, Pad, Torn, Noise, Lost}
 use Rattle.scrub_scan.specs.declared.pages.Target.{Target}
 use Rattle.scrub_scan.specs.Extent.{bound}
-use Rattle.scrub_scan.specs.Item.{start_of, stop_of, IsItem, IsChunk}
+use Rattle.scrub_scan.specs.Item.{start_of, stop_of, IsItem}
 use Rattle.scrub_scan.specs.Findings.{unreadable_below, lost_page}
 use Rattle.scrub_scan.specs.steps.Pages.{IsTarget, target_of}
 use Rattle.scrub_scan.specs.Tiling.{Joins, IsTiling}
@@ -83,31 +83,30 @@ module _ (image : Image) (t : Target) (whole : HasWholePages image) (is : IsTarg
   lost_in_item : (item : Item) → IsItem (target_of image t) item →
       unreadable_below image t.extent (stop_of item / t.page) ≡ unreadable_below image t.extent (start_of item / t.page) ++ cons_option (lost_page t.page item) []
   lost_in_item (Chunk f start stop u n digest) h =
-      let k : IsChunk (target_of image t) start f stop n u digest h.fits.1.0 = h.fits.1.1 in
-      let size : length (frame f u h.fits.1.0) ≡ frame_overhead f + length h.fits.1.0 =
-      length-frame f u h.fits.1.0 k.frame.has_frame.sixteen in
-      pages_readable start stop (omega (arith, k.stop)) (λ q low high.
+      let size : length (frame f u h.fits.0) ≡ frame_overhead f + length h.fits.0 =
+      length-frame f u h.fits.0 h.fits.1.has_frame.sixteen in
+      pages_readable start stop (omega (arith, overhead f, h.fits.2)) (λ q low high.
       let last : q ≤ (stop - 1) / t.page = le-div q (stop - 1) t.page t.positive
       (let next : q + 1 ≤ stop / t.page = omega (arith, high) in omega (arith, mul-le-mul_left t.page next, div-mul-le_self stop t.page, t.positive)) in
-      let here = place_in_page q start stop t.page t.positive (omega (arith, k.stop)) low last in
+      let here = place_in_page q start stop t.page t.positive (omega (arith, overhead f, h.fits.2)) low last in
       let j : start + (here.0 - start) ≡ here.0 = omega (arith, here.1) in
       ap (λ r. is_none (image.page t.extent r)) (sym here.3)
       ∙ readable_page image t.extent here.0 t.page is.page (λ none.
       none-some _
-      (sym none ∙ ap (byte image t.extent) (sym j) ∙ k.frame.stands (here.0 - start) (omega (arith, here.1, here.2, k.stop, size)))))
+      (sym none ∙ ap (byte image t.extent) (sym j) ∙ h.fits.1.stands (here.0 - start) (omega (arith, here.1, here.2, h.fits.2, size)))))
   lost_in_item (Pad start stop) h =
       let up = advances (target_of image t) (Pad start stop) (omega (arith, t.positive, is.page)) h in
-      one_readable start stop (omega (arith, up.0)) (bound_at start stop h.fits.0.1)
-      (λ none. none-some _ (sym none ∙ h.fits.2 start (omega arith) (omega (arith, up.0, h.fits.0.1))))
+      one_readable start stop (omega (arith, up.0)) (bound_at start stop h.fits.0)
+      (λ none. none-some _ (sym none ∙ h.fits.2 start (omega arith) (omega (arith, up.0, h.fits.0))))
   lost_in_item (Torn start stop) h =
       let up = advances (target_of image t) (Torn start stop) (omega (arith, t.positive, is.page)) h in
-      one_readable start stop (omega (arith, up.0)) (bound_at start stop h.fits.0.1) h.fits.2
+      one_readable start stop (omega (arith, up.0)) (bound_at start stop h.fits.0) h.fits.2
   lost_in_item (Noise start stop) h =
       let up = advances (target_of image t) (Noise start stop) (omega (arith, t.positive, is.page)) h in
-      one_readable start stop (omega (arith, up.0)) (bound_at start stop h.fits.0.1) h.fits.2
+      one_readable start stop (omega (arith, up.0)) (bound_at start stop h.fits.0) h.fits.2
   lost_in_item (Lost start stop) h =
       let up = advances (target_of image t) (Lost start stop) (omega (arith, t.positive, is.page)) h in
-      let next = next_at_most start stop t.page t.positive (bound_at start stop h.fits.0.1) in
+      let next = next_at_most start stop t.page t.positive (bound_at start stop h.fits.0) in
       let rises = page_rises start stop t.page t.positive (omega (arith, up.0)) in
       elim (cases_lt (start / t.page) (stop / t.page)) [
         | inl passed ↦

@@ -1,5 +1,5 @@
 -- Tilings: how one grows item by item, and that an extent has one.
-use Rattle.std.proofs.Common.{◌≡◌, ◌<◌, ◌≤◌, ◌+◌, ◌*◌, ◌/◌, ◌%◌, ℕ, List, [], ◌∷◌, ◌++◌, length, arith, refl, sym, ◌∙◌, ap, inl, inr, All, Some, None, zero, suc, slice_get, ◌⊎◌}
+use Rattle.std.proofs.Common.{◌≡◌, ◌<◌, ◌≤◌, ◌+◌, ◌*◌, ◌/◌, ◌%◌, ℕ, List, [], ◌∷◌, ◌++◌, length, arith, refl, sym, ◌∙◌, ap, inl, inr, All, Some, None, zero, suc, slice_get, subst, ◌⊎◌}
 use Rattle.std.proofs.Math.Nat.{mod-lt}
 use Rattle.std.proofs.lemmas.Bool.{cases_lt}
 use Rattle.std.proofs.lemmas.Nat.{div-add-mod'}
@@ -11,9 +11,9 @@ use Rattle.scrub_frame.proofs.Frames.{overhead}
 use Rattle.scrub_scan.specs.declared.item.Item.{Item}
 use Rattle.scrub_scan.specs.declared.item.Item.TheVariants.{Chunk, Pad, Torn, Noise, Lost}
 use Rattle.sha2.specs.Sha256.{sha256}
-use Rattle.scrub_scan.specs.Extent.{Extent, bound, IsZero, IsUnreadableAt}
+use Rattle.scrub_scan.specs.Extent.{Extent, bound, IsZero}
 use Rattle.scrub_scan.specs.steps.Gathering.{TiledTo}
-use Rattle.scrub_scan.specs.Item.{start_of, stop_of, IsItem, IsChunk, Fits, Spans}
+use Rattle.scrub_scan.specs.Item.{start_of, stop_of, IsItem, Fits}
 use Rattle.scrub_scan.specs.steps.OneFrame.{one_frame_at}
 use Rattle.scrub_scan.specs.Tiling.{Covers, IsInOneItem, IsTiling, Joins}
 
@@ -33,20 +33,19 @@ bound_above x p pos h =
 pub advances : (x : Extent) (item : Item) → 0 < x.page → IsItem x item →
     (start_of item < stop_of item) × (stop_of item ≤ x.pointer)
 advances x (Chunk f start stop u n digest) pos h =
-    let k : IsChunk x start f stop n u digest h.fits.1.0 = h.fits.1.1 in
-    (omega (arith, overhead f, k.stop), omega (arith, k.stop, k.frame.fits))
+    (omega (arith, overhead f, h.fits.2), omega (arith, h.fits.2, h.fits.1.fits))
 advances x (Lost start stop) pos h =
     let b = bound_above x start pos h.below in
-    (omega (arith, h.fits.0.1, b.0), omega (arith, h.fits.0.1, b.1))
+    (omega (arith, h.fits.0, b.0), omega (arith, h.fits.0, b.1))
 advances x (Pad start stop) pos h =
     let b = bound_above x start pos h.below in
-    (omega (arith, h.fits.0.1, b.0), omega (arith, h.fits.0.1, b.1))
+    (omega (arith, h.fits.0, b.0), omega (arith, h.fits.0, b.1))
 advances x (Torn start stop) pos h =
     let b = bound_above x start pos h.below in
-    (omega (arith, h.fits.0.1, b.0), omega (arith, h.fits.0.1, b.1))
+    (omega (arith, h.fits.0, b.0), omega (arith, h.fits.0, b.1))
 advances x (Noise start stop) pos h =
     let b = bound_above x start pos h.below in
-    (omega (arith, h.fits.0.1, b.0), omega (arith, h.fits.0.1, b.1))
+    (omega (arith, h.fits.0, b.0), omega (arith, h.fits.0, b.1))
 
 pub one_more_item : (x : Extent) (p q : ℕ) (items : List Item) (item : Item) → 0 < x.page → TiledTo x p items →
     start_of item ≡ p → IsItem x item → q ≡ stop_of item → TiledTo x q (items ++ item ∷ [])
@@ -56,62 +55,78 @@ one_more_item x p q items item pos h starts is stops = record {
   within = omega (arith, stops, (advances x item pos is).1);
 }
 
--- an item of the same kind from the same place to the bound is the same; one of two chunks of the same frame, too
-same_span : (kind : ℕ → ℕ → Item) (x : Extent) (p a b a' b' : ℕ) → Spans x p a b → Spans x p a' b' →
-    kind a b ≡ kind a' b'
-same_span kind x p a b a' b' h k = ap (λ n. kind n b) (h.0 ∙ sym k.0) ∙ ap (λ n. kind a' n) (h.1 ∙ sym k.1)
-
-same_chunk : (x : Extent) (p : ℕ) (f : Form) (a b : ℕ) (u : List ℕ) (n : ℕ) (d : List ℕ) (g : Form) (a' b' : ℕ) (v : List ℕ) (m : ℕ) (c : List ℕ) →
-    Fits x p (Chunk f a b u n d) → Fits x p (Chunk g a' b' v m c) → Chunk f a b u n d ≡ Chunk g a' b' v m c
-same_chunk x p f a b u n d g a' b' v m c h k =
-    let s : (f ≡ g) × (u ≡ v) × (h.1.0 ≡ k.1.0) = one_frame_at x p f u h.1.0 g v k.1.0 h.1.1.frame k.1.1.frame in
-    let e : n ≡ m = h.1.1.length ∙ ap length s.2 ∙ sym k.1.1.length in
+-- two chunks of the same frame are the same
+same_chunk : (x : Extent) (p : ℕ) (f : Form) (b : ℕ) (u : List ℕ) (n : ℕ) (d : List ℕ) (g : Form) (b' : ℕ) (v : List ℕ) (m : ℕ) (c : List ℕ) →
+    Fits x (Chunk f p b u n d) → Fits x (Chunk g p b' v m c) → Chunk f p b u n d ≡ Chunk g p b' v m c
+same_chunk x p f b u n d g b' v m c h k =
+    let s : (f ≡ g) × (u ≡ v) × (h.0 ≡ k.0) = one_frame_at x p f u h.0 g v k.0 h.1 k.1 in
+    let e : n ≡ m = h.3 ∙ ap length s.2 ∙ sym k.3 in
     let stop : b ≡ b' =
-    h.1.1.stop ∙ ap (λ t. p + length t + frame_overhead f) s.2
-    ∙ ap (λ (o : Form). p + length k.1.0 + frame_overhead o) s.0 ∙ sym k.1.1.stop in
-    let sha : d ≡ c = h.1.1.digest_is ∙ ap sha256 s.2 ∙ sym k.1.1.digest_is in
-    ap (λ z. Chunk z a b u n d) s.0 ∙ ap (λ z. Chunk g z b u n d) (h.0 ∙ sym k.0) ∙ ap (λ z. Chunk g a' z u n d) stop
-    ∙ ap (λ z. Chunk g a' b' z n d) s.1 ∙ ap (λ z. Chunk g a' b' v z d) e ∙ ap (λ z. Chunk g a' b' v m z) sha
+    h.2 ∙ ap (λ t. p + length t + frame_overhead f) s.2
+    ∙ ap (λ (o : Form). p + length k.0 + frame_overhead o) s.0 ∙ sym k.2 in
+    let sha : d ≡ c = h.4 ∙ ap sha256 s.2 ∙ sym k.4 in
+    ap (λ z. Chunk z p b u n d) s.0 ∙ ap (λ z. Chunk g p z u n d) stop ∙ ap (λ z. Chunk g p b' z n d) s.1
+    ∙ ap (λ z. Chunk g p b' v z d) e ∙ ap (λ z. Chunk g p b' v m z) sha
 
 -- a page with zeros is readable
-zeros_are_readable : (x : Extent) (p : ℕ) → p < bound x p → IsZero x p → IsUnreadableAt x p → ⊥
+zeros_are_readable : (x : Extent) (p : ℕ) → p < bound x p → IsZero x p → x.byte p ≡ None → ⊥
 zeros_are_readable x p hp z none = some_none 0 (sym (z p (omega arith) hp) ∙ none)
   where
     some_none : (a : ℕ) → Some a ≡ None → ⊥
     some_none a e = cc
 
+-- the item with another start
+abbrev put_at : ℕ → Item → Item
+put_at p (Chunk f a b u n d) = Chunk f p b u n d
+put_at p (Lost a b) = Lost p b
+put_at p (Pad a b) = Pad p b
+put_at p (Torn a b) = Torn p b
+put_at p (Noise a b) = Noise p b
+
+put_at_start : (i : Item) → put_at (start_of i) i ≡ i
+put_at_start (Chunk f a b u n d) = refl
+put_at_start (Lost a b) = refl
+put_at_start (Pad a b) = refl
+put_at_start (Torn a b) = refl
+put_at_start (Noise a b) = refl
+
 -- at most one item fits at a place, since the cases exclude one another
-one_item_fits : (x : Extent) (p : ℕ) (i j : Item) → p < bound x p → Fits x p i → Fits x p j → i ≡ j
-one_item_fits x p (Chunk f a b u n d) (Chunk g a' b' v m c) hp h k = same_chunk x p f a b u n d g a' b' v m c h k
-one_item_fits x p (Chunk f a b u n d) (Lost a' b') hp h k = absurd (k.1 f u h.1.0 h.1.1.frame)
-one_item_fits x p (Chunk f a b u n d) (Pad a' b') hp h k = absurd (k.1 f u h.1.0 h.1.1.frame)
-one_item_fits x p (Chunk f a b u n d) (Torn a' b') hp h k = absurd (k.1 f u h.1.0 h.1.1.frame)
-one_item_fits x p (Chunk f a b u n d) (Noise a' b') hp h k = absurd (k.1 f u h.1.0 h.1.1.frame)
-one_item_fits x p (Lost a b) (Chunk g a' b' v m c) hp h k = absurd (h.1 g v k.1.0 k.1.1.frame)
-one_item_fits x p (Lost a b) (Lost a' b') hp h k = same_span Lost x p a b a' b' h.0 k.0
+one_item_fits : (x : Extent) (p : ℕ) (i j : Item) → p < bound x p → Fits x (put_at p i) → Fits x (put_at p j) →
+    put_at p i ≡ put_at p j
+one_item_fits x p (Chunk f a b u n d) (Chunk g a' b' v m c) hp h k = same_chunk x p f b u n d g b' v m c h k
+one_item_fits x p (Chunk f a b u n d) (Lost a' b') hp h k = absurd (k.1 f u h.0 h.1)
+one_item_fits x p (Chunk f a b u n d) (Pad a' b') hp h k = absurd (k.1 f u h.0 h.1)
+one_item_fits x p (Chunk f a b u n d) (Torn a' b') hp h k = absurd (k.1 f u h.0 h.1)
+one_item_fits x p (Chunk f a b u n d) (Noise a' b') hp h k = absurd (k.1 f u h.0 h.1)
+one_item_fits x p (Lost a b) (Chunk g a' b' v m c) hp h k = absurd (h.1 g v k.0 k.1)
+one_item_fits x p (Lost a b) (Lost a' b') hp h k = ap (λ z. Lost p z) (h.0 ∙ sym k.0)
 one_item_fits x p (Lost a b) (Pad a' b') hp h k = absurd (zeros_are_readable x p hp k.2 h.2)
 one_item_fits x p (Lost a b) (Torn a' b') hp h k = absurd (k.2 h.2)
 one_item_fits x p (Lost a b) (Noise a' b') hp h k = absurd (k.2 h.2)
-one_item_fits x p (Pad a b) (Chunk g a' b' v m c) hp h k = absurd (h.1 g v k.1.0 k.1.1.frame)
+one_item_fits x p (Pad a b) (Chunk g a' b' v m c) hp h k = absurd (h.1 g v k.0 k.1)
 one_item_fits x p (Pad a b) (Lost a' b') hp h k = absurd (zeros_are_readable x p hp h.2 k.2)
-one_item_fits x p (Pad a b) (Pad a' b') hp h k = same_span Pad x p a b a' b' h.0 k.0
+one_item_fits x p (Pad a b) (Pad a' b') hp h k = ap (λ z. Pad p z) (h.0 ∙ sym k.0)
 one_item_fits x p (Pad a b) (Torn a' b') hp h k = absurd (k.3 h.2)
 one_item_fits x p (Pad a b) (Noise a' b') hp h k = absurd (k.3 h.2)
-one_item_fits x p (Torn a b) (Chunk g a' b' v m c) hp h k = absurd (h.1 g v k.1.0 k.1.1.frame)
+one_item_fits x p (Torn a b) (Chunk g a' b' v m c) hp h k = absurd (h.1 g v k.0 k.1)
 one_item_fits x p (Torn a b) (Lost a' b') hp h k = absurd (h.2 k.2)
 one_item_fits x p (Torn a b) (Pad a' b') hp h k = absurd (h.3 k.2)
-one_item_fits x p (Torn a b) (Torn a' b') hp h k = same_span Torn x p a b a' b' h.0 k.0
+one_item_fits x p (Torn a b) (Torn a' b') hp h k = ap (λ z. Torn p z) (h.0 ∙ sym k.0)
 one_item_fits x p (Torn a b) (Noise a' b') hp h k = absurd (k.4 h.4)
-one_item_fits x p (Noise a b) (Chunk g a' b' v m c) hp h k = absurd (h.1 g v k.1.0 k.1.1.frame)
+one_item_fits x p (Noise a b) (Chunk g a' b' v m c) hp h k = absurd (h.1 g v k.0 k.1)
 one_item_fits x p (Noise a b) (Lost a' b') hp h k = absurd (h.2 k.2)
 one_item_fits x p (Noise a b) (Pad a' b') hp h k = absurd (h.3 k.2)
 one_item_fits x p (Noise a b) (Torn a' b') hp h k = absurd (h.4 k.4)
-one_item_fits x p (Noise a b) (Noise a' b') hp h k = same_span Noise x p a b a' b' h.0 k.0
+one_item_fits x p (Noise a b) (Noise a' b') hp h k = ap (λ z. Noise p z) (h.0 ∙ sym k.0)
 
 -- there is one item at a place
 pub one_item : (x : Extent) (i j : Item) → 0 < x.page → IsItem x i → IsItem x j → start_of i ≡ start_of j → i ≡ j
 one_item x i j pos h k e =
-    one_item_fits x (start_of i) i j (bound_above x (start_of i) pos h.below).0 h.fits (rw e k.fits)
+    let first : Fits x (put_at (start_of i) i) = subst (Fits x) (sym (put_at_start i)) h.fits in
+    let second : Fits x (put_at (start_of j) j) = subst (Fits x) (sym (put_at_start j)) k.fits in
+    let moved : Fits x (put_at (start_of i) j) = subst (λ (p : ℕ). Fits x (put_at p j)) (sym e) second in
+    sym (put_at_start i) ∙ one_item_fits x (start_of i) i j (bound_above x (start_of i) pos h.below).0 first moved
+    ∙ ap (λ p. put_at p j) e ∙ put_at_start j
 
 pub one_tiling : (x : Extent) (is js : List Item) → 0 < x.page → IsTiling x is → IsTiling x js → is ≡ js
 one_tiling x is js pos h k = go 0 is js h.joined k.joined h.each k.each

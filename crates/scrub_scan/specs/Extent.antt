@@ -4,8 +4,8 @@ use Rattle.scrub_disk.specs.Image.{Image, byte, AreBytesAt}
 use Rattle.scrub_frame.specs.declared.form.Form.{Form}
 use Rattle.scrub_frame.specs.Frame.{frame, magic, frame_overhead, HasFrame}
 
--- an extent under its write pointer: each byte, or None if its page is unreadable; the size of a page; and the pointer,
--- both in bytes
+-- an extent under its write pointer: each byte, or None if its page is unreadable or not in the extent; the size of a
+-- page; and the pointer, both in bytes
 pub record Extent : Type 0 where
   pub byte : ℕ → Option ℕ
   pub page : ℕ
@@ -28,10 +28,6 @@ bound x p = min x.pointer ((p / x.page + 1) * x.page)
 -- no frame of either form is at p
 abbrev pub NoFrameAt : Extent → ℕ → Type 0
 NoFrameAt x p = (f : Form) (u b : List ℕ) → ¬ FrameAt x p f u b
-
--- byte p of the extent can't be read: its page is unreadable, or it isn't in the extent
-abbrev pub IsUnreadableAt : Extent → ℕ → Type 0
-IsUnreadableAt x p = x.byte p ≡ None
 
 -- all bytes from p to the bound are zero
 abbrev pub IsZero : Extent → ℕ → Type 0

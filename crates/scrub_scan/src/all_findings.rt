@@ -189,7 +189,8 @@ impl<'a, 'd, D: PageSource> Iterator for Results<'a, 'd, D> {
     }
 }
 
-/// A law: under each write pointer there are findings of each extent of an image, and a plan has findings of
+/// A law: under each write pointer there are findings of each extent of an image; and a plan within the
+/// limits of its sizes (`IsPlan plan`), as each is that follows from the choice of an image, has findings of
 /// all extents that it plans.
 pub fn each_plan_has_all_findings()
     ensures extent { (image : Image) (e w : ℕ) → (found : Findings) × IsFindings image e w found }

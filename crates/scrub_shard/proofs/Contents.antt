@@ -12,6 +12,7 @@ use Rattle.scrub_disk.specs.declared.geometry.Geometry.{Geometry}
 use Rattle.scrub_disk.specs.Image.{Image}
 use Rattle.scrub_frame.specs.declared.locator.Locator.{Locator}
 use Rattle.scrub_super.specs.Planned.{extents_in_use}
+use Rattle.scrub_super.proofs.PlanParts.{plan_parts}
 use Rattle.scrub_scan.specs.declared.standing.Standing.{Standing}
 use Rattle.scrub_scan.specs.Scanned.{Scanned}
 use Rattle.scrub_scan.specs.Standing.{Stands}
@@ -133,8 +134,8 @@ bytes_are_asked_for image id found x =
 -- all extents in use of an image are scanned
 pub whole_scan : (image : Image) (m : Mapped) → IsMapped image m → IsWholeScan image m.plan m.all
 whole_scan image m x = record {
-  geometry = x.plan.geometry ∙ x.choice.geometry;
-  planned = x.plan.all ∙ ap (λ (g : Geometry). extents_in_use g.extents m.plan.retired) x.choice.geometry;
+  geometry = (plan_parts m.choice m.plan x.plan).geometry ∙ x.choice.geometry;
+  planned = (plan_parts m.choice m.plan x.plan).all ∙ ap (λ (g : Geometry). extents_in_use g.extents m.plan.retired) x.choice.geometry;
   findings = x.all;
 }
 

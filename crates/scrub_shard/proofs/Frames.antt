@@ -15,8 +15,7 @@ use Rattle.scrub_scan.specs.Findings.{IsFindings}
 use Rattle.scrub_scan.specs.Item.{IsItem}
 use Rattle.scrub_scan.specs.Scanned.{Scanned}
 use Rattle.scrub_scan.specs.Standing.{Stands}
-use Rattle.scrub_check.specs.Chunks.{frame_of_item}
-use Rattle.scrub_check.specs.Spares.{frames, frames_in}
+use Rattle.scrub_check.specs.Spares.{frame_of_item, frames, frames_in}
 use Rattle.scrub_check.specs.WholeScan.{IsWholeScan}
 use Rattle.scrub_check.proofs.Payloads.{within}
 
@@ -24,15 +23,15 @@ use Rattle.scrub_check.proofs.Payloads.{within}
 item_stands : (image : Image) (e w : ℕ) (item : Item) (s : Standing) → e < image.geometry.extents →
     IsItem (extent_of image e w) item → frame_of_item e item ≡ Some s → Stands image s
 item_stands image e w (Chunk f start stop u n digest) s below is found =
-    let payload = is.fits.1.0 in
+    let payload = is.fits.0 in
     subst (Stands image) (same_Some _ s found) (record {
       payload = payload;
       has = record {
         in_disk = below;
         frame = record {
-          frame = within image e w start f u payload is.fits.1.1.frame;
-          length = is.fits.1.1.length;
-          digest = is.fits.1.1.digest_is;
+          frame = within image e w start f u payload is.fits.1;
+          length = is.fits.3;
+          digest = is.fits.4;
         };
       };
     })

@@ -6,7 +6,7 @@ use Rattle.sha2.specs.Sha256.{sha256}
 use Rattle.scrub_disk.specs.Image.{Image}
 use Rattle.scrub_frame.specs.declared.locator.Locator.{Locator}
 use Rattle.scrub_super.specs.Chosen.{Choice, IsChoice}
-use Rattle.scrub_super.specs.Plan.{PlanValue, IsPlanOf}
+use Rattle.scrub_super.specs.Plan.{PlanValue, plan_of}
 use Rattle.scrub_scan.specs.declared.standing.Standing.{Standing}
 use Rattle.scrub_scan.specs.AllFindings.{AreAllFindings}
 use Rattle.scrub_scan.specs.Scanned.{Scanned}
@@ -38,7 +38,7 @@ pub record Mapped : Type 0 where
 -- each part of it is as it is in the image
 pub record IsMapped (image : Image) (m : Mapped) : Type 0 where
   pub choice : IsChoice image m.choice
-  pub plan : IsPlanOf m.choice m.plan
+  pub plan : m.plan ≡ plan_of m.choice
   pub all : AreAllFindings image m.plan m.all
   pub read : AreReadRuns image m.plan m.read
   pub bindings : IsShardMap m.read.runs m.bindings

@@ -3,25 +3,26 @@ use Rattle.std.proofs.Common.{◌≡◌, ◌<◌, ◌≤◌, ◌+◌, ◌-◌, �
 use Rattle.std.proofs.lemmas.Bool.{cases_lt, false≢true, false_from_ne_true}
 use Rattle.std.proofs.lemmas.Option.{slice_get_within, slice_get-get_or, slice_get_past, none-some}
 use Rattle.std.proofs.lemmas.List.{length-take-le, get_or_append_left, get_or-append_right}
-use Rattle.std.proofs.lemmas.List.Elements.{Contains-push, Contains-append_left}
+use Rattle.std.proofs.lemmas.List.Elements.{All-push, Contains-push, Contains-append_left}
 use Rattle.std.proofs.Math.Seq.{get_or-append_seam}
 use Rattle.std.proofs.lemmas.List.{get_or-append-add}
 use Rattle.scrub_disk.specs.Image.{AreBytesAt}
 use Rattle.scrub_disk.specs.Limits.{max_extent_bytes}
+use Rattle.scrub_disk.specs.Raw.{MayFailIn}
 use Rattle.scrub_super.specs.Blocks.{IsMarked, LacksByte, byte_left, LosesBlocks}
 use Rattle.scrub_super.specs.steps.BlocksRead.{IsBlockRead, AreBlockMarks, AreBlocksRead, AreAllRead, BeginsWith}
 
 -- ---- one block
 
 -- a block that was read, which is lost only if its first lacking byte was read
-pub block_read : (raw : Option (List ℕ)) (offset lacking before after n : ℕ) (is_lost : Bool) (out : List ℕ) →
+pub block_read : (fails : ℕ → ℕ → Bool) (raw : Option (List ℕ)) (offset lacking before after n : ℕ) (is_lost : Bool) (out : List ℕ) →
     n ≤ length out → length out ≡ 512 →
     IfSome raw (λ bytes. AreBytesAt (slice_get bytes) offset (take n out)) →
     (n < length out → IfSome raw (λ bytes. length bytes ≤ offset + n)) →
     (is_lost ≡ true → lacking < n) → (lacking < n → is_lost ≡ true) →
-    IfSome raw (λ bytes. IsBlockRead bytes offset lacking before after out (record { len = n; is_lost = is_lost }))
-block_read None offset lacking before after n is_lost out le size stands ends only all = tt
-block_read (Some bytes) offset lacking before after n is_lost out le size stands ends only all = record {
+    IfSome raw (λ bytes. IsBlockRead bytes fails offset lacking before after out (record { len = n; is_lost = is_lost }))
+block_read fails None offset lacking before after n is_lost out le size stands ends only all = tt
+block_read fails (Some bytes) offset lacking before after n is_lost out le size stands ends only all = record {
   read = λ _. stands;
   ended = λ short. ends (omega (arith, short, size));
   lacks = λ in_block low. elim (cases_lt lacking n) [
@@ -86,12 +87,12 @@ module _ {read out new : List ℕ} {lost more : List Bool} {len : ℕ} {is_lost 
   ]
 
   -- the failures that were counted, and one more if they rose
-  one_block : {known places : List ℕ} {start : ℕ} (before after : ℕ) {former latter : ℕ} →
+  one_block : {known places : List ℕ} {fails : ℕ → ℕ → Bool} {start : ℕ} (before after : ℕ) {former latter : ℕ} →
       length read ≡ 512 * length lost → start ≡ length lost * 512 → before ≤ after →
-      (former < latter → before < after) → AreBlocksRead known places before read lost →
-      IsBlockRead known start (get_or places (length lost) 512) former latter out (record { len = len; is_lost = is_lost }) →
-      AreBlocksRead known places after new more
-  one_block {known} {places} {start} before after size place le counted old block = by is_lost refl
+      (former < latter → before < after) → AreBlocksRead known places fails before read lost →
+      IsBlockRead known fails start (get_or places (length lost) 512) former latter out (record { len = len; is_lost = is_lost }) →
+      AreBlocksRead known places fails after new more
+  one_block {known} {places} {fails} {start} before after size place le counted old block = by is_lost refl
     where
       held' : (i : ℕ) → i < length new → (IsMarked more (i / 512) → ⊥) → slice_get known i ≡ Some (get_or new i 0)
       held' i hi unmarked = rw adds.bytes (elim (cases_lt i (length read)) [
@@ -119,12 +120,13 @@ module _ {read out new : List ℕ} {lost more : List Bool} {len : ℕ} {is_lost 
             rw last (last_mark ∙ block.lacks here.in_block (omega (arith, here.before_end, place)))
       ]
 
-      by : (b : Bool) → is_lost ≡ b → AreBlocksRead known places after new more
+      by : (b : Bool) → is_lost ≡ b → AreBlocksRead known places fails after new more
       by false kept = record {
         held = held';
         lacks = lacks';
         failed = old.failed;
         few = omega (arith, old.few, le);
+        each = old.each;
         only = λ n m. elim (mark_cases n m) [
           | inl was ↦ old.only n was
           | inr is ↦ absurd (false≢true (sym kept ∙ is.1))
@@ -136,6 +138,7 @@ module _ {read out new : List ℕ} {lost more : List Bool} {len : ℕ} {is_lost 
           lacks = lacks';
           failed = old.failed;
           few = omega (arith, old.few, le);
+          each = old.each;
           only = λ n m. elim (mark_cases n m) [
             | inl was ↦ old.only n was
             | inr is ↦ inl (rw is.0 (record { in_block = lacking.0; before_end = omega (arith, lacking.1, place) }))
@@ -145,7 +148,8 @@ module _ {read out new : List ℕ} {lost more : List Bool} {len : ℕ} {is_lost 
           held = held';
           lacks = lacks';
           failed = old.failed ++ length lost ∷ [];
-          few = omega (arith, old.few, counted rose, length-append old.failed (length lost ∷ []));
+          few = omega (arith, old.few, counted rose.0, length-append old.failed (length lost ∷ []));
+          each = All-push (λ n. MayFailIn fails (n * 512) 512) old.failed (length lost) old.each (rw place at rose.1);
           only = λ n m. elim (mark_cases n m) [
             | inl was ↦
                 elim (old.only n was)
@@ -172,29 +176,29 @@ module _ {read out new : List ℕ} {lost more : List Bool} {len : ℕ} {is_lost 
       ∙ get_or-append-add read (take len out) k 0)
 
   -- the same if the raw image's bytes are known
-  module _ {raw was : Option (List ℕ)} (places : List ℕ) {n start : ℕ} (first before after : ℕ) {lacking : ℕ}
+  module _ {raw was : Option (List ℕ)} (fails : ℕ → ℕ → Bool) (places : List ℕ) {n start : ℕ} (first before after : ℕ) {lacking : ℕ}
       (same : was ≡ raw) (number : length lost ≡ n) (place_is : lacking ≡ get_or places n 512) (size : length read ≡ 512 * n)
       (place : start ≡ n * 512) (low : first ≤ before) (le : before ≤ after)
-      (old : IfSome raw (λ known. AreBlocksRead known places (before - first) read lost))
-      (block : IfSome was (λ known. IsBlockRead known start lacking before after out (record { len = len; is_lost = is_lost }))) where
-    pub blocks_next : IfSome raw (λ known. AreBlocksRead known places (after - first) new more)
+      (old : IfSome raw (λ known. AreBlocksRead known places fails (before - first) read lost))
+      (block : IfSome was (λ known. IsBlockRead known fails start lacking before after out (record { len = len; is_lost = is_lost }))) where
+    pub blocks_next : IfSome raw (λ known. AreBlocksRead known places fails (after - first) new more)
     blocks_next = by raw old (rw (same, place_is, ← number) at block)
       where
-        by : (o : Option (List ℕ)) → IfSome o (λ known. AreBlocksRead known places (before - first) read lost) →
-            IfSome o (λ known. IsBlockRead known start (get_or places (length lost) 512) before after out (record { len = len; is_lost = is_lost })) →
-            IfSome o (λ known. AreBlocksRead known places (after - first) new more)
+        by : (o : Option (List ℕ)) → IfSome o (λ known. AreBlocksRead known places fails (before - first) read lost) →
+            IfSome o (λ known. IsBlockRead known fails start (get_or places (length lost) 512) before after out (record { len = len; is_lost = is_lost })) →
+            IfSome o (λ known. AreBlocksRead known places fails (after - first) new more)
         by None old block = tt
         by (Some known) old block =
             one_block (before - first) (after - first) (omega (arith, size, number)) (omega (arith, place, number))
             (omega (arith, le, low)) (λ rose. omega (arith, rose, low)) old block
 
     -- the image ended in the block
-    pub blocks_end : len < 512 → IfSome raw (λ known. AreAllRead known places (after - first) new more)
+    pub blocks_end : len < 512 → IfSome raw (λ known. AreAllRead known places fails (after - first) new more)
     blocks_end short = by raw blocks_next (rw same at block)
       where
-        by : (o : Option (List ℕ)) → IfSome o (λ known. AreBlocksRead known places (after - first) new more) →
-            IfSome o (λ known. IsBlockRead known start lacking before after out (record { len = len; is_lost = is_lost })) →
-            IfSome o (λ known. AreAllRead known places (after - first) new more)
+        by : (o : Option (List ℕ)) → IfSome o (λ known. AreBlocksRead known places fails (after - first) new more) →
+            IfSome o (λ known. IsBlockRead known fails start lacking before after out (record { len = len; is_lost = is_lost })) →
+            IfSome o (λ known. AreAllRead known places fails (after - first) new more)
         by None blocks block = tt
         by (Some known) blocks block = record {
           blocks = blocks;
@@ -204,11 +208,11 @@ module _ {read out new : List ℕ} {lost more : List Bool} {len : ℕ} {is_lost 
 -- ---- all blocks
 
 -- as many bytes as the largest extent has are all that matters
-pub all_read_full : (raw : Option (List ℕ)) (places : List ℕ) (lost : List Bool) (read : List ℕ) (failures : ℕ) →
-    length read ≡ max_extent_bytes → IfSome raw (λ known. AreBlocksRead known places failures read lost) →
-    IfSome raw (λ known. AreAllRead known places failures read lost)
-all_read_full None places lost read failures full blocks = tt
-all_read_full (Some known) places lost read failures full blocks = record { blocks = blocks; ended = inr full }
+pub all_read_full : (fails : ℕ → ℕ → Bool) (raw : Option (List ℕ)) (places : List ℕ) (lost : List Bool) (read : List ℕ) (failures : ℕ) →
+    length read ≡ max_extent_bytes → IfSome raw (λ known. AreBlocksRead known places fails failures read lost) →
+    IfSome raw (λ known. AreAllRead known places fails failures read lost)
+all_read_full fails None places lost read failures full blocks = tt
+all_read_full fails (Some known) places lost read failures full blocks = record { blocks = blocks; ended = inr full }
 
 -- bytes begin with themselves
 pub begins_itself : (bytes : List ℕ) → BeginsWith bytes bytes
@@ -230,8 +234,8 @@ left_there bytes lost i x is = by (get_or lost (i / 512) false) refl is
     by true e h = absurd (none-some x h)
     by false e h = ((λ marked. false≢true (sym e ∙ marked)), h)
 
-module _ {known places : List ℕ} {lost : List Bool} {failures : ℕ} {read : List ℕ}
-    (all : AreAllRead known places failures read lost) where
+module _ {known places : List ℕ} {fails : ℕ → ℕ → Bool} {lost : List Bool} {failures : ℕ} {read : List ℕ}
+    (all : AreAllRead known places fails failures read lost) where
   -- below byte 2^26 those of what was read are those of the raw image
   pub same_left : (i : ℕ) → i < max_extent_bytes → byte_left known lost i ≡ byte_left read lost i
   same_left i small = by (get_or lost (i / 512) false) refl
@@ -251,12 +255,13 @@ module _ {known places : List ℕ} {lost : List Bool} {failures : ℕ} {read : L
       by false e = unlost (λ marked. false≢true (sym e ∙ marked))
 
   -- and only those blocks are lost that may be
-  pub loses_blocks : AreBlockMarks read lost → LosesBlocks known places failures lost
+  pub loses_blocks : AreBlockMarks read lost → LosesBlocks known places fails failures lost
   loses_blocks blocks = record {
     few_blocks = blocks.few;
     lacks = λ n hn l. all.blocks.lacks n (listed n hn (omega (arith, l.before_end))) l;
     failed = all.blocks.failed;
     few = all.blocks.few;
+    each = all.blocks.each;
     only = all.blocks.only;
   }
     where

@@ -38,7 +38,7 @@ module _ {image : Image} {bytes : List ℕ} {readable : List Bool} (h : IsBuffer
       by_mark true marked inside = same_Some _ _ (sym (byte_held h i inside marked) ∙ e)
       by_mark false marked inside =
           let below : i / image.geometry.page < image.geometry.pages =
-          div_below i image.geometry.page image.geometry.pages (omega (arith, image.geometry.page_size.least))
+          div_below i image.geometry.page image.geometry.pages (omega (arith, image.geometry.page_least))
           (omega (arith, inside)) in
           absurd
           (none-some x (sym (byte-unreadable image 0 i (rw marked at (h.pages (i / image.geometry.page) below))) ∙ e))

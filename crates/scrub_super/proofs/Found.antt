@@ -16,10 +16,11 @@ use Rattle.scrub_frame.specs.Frame.{digest_size}
 use Rattle.scrub_super.specs.Pages.{kind_of}
 use Rattle.scrub_super.specs.Contents.{Contents, retired_in}
 use Rattle.scrub_super.specs.Planned.{AreRetired}
-use Rattle.scrub_super.specs.Record.{ArePointers, BeginsWithRecord}
+use Rattle.scrub_super.specs.Record.{BeginsWithRecord}
+use Rattle.scrub_super.specs.steps.Limits.{ArePointers}
 use Rattle.scrub_super.specs.steps.RecordRead.{record_head_size, retired_count, runs_place, digest_place, pointer_bytes, retired_bytes, run_locator_bytes, kind_by, IsHead, BeginsWithSome, number_in, SpellExtents}
 use Rattle.scrub_super.proofs.BytesInParts.{four_parts}
-use Rattle.scrub_super.proofs.Listed.{AreSmall, count_in, small_count, small_pointers, small_listed, same_numbers, same_listed}
+use Rattle.scrub_super.proofs.Listed.{AreSmall, count_in, pointers_in, small_count, small_pointers, small_listed, same_numbers, same_listed}
 use Rattle.scrub_super.proofs.Parts.{AreBytes, AreBytes-drop, AreBytes-take, values, length-values, get_or-values, flat_map-values}
 use Rattle.scrub_super.proofs.RecordParts.{body_behind, AreRecordParts, record_of_parts, is_head, known_parts}
 
@@ -86,7 +87,7 @@ module _ (n : ℕ) (part : List ℕ) where
 pointers_fit : (g : Geometry) (part : List ℕ) (most : ℕ) → most ≡ g.page * g.pages → length part ≡ 4 * (g.extents - 1) →
     ((k : ℕ) → 4 * k + 4 ≤ length part → number_in part k ≤ most) → ArePointers g (numbers (g.extents - 1) part)
 pointers_fit g part most limit l all = record {
-  count = omega (arith, length-numbers (g.extents - 1) part, g.extent_count.least);
+  count = omega (arith, length-numbers (g.extents - 1) part, g.extents_least);
   within = λ k d hk.
       let here : k < g.extents - 1 = omega (arith, length-numbers (g.extents - 1) part) in
       rw (get_or-numbers _ part k d here, ← limit) (all k (omega arith));
@@ -146,9 +147,11 @@ record_found {g} x {n} {r} {k} bytes head at enough hps hts hbody hrest limit wi
       record_of_parts
       (record {
         generation = head.fits;
-        pointers = pointers;
+        pointer_count = pointers.count;
+        pointers_within = pointers.within;
         retired = retired;
-        runs = record { count = omega (arith, head.few, length-values locator_of 60 r rs); each = runs };
+        run_count = omega (arith, head.few, length-values locator_of 60 r rs);
+        each_run = runs;
       })
       parts;
   generation = refl;
@@ -246,12 +249,12 @@ contents_read {g} {x} {ws} {o} {rs} some lw fits hw lo small ho lr are hr =
     let b = some.begins in
     let parts = known_parts (rw (some.generation, some.count, some.listed) at (is_head b)) b in
     let pointers : some.contents.pointers ≡ ws =
-    same_numbers _ _ (small_pointers b.contents.pointers) fits (omega (arith, b.contents.pointers.count, lw))
+    same_numbers _ _ (small_pointers (pointers_in b.contents)) fits (omega (arith, b.contents.pointer_count, lw))
     (sym parts.pointers_are ∙ sym hw) in
     let retired : some.contents.retired ≡ o =
     same_listed _ _ (some.listed ∙ sym lo) (small_listed g _ b.contents.retired) small
     (sym parts.retired_are ∙ sym ho) in
     let runs : some.contents.runs ≡ rs =
-    same_locators _ _ b.contents.runs.each are (some.count ∙ sym lr) (sym parts.runs_are ∙ sym hr) in
+    same_locators _ _ b.contents.each_run are (some.count ∙ sym lr) (sym parts.runs_are ∙ sym hr) in
     subst (BeginsWithRecord g x)
     (λ i. record { generation = some.generation i; pointers = pointers i; retired = retired i; runs = runs i }) b

@@ -36,9 +36,9 @@ same_records {at} {also} same h = record {
   );
 }
 
-found_in : (known : List ℕ) (lacking : List ℕ) (failures : ℕ) {lost : List Bool} {read : List ℕ} {records : List FoundRecord} {ranges : List LostBytes} →
-    AreAllRead known lacking failures read lost → AreBlockMarks read lost →
-    AreFoundRecords (byte_left read lost) records → AreLostRanges lost ranges → AreFoundWith known lacking failures records ranges
+found_in : (known : List ℕ) (lacking : List ℕ) {fails : ℕ → ℕ → Bool} (failures : ℕ) {lost : List Bool} {read : List ℕ} {records : List FoundRecord} {ranges : List LostBytes} →
+    AreAllRead known lacking fails failures read lost → AreBlockMarks read lost →
+    AreFoundRecords (byte_left read lost) records → AreLostRanges lost ranges → AreFoundWith known lacking fails failures records ranges
 found_in known lacking failures {lost} all blocks hr hl = record {
   lost = lost;
   loses = loses_blocks all blocks;
@@ -46,10 +46,10 @@ found_in known lacking failures {lost} all blocks hr hl = record {
 }
 
 -- in the raw image's bytes if they are known, or else in those that were read
-pub found_known : (raw : Option (List ℕ)) (lacking : List ℕ) (failures : ℕ) {lost : List Bool} {read : List ℕ} {records : List FoundRecord} {ranges : List LostBytes} →
-    IfSome raw (λ known. AreAllRead known lacking failures read lost) → AreBlockMarks read lost →
+pub found_known : (raw : Option (List ℕ)) (lacking : List ℕ) {fails : ℕ → ℕ → Bool} (failures : ℕ) {lost : List Bool} {read : List ℕ} {records : List FoundRecord} {ranges : List LostBytes} →
+    IfSome raw (λ known. AreAllRead known lacking fails failures read lost) → AreBlockMarks read lost →
     AreFoundRecords (byte_left read lost) records → AreLostRanges lost ranges →
-    AreAllRead read lacking failures read lost → AreFoundInSome raw lacking failures records ranges
+    AreAllRead read lacking fails failures read lost → AreFoundInSome raw lacking fails failures records ranges
 found_known None lacking failures {lost} {read} all blocks hr hl own = record {
   bytes = read;
   known = tt;

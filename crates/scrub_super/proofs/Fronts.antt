@@ -6,9 +6,8 @@ use Rattle.byteorder.specs.Numbers.{big_number-reads_back}
 use Rattle.scrub_disk.specs.declared.geometry.Geometry.{Geometry}
 use Rattle.scrub_super.specs.declared.kind.RecordKind.{RecordKind}
 use Rattle.scrub_super.specs.declared.kind.RecordKind.TheVariants.{Ssb1, Ssb2}
-use Rattle.scrub_super.specs.Record.{front_bytes, head_bytes}
 use Rattle.scrub_super.specs.Pages.{magic_of}
-use Rattle.scrub_super.specs.steps.RecordRead.{IsFront, IsHead, digit_by, kind_by, record_head_size}
+use Rattle.scrub_super.specs.steps.RecordRead.{IsFront, IsHead, digit_by, front_bytes, head_bytes, kind_by, record_head_size}
 
 -- two kinds with the same letters are the same
 pub one_magic : (j k : RecordKind) → magic_of j ≡ magic_of k → j ≡ k
@@ -53,22 +52,22 @@ pub head_sizes : (k : Option ℕ) → record_head_size k ≤ 28
 head_sizes None = omega arith
 head_sizes (Some t) = omega arith
 
+pub least_head : (k : Option ℕ) → 26 ≤ record_head_size k
+least_head None = omega arith
+least_head (Some t) = omega arith
+
 -- the front of the bytes that begin with a head
 pub front_of_head : {g : Geometry} (x : List ℕ) {n r : ℕ} {k : Option ℕ} →
     IsHead g (take (record_head_size k) x) n r k → IsFront g (take 26 x) (kind_by k) n r
 front_of_head {g} x {n} {r} {k} h = record {
   fits = h.fits;
   few = h.few;
-  spelled = sym (take-take 26 _ x (front_fits k)) ∙ ap (take 26) h.spelled ∙ begins k;
+  spelled = sym (take-take 26 _ x (least_head k)) ∙ ap (take 26) h.spelled ∙ begins k;
 }
   where
     begins : (o : Option ℕ) → take 26 (head_bytes g n r o) ≡ front_bytes (digit_by (kind_by o)) g n r
     begins None = refl
     begins (Some t) = refl
-
-    front_fits : (o : Option ℕ) → 26 ≤ record_head_size o
-    front_fits None = omega arith
-    front_fits (Some t) = omega arith
 
 one_count : {g : Geometry} (x : List ℕ) {n m r s : ℕ} (k j : Option ℕ) → IsHead g (take (record_head_size k) x) n r k →
     IsHead g (take (record_head_size j) x) m s j →

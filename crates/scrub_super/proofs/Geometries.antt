@@ -1,5 +1,6 @@
 -- A record's own sizes: they are read from its front, and their numbers determine them.
-use Rattle.std.proofs.Common.{◌≡◌, ◌≤◌, ◌*◌, ℕ, List, [], take, drop, arith, ◌∙◌, ap, Option, Some, Result, Ok, Err, MatchResult}
+use Rattle.std.proofs.Common.{◌≡◌, ◌≤◌, ◌*◌, ℕ, List, [], take, drop, arith, ◌∙◌, ap, Option, Some, Result, Ok, Err, MatchResult, IsTrue}
+use Rattle.std.specs.Int.{is_power_of_two}
 use Rattle.std.proofs.Props.{props}
 use mathlib.Core.HLevel.{is_prop→PathP}
 use Rattle.std.specs.Array.{IsFirstChunk}
@@ -9,7 +10,7 @@ use Rattle.byteorder.specs.Numbers.{big_number-reads_back}
 use Rattle.scrub_disk.specs.declared.geometry.Geometry.{Geometry}
 use Rattle.scrub_disk.specs.declared.geometry.GeometryFault.{GeometryFault}
 use Rattle.scrub_disk.specs.declared.geometry.GeometryFault.TheVariants.{PageSize, Pages, Extents, ExtentBytes, TotalBytes}
-use Rattle.scrub_disk.specs.Limits.{IsPageSize, ArePages, AreExtents, max_extent_bytes, max_disk_bytes}
+use Rattle.scrub_disk.specs.Limits.{max_extent_bytes, max_disk_bytes}
 use Rattle.scrub_disk.specs.Faults.{HasSizes, IsFirstBroken}
 use Rattle.scrub_super.specs.declared.kind.RecordKind.{RecordKind}
 use Rattle.scrub_super.specs.Contents.{Contents}
@@ -21,14 +22,8 @@ use Rattle.scrub_super.proofs.RecordParts.{is_head}
 
 -- ---- sizes are determined by their numbers, whatever shows that they are within their limits
 
-IsPageSize-prop : {p : ℕ} → IsProp (IsPageSize p)
-IsPageSize-prop = hlevel props
-
-ArePages-prop : {n : ℕ} → IsProp (ArePages n)
-ArePages-prop = hlevel props
-
-AreExtents-prop : {e : ℕ} → IsProp (AreExtents e)
-AreExtents-prop = hlevel props
+power-prop : (p : ℕ) → IsProp (IsTrue (is_power_of_two p))
+power-prop p = hlevel props
 
 le-prop : (m n : ℕ) → IsProp (m ≤ n)
 le-prop m n = hlevel props
@@ -38,18 +33,22 @@ same_geometry g h p n e = λ i. record {
   page = p i;
   pages = n i;
   extents = e i;
-  page_size = is_prop→PathP (λ j. IsPageSize (p j)) (λ j. IsPageSize-prop) g.page_size h.page_size i;
-  page_count = is_prop→PathP (λ j. ArePages (n j)) (λ j. ArePages-prop) g.page_count h.page_count i;
-  extent_count = is_prop→PathP (λ j. AreExtents (e j)) (λ j. AreExtents-prop) g.extent_count h.extent_count i;
+  page_least = is_prop→PathP (λ j. 64 ≤ p j) (λ j. le-prop _ _) g.page_least h.page_least i;
+  page_most = is_prop→PathP (λ j. p j ≤ 65536) (λ j. le-prop _ _) g.page_most h.page_most i;
+  page_power = is_prop→PathP (λ j. IsTrue (is_power_of_two (p j))) (λ j. power-prop (p j)) g.page_power h.page_power i;
+  pages_least = is_prop→PathP (λ j. 1 ≤ n j) (λ j. le-prop _ _) g.pages_least h.pages_least i;
+  pages_most = is_prop→PathP (λ j. n j ≤ 65536) (λ j. le-prop _ _) g.pages_most h.pages_most i;
+  extents_least = is_prop→PathP (λ j. 2 ≤ e j) (λ j. le-prop _ _) g.extents_least h.extents_least i;
+  extents_most = is_prop→PathP (λ j. e j ≤ 65536) (λ j. le-prop _ _) g.extents_most h.extents_most i;
   extent_fits = is_prop→PathP (λ j. p j * n j ≤ max_extent_bytes) (λ j. le-prop _ _) g.extent_fits h.extent_fits i;
   total_fits = is_prop→PathP (λ j. p j * n j * e j ≤ max_disk_bytes) (λ j. le-prop _ _) g.total_fits h.total_fits i;
 }
 
 -- no limit of a geometry is broken
 not_broken : (g : Geometry) (fault : GeometryFault) → IsFirstBroken g.page g.pages g.extents fault → ⊥
-not_broken g PageSize b = b g.page_size
-not_broken g Pages b = b.1 g.page_count
-not_broken g Extents b = b.2 g.extent_count
+not_broken g PageSize b = b (record { least = g.page_least; most = g.page_most; power = g.page_power })
+not_broken g Pages b = b.1 (record { least = g.pages_least; most = g.pages_most })
+not_broken g Extents b = b.2 (record { least = g.extents_least; most = g.extents_most })
 not_broken g ExtentBytes b = omega (arith, b.3, g.extent_fits)
 not_broken g TotalBytes b = omega (arith, b.4, g.total_fits)
 
@@ -67,9 +66,9 @@ front_sizes : {g : Geometry} {x : List ℕ} {k : RecordKind} {generation runs p 
     p ≡ big_number 4 (take 4 (drop 12 x)) → n ≡ big_number 4 (take 4 (drop 16 x)) →
     e ≡ big_number 4 (take 4 (drop 20 x)) → (p ≡ g.page) × (n ≡ g.pages) × (e ≡ g.extents)
 front_sizes {g} h hp hn he = (
-  (rw h.spelled at hp) ∙ big_number-reads_back 4 g.page [] (omega (arith, g.page_size.most)),
-  (rw h.spelled at hn) ∙ big_number-reads_back 4 g.pages [] (omega (arith, g.page_count.most)),
-  (rw h.spelled at he) ∙ big_number-reads_back 4 g.extents [] (omega (arith, g.extent_count.most)),
+  (rw h.spelled at hp) ∙ big_number-reads_back 4 g.page [] (omega (arith, g.page_most)),
+  (rw h.spelled at hn) ∙ big_number-reads_back 4 g.pages [] (omega (arith, g.pages_most)),
+  (rw h.spelled at he) ∙ big_number-reads_back 4 g.extents [] (omega (arith, g.extents_most)),
 )
 
 -- bytes that don't begin with the letters of a kind don't begin with a record

@@ -8,10 +8,9 @@ use Rattle.std.proofs.lemmas.Nat.{be_bytes_2}
 use Rattle.byteorder.specs.Endian.{big_bytes, big_number}
 use Rattle.byteorder.specs.Numbers.{big_from-lt}
 use Rattle.scrub_disk.specs.declared.geometry.Geometry.{Geometry}
-use Rattle.scrub_super.specs.Record.{front_bytes, head_bytes}
 use Rattle.scrub_super.specs.declared.kind.RecordKind.{RecordKind}
 use Rattle.scrub_super.specs.declared.kind.RecordKind.TheVariants.{Ssb2}
-use Rattle.scrub_super.specs.steps.RecordRead.{IsFront, IsHead}
+use Rattle.scrub_super.specs.steps.RecordRead.{IsFront, IsHead, front_bytes, head_bytes}
 use Rattle.scrub_super.proofs.Parts.{AreBytes, AreBytes-drop, AreBytes-take}
 
 -- two bytes are spelled by the number that they spell

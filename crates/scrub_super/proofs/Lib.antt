@@ -11,6 +11,7 @@ pub mod Written
 pub mod Heads
 pub mod Extents
 pub mod Plans
+pub mod PlanParts
 pub mod Resets
 pub mod Standing
 pub mod RecordsSeenSteps

@@ -13,7 +13,8 @@ use Rattle.scrub_frame.proofs.Bytes.{bytes-injective}
 use Rattle.scrub_frame.proofs.Parts.{length-flat_map_of, flat_map-injective}
 use Rattle.scrub_super.specs.Contents.{Contents}
 use Rattle.scrub_super.specs.Planned.{AreRetired}
-use Rattle.scrub_super.specs.Record.{ArePointers}
+use Rattle.scrub_super.specs.Record.{AreContents}
+use Rattle.scrub_super.specs.steps.Limits.{ArePointers, AreRunLocators}
 use Rattle.scrub_super.specs.steps.RecordRead.{retired_count}
 
 -- how many retired extents some contents list
@@ -31,6 +32,13 @@ length_numbers ws = length-flat_map_of (big_bytes 4) 4 ws (λ k d hk. refl)
 pub same_numbers : (vs ws : List ℕ) → AreSmall vs → AreSmall ws → length vs ≡ length ws →
     flat_map (big_bytes 4) vs ≡ flat_map (big_bytes 4) ws → vs ≡ ws
 same_numbers vs ws = flat_map-injective (big_bytes 4) (λ w. w < 2 ^ 32) 4 vs ws (λ w hw. refl) bytes-injective
+
+-- the limits of the lists of contents
+pub pointers_in : {g : Geometry} {c : Contents} → AreContents g c → ArePointers g c.pointers
+pointers_in h = record { count = h.pointer_count; within = h.pointers_within }
+
+pub runs_in : {g : Geometry} {c : Contents} → AreContents g c → AreRunLocators c.runs
+runs_in h = record { count = h.run_count; each = h.each_run }
 
 -- ---- write pointers
 
@@ -75,16 +83,16 @@ few_extents {e} {xs} some h =
 
 pub few_listed : (g : Geometry) (o : Option (List ℕ)) → IfSome o (AreRetired g.extents) →
     retired_count (option_map length o) + 1 ≤ g.extents
-few_listed g None h = omega (arith, g.extent_count.least)
-few_listed g (Some xs) h = few_extents (omega (arith, g.extent_count.least)) h
+few_listed g None h = omega (arith, g.extents_least)
+few_listed g (Some xs) h = few_extents (omega (arith, g.extents_least)) h
 
 pub small_count : (g : Geometry) (o : Option (List ℕ)) → IfSome o (AreRetired g.extents) →
     retired_count (option_map length o) < 2 ^ 16
-small_count g o h = omega (arith, few_listed g o h, g.extent_count.most)
+small_count g o h = omega (arith, few_listed g o h, g.extents_most)
 
 pub small_listed : (g : Geometry) (o : Option (List ℕ)) → IfSome o (AreRetired g.extents) → IfSome o AreSmall
 small_listed g None h = tt
-small_listed g (Some xs) h = λ i z hi. omega (arith, h.below i z hi, g.extent_count.most)
+small_listed g (Some xs) h = λ i z hi. omega (arith, h.below i z hi, g.extents_most)
 
 -- lists that are spelled by the same bytes, or that neither record has, are the same
 pub same_listed : (o p : Option (List ℕ)) → option_map length o ≡ option_map length p → IfSome o AreSmall →

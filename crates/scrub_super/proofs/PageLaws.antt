@@ -8,7 +8,6 @@ use Rattle.std.proofs.Math.Nat.{mul-div_cancel}
 use Rattle.scrub_disk.specs.Image.{Image, byte}
 use Rattle.scrub_disk.proofs.HeldBytes.{byte-unreadable}
 use Rattle.scrub_super.specs.declared.kind.RecordKind.{RecordKind}
-use Rattle.scrub_super.specs.declared.kind.RecordKind.TheVariants.{Ssb1, Ssb2}
 use Rattle.scrub_super.specs.declared.pages.Rank.{Rank}
 use Rattle.scrub_super.specs.declared.pages.Rank.TheVariants.{Tie, Counts, Older}
 use Rattle.scrub_super.specs.declared.pages.SuperblockPage.{SuperblockPage}
@@ -28,7 +27,7 @@ module _ (image : Image) (q : ℕ) (lost : image.page 0 q ≡ None) where
       none-some x (sym (byte-unreadable image 0 (q * image.geometry.page) (rw here lost)) ∙ there)
     where
       positive : 0 < image.geometry.page
-      positive = omega (arith, image.geometry.page_size.least)
+      positive = omega (arith, image.geometry.page_least)
 
   lost_record : {c : Contents} → RecordStandsAt image q c → ⊥
   lost_record {c} s =

@@ -176,7 +176,7 @@ module _ (q : ℕ) {image : Image} {reach : ℕ} (r : IsRecordReach image (q + 1
   pub first_held : IsTrue (nat_lt (q * image.geometry.page) reach) ↔ IsHeldByte image (q * image.geometry.page)
   first_held = (
     (λ less. rw first at (held_below 0 (omega (arith, ltb-true (q * image.geometry.page) reach less)))),
-    (λ h. lt-ltb (q * image.geometry.page) reach (omega (arith, below_held 0 (omega (arith, image.geometry.page_size.least)) (rw (sym first) at h)))),
+    (λ h. lt-ltb (q * image.geometry.page) reach (omega (arith, below_held 0 (omega (arith, image.geometry.page_least)) (rw (sym first) at h)))),
   )
     where
       first : q * image.geometry.page + 0 ≡ q * image.geometry.page

@@ -66,7 +66,7 @@ decided_held image i = by (some_below (Holds image i) (decided_holds image i) (s
     by : ((k : ℕ) × (k < suc i) × Holds image i k) ⊎ ((k : ℕ) → k < suc i → Holds image i k → ⊥) → Decided (IsHeldByte image i)
     by (inl (k, below, x)) = inl (record { start = k; contents = x.0; stands = x.1; from = x.2.0; to = x.2.1 })
     by (inr none) = inr (λ h.
-        none h.start (start_below image.geometry.page h.start i (omega (arith, image.geometry.page_size.least)) h.from)
+        none h.start (start_below image.geometry.page h.start i (omega (arith, image.geometry.page_least)) h.from)
         (h.contents, h.stands, (h.from, h.to)))
 
 -- byte k of a page is held unless it is zero

@@ -9,7 +9,8 @@ use Rattle.std.proofs.lemmas.List.FromFn.{length-range_with_len, get_or-range_wi
 use Rattle.scrub_disk.specs.declared.geometry.Geometry.{Geometry}
 use Rattle.scrub_frame.specs.declared.locator.Locator.{Locator}
 use Rattle.scrub_super.specs.Planned.{ArePlanned, AreRetired, is_in_use, extents_in_use}
-use Rattle.scrub_super.specs.Record.{ArePointers, AreRunLocators, AreContents}
+use Rattle.scrub_super.specs.Record.{AreContents}
+use Rattle.scrub_super.specs.steps.Limits.{ArePointers, AreRunLocators}
 use Rattle.scrub_super.specs.Contents.{Contents}
 use Rattle.scrub_super.proofs.Listed.{listed_extents}
 

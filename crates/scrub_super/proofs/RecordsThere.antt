@@ -1,8 +1,7 @@
 -- Whether a record begins on a page is decided: it is the one that the bytes there spell, with a list of retired extents or
 -- without. So an image has its list of valid records, and a choice.
-use Rattle.std.proofs.Common.{◌≡◌, ◌⊎◌, ◌<◌, ◌≤◌, ◌+◌, ◌-◌, ◌*◌, ◌^◌, ℕ, zero, suc, List, [], ◌∷◌, ◌++◌, length, take, drop, get_or, All, AllPairs, Contains, arith, refl, sym, ◌∙◌, ap, subst, Option, Some, None, IfSome, inl, inr, option_map, slice_get, nat_lt, replicate, true, false}
+use Rattle.std.proofs.Common.{◌≡◌, ◌⊎◌, ◌<◌, ◌≤◌, ◌+◌, ◌-◌, ◌*◌, ◌^◌, ℕ, zero, suc, List, [], ◌∷◌, ◌++◌, length, take, drop, get_or, All, AllPairs, Contains, arith, refl, sym, ◌∙◌, ap, subst, Option, Some, None, IfSome, inl, inr, option_map, slice_get, nat_lt}
 use Rattle.std.specs.List.{flat_map}
-use Rattle.std.specs.List.Sorted.{IsStrictlyIncreasing}
 use Rattle.std.specs.Option.{unwrap_or}
 use Rattle.std.proofs.lemmas.List.Elements.{Contains-append_left, Contains-get_or, Contains-push, Contains-push_cases}
 use Rattle.std.proofs.lemmas.List.Kept.{AllPairs-from_increasing}
@@ -17,15 +16,15 @@ use Rattle.scrub_frame.proofs.Decisions.{Decided, decided_like, decided_both, de
 use Rattle.scrub_frame.proofs.Locators.{length-locator_bytes}
 use Rattle.scrub_frame.proofs.ReadAgain.{read_parts, read_locator, list_again, number_again, locator_again, decided_locator}
 use Rattle.scrub_super.specs.Contents.{Contents}
-use Rattle.scrub_super.specs.Planned.{AreChunkExtents, extents_in_use}
-use Rattle.scrub_super.specs.Record.{record_bytes, ArePointers, AreRunLocators, AreContents, BeginsWithRecord}
+use Rattle.scrub_super.specs.Planned.{AreChunkExtents}
+use Rattle.scrub_super.specs.Record.{record_bytes, AreContents, BeginsWithRecord}
 use Rattle.scrub_super.specs.Chosen.{RecordStandsAt, Choice, IsChoice, newest}
-use Rattle.scrub_super.specs.Plan.{PlanValue, IsPlanOf}
+use Rattle.scrub_super.specs.Plan.{PlanValue, plan_of}
 use Rattle.scrub_super.specs.steps.ByConditions.{AreRecordPages}
 use Rattle.scrub_super.specs.steps.RecordRead.{record_head_size, retired_count, kind_by, IsFront, IsHead}
 use Rattle.scrub_super.proofs.BytesHere.{bytes_here, begin_with, decided_bytes_at}
 use Rattle.scrub_super.proofs.Fronts.{front_magic, front_of_head, front_read, head_sizes}
-use Rattle.scrub_super.proofs.Listed.{count_in, AreSmall, few_listed, small_listed, small_pointers}
+use Rattle.scrub_super.proofs.Listed.{count_in, AreSmall, few_listed, pointers_in, small_listed, small_pointers}
 use Rattle.scrub_super.proofs.NewestRecords.{records_of_pages}
 use Rattle.scrub_super.proofs.RecordParts.{record_parts, is_head, length_record}
 
@@ -54,15 +53,20 @@ decided_contents g c =
     decided_both (decided_at_most (length c.runs) 32) (decided_all IsLocator decided_locator c.runs) in
     let front : Decided ((c.generation < 2 ^ 64) × IfSome c.retired (AreChunkExtents g.extents)) =
     decided_both (decided_less c.generation (2 ^ 64)) (decided_listed g.extents c.retired) in
-    let lists : Decided (ArePointers g c.pointers × AreRunLocators c.runs) =
-    decided_both
-    (decided_like pointers (λ h. record { count = h.0; within = h.1 }) (λ h. (h.count, h.within)))
-    (decided_like runs (λ h. record { count = h.0; each = h.1 }) (λ h. (h.count, h.each))) in
-    let all : Decided (((c.generation < 2 ^ 64) × IfSome c.retired (AreChunkExtents g.extents)) × (ArePointers g c.pointers × AreRunLocators c.runs)) =
+    let lists : Decided (((length c.pointers + 1 ≡ g.extents) × All (λ w. w ≤ g.page * g.pages) c.pointers) × ((length c.runs ≤ 32) × All IsLocator c.runs)) =
+    decided_both pointers runs in
+    let all : Decided (((c.generation < 2 ^ 64) × IfSome c.retired (AreChunkExtents g.extents)) × (((length c.pointers + 1 ≡ g.extents) × All (λ w. w ≤ g.page * g.pages) c.pointers) × ((length c.runs ≤ 32) × All IsLocator c.runs))) =
     decided_both front lists in
     decided_like all
-    (λ h. record { generation = h.0.0; pointers = h.1.0; retired = h.0.1; runs = h.1.1 })
-    (λ h. ((h.generation, h.retired), (h.pointers, h.runs)))
+    (λ h. record {
+      generation = h.0.0;
+      pointer_count = h.1.0.0;
+      pointers_within = h.1.0.1;
+      retired = h.0.1;
+      run_count = h.1.1.0;
+      each_run = h.1.1.1;
+    })
+    (λ h. ((h.generation, h.retired), ((h.pointer_count, h.pointers_within), (h.run_count, h.each_run))))
 
 decided_record : (image : Image) (q : ℕ) (c : Contents) → Decided (RecordStandsAt image q c)
 decided_record image q c =
@@ -126,7 +130,7 @@ module _ {g : Geometry} {x : List ℕ} {c : Contents} (b : BeginsWithRecord g x 
       pointers : read_numbers (g.extents - 1) (take (4 * (g.extents - 1)) (drop (record_head_size k) x)) ≡ c.pointers
       pointers =
           numbers_again c.pointers (g.extents - 1) (take (4 * (g.extents - 1)) (drop (record_head_size k) x))
-          (small_pointers b.contents.pointers) (omega (arith, b.contents.pointers.count)) (record_parts b).pointers_are
+          (small_pointers (pointers_in b.contents)) (omega (arith, b.contents.pointer_count)) (record_parts b).pointers_are
 
       retired : option_map (λ t. read_numbers t (take (4 * t) (drop (record_head_size k + 4 * (g.extents - 1)) x))) k ≡ c.retired
       retired =
@@ -137,7 +141,7 @@ module _ {g : Geometry} {x : List ℕ} {c : Contents} (b : BeginsWithRecord g x 
       runs =
           list_again locator_bytes IsLocator read_locator 60 c.runs (run_count x)
           (take (60 * run_count x) (drop (record_head_size k + 4 * (g.extents - 1) + 4 * retired_count k) x))
-          length-locator_bytes locator_again b.contents.runs.each count
+          length-locator_bytes locator_again b.contents.each_run count
           (ap (λ r. take (60 * r) (drop (record_head_size k + 4 * (g.extents - 1) + 4 * retired_count k) x)) count
           ∙ (record_parts b).runs_are)
 
@@ -174,7 +178,7 @@ begins_there image q c s = record {
           length_record s.contents,
           head_sizes (count_in c),
           few_listed image.geometry c.retired s.contents.retired,
-          s.contents.runs.count,
+          s.contents.run_count,
         )
 
 -- one begins there, or none does
@@ -301,37 +305,5 @@ some_choice image =
       },
     )
 
-pub some_plan : (choice : Choice) → (plan : PlanValue) × IsPlanOf choice plan
-some_plan choice = by choice.superblock refl
-  where
-    by : (o : Option Contents) → choice.superblock ≡ o → (plan : PlanValue) × IsPlanOf choice plan
-    by None e = (
-      record {
-        geometry = choice.geometry;
-        planned = extents_in_use choice.geometry.extents [];
-        retired = [];
-        pointers = replicate (choice.geometry.extents - 1) (choice.geometry.page * choice.geometry.pages);
-        runs = [];
-        has_superblock = false;
-      },
-      record {
-        geometry = refl;
-        all = refl;
-        by = rw e (record { has = refl; retired = refl; pointers = refl; runs = refl });
-      },
-    )
-    by (Some c) e = (
-      record {
-        geometry = choice.geometry;
-        planned = extents_in_use choice.geometry.extents (unwrap_or c.retired []);
-        retired = unwrap_or c.retired [];
-        pointers = c.pointers;
-        runs = c.runs;
-        has_superblock = true;
-      },
-      record {
-        geometry = refl;
-        all = refl;
-        by = rw e (record { has = refl; retired = refl; pointers = refl; runs = refl });
-      },
-    )
+pub some_plan : (choice : Choice) → (plan : PlanValue) × (plan ≡ plan_of choice)
+some_plan choice = (plan_of choice, refl)

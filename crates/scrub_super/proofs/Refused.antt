@@ -12,15 +12,19 @@ use Rattle.scrub_super.specs.Contents.{Contents}
 use Rattle.scrub_super.specs.Planned.{AreRetired}
 use Rattle.scrub_super.specs.Record.{BeginsWithRecord}
 use Rattle.scrub_super.specs.steps.RecordRead.{IsFront, IsHead, record_head_size, digest_place, pointer_bytes, retired_bytes, number_in, SpellExtents}
-use Rattle.scrub_super.proofs.Fronts.{front_of_head}
-use Rattle.scrub_super.proofs.Listed.{AreSmall, length_numbers, small_pointers, listed_extents}
+use Rattle.scrub_super.proofs.Fronts.{front_of_head, least_head}
+use Rattle.scrub_super.proofs.Listed.{AreSmall, count_in, length_numbers, pointers_in, small_pointers, listed_extents}
 use Rattle.scrub_super.proofs.Parts.{part-flat_map}
-use Rattle.scrub_super.proofs.RecordParts.{is_head, known_parts, known_digest}
+use Rattle.scrub_super.proofs.RecordParts.{is_head, known_parts, known_digest, record_parts}
 
 -- there is no record if there is no front
 pub no_front : {g : Geometry} {x y : List ℕ} {c : Contents} → y ≡ take 26 x →
     ((k : RecordKind) (n r : ℕ) → IsFront g y k n r → ⊥) → BeginsWithRecord g x c → ⊥
 no_front {x = x} first none b = none _ _ _ (rw (← first) at (front_of_head x (is_head b)))
+
+-- there is no record if the bytes are fewer than those of the shortest one
+pub too_few : {g : Geometry} {x : List ℕ} {c : Contents} → length x < 58 → BeginsWithRecord g x c → ⊥
+too_few {c = c} few b = omega (arith, few, least_head (count_in c), (record_parts b).enough)
 
 -- the k-th number that is spelled
 spelled_number : (ws : List ℕ) (k : ℕ) → AreSmall ws → k < length ws →
@@ -67,8 +71,8 @@ module _ {g : Geometry} {x : List ℕ} {n r : ℕ} {k : Option ℕ} {c : Content
           number_in (flat_map (big_bytes 4) c.pointers) j ≤ g.page * g.pages
       within j hj =
           let here : j < length c.pointers = omega (arith, length_numbers c.pointers) in
-          rw (spelled_number c.pointers j (small_pointers b.contents.pointers) here)
-          (b.contents.pointers.within j 0 here)
+          rw (spelled_number c.pointers j (small_pointers (pointers_in b.contents)) here)
+          (b.contents.pointers_within j 0 here)
 
   -- the retired extents don't rise, or one isn't an extent of the disk
   pub not_extents : {part : List ℕ} {e : ℕ} {answer : Bool} → part ≡ retired_bytes g k x → e ≡ g.extents →
@@ -77,4 +81,4 @@ module _ {g : Geometry} {x : List ℕ} {n r : ℕ} {k : Option ℕ} {c : Content
       false≢true
       (sym over
       ∙ all (rw (is, (known_parts h b).retired_are, count)
-      (spells_extents g.extent_count.most (listed_extents g.extents c.retired b.contents.retired))))
+      (spells_extents g.extents_most (listed_extents g.extents c.retired b.contents.retired))))

@@ -5,8 +5,8 @@ use Rattle.std.proofs.lemmas.List.{length-map, map-append, take_more}
 use Rattle.std.proofs.lemmas.List.Elements.{All-map}
 use Rattle.std.proofs.lemmas.List.FromFn.{get_or-enumerate_from, length-enumerate_from}
 use Rattle.scrub_disk.specs.declared.geometry.Geometry.{Geometry}
-use Rattle.scrub_super.specs.Plan.{pointer_reset, pointers_reset}
-use Rattle.scrub_super.specs.Record.{ArePointers}
+use Rattle.scrub_super.specs.Reset.{pointer_reset, pointers_reset}
+use Rattle.scrub_super.specs.steps.Limits.{ArePointers}
 
 -- one more extent
 pub reset_more : (extents pointers : List ℕ) (i d v : ℕ) (mid new : List ℕ) → i < length pointers →

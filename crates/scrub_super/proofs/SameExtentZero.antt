@@ -1,5 +1,5 @@
 -- What the pages of extent 0 are depends on that extent alone: images that have the same one have the same superblocks.
-use Rattle.std.proofs.Common.{◌≡◌, ◌<◌, ◌+◌, ◌*◌, ℕ, List, Bool, true, false, length, slice_get, arith, refl, sym, ◌∙◌, ap, Option, Some, None}
+use Rattle.std.proofs.Common.{◌≡◌, ◌<◌, ◌*◌, ℕ, List, Bool, true, false, arith, sym, ◌∙◌, ap, Option}
 use Rattle.std.proofs.Math.Path.{subst₂}
 use Rattle.std.proofs.lemmas.Option.{slice_get_within}
 use Rattle.scrub_disk.specs.declared.geometry.Geometry.{Geometry}
@@ -13,7 +13,7 @@ use Rattle.scrub_super.specs.declared.pages.SuperblockPage.TheVariants.{Lost, Re
 use Rattle.scrub_super.specs.Contents.{Contents}
 use Rattle.scrub_super.specs.Record.{record_bytes}
 use Rattle.scrub_super.specs.Chosen.{AreRecords, RecordStandsAt}
-use Rattle.scrub_super.specs.Pages.{AreHeldBytes, AreSuperblockPages, HasLooseLetters, HasRecord, HasStrayByte, IsHeldByte, IsRank, IsRecordless, IsSuperblockPage}
+use Rattle.scrub_super.specs.Pages.{AreHeldBytes, AreSuperblockPages, HasLooseLetters, HasStrayByte, IsHeldByte, IsRank, IsRecordless, IsSuperblockPage}
 
 -- a valid record of one image is one of the other
 same_record : {a b : Image} → SameExtent 0 a b → {q : ℕ} {c : Contents} → RecordStandsAt b q c → RecordStandsAt a q c

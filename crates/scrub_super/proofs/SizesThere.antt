@@ -10,7 +10,8 @@ use Rattle.byteorder.specs.Endian.{big_number}
 use Rattle.byteorder.specs.Numbers.{big_number-reads_back}
 use Rattle.scrub_disk.specs.declared.geometry.Geometry.{Geometry}
 use Rattle.scrub_disk.specs.Image.{AreBytesAt, extent_bytes}
-use Rattle.scrub_disk.specs.Limits.{IsPageSize, ArePages, AreExtents, max_extent_bytes, max_disk_bytes}
+use Rattle.scrub_disk.specs.Raw.{MayFailIn}
+use Rattle.scrub_disk.specs.Limits.{max_extent_bytes, max_disk_bytes}
 use Rattle.scrub_frame.proofs.Decisions.{Decided, decided_like, decided_both, decided_less, decided_at_most, decided_number}
 use Rattle.scrub_super.specs.declared.unknown_sizes.FoundRecord.{FoundRecord}
 use Rattle.scrub_super.specs.declared.unknown_sizes.LostBytes.{LostBytes}
@@ -34,9 +35,13 @@ use Rattle.scrub_super.proofs.UnknownSizesSteps.{some_record}
 -- ---- sizes within their limits
 
 record AreLimits (p n e : ℕ) : Type 0 where
-  pub page_size : IsPageSize p
-  pub page_count : ArePages n
-  pub extent_count : AreExtents e
+  pub page_least : 64 ≤ p
+  pub page_most : p ≤ 65536
+  pub page_power : IsTrue (is_power_of_two p)
+  pub pages_least : 1 ≤ n
+  pub pages_most : n ≤ 65536
+  pub extents_least : 2 ≤ e
+  pub extents_most : e ≤ 65536
   pub extent_fits : p * n ≤ max_extent_bytes
   pub total_fits : p * n * e ≤ max_disk_bytes
 
@@ -59,16 +64,20 @@ decided_limits p n e =
     decided_both sizes fits in
     decided_like all
     (λ h. record {
-      page_size = record { least = h.0.0.0.0; most = h.0.0.0.1; power = h.0.0.1 };
-      page_count = record { least = h.0.1.0.0; most = h.0.1.0.1 };
-      extent_count = record { least = h.0.1.1.0; most = h.0.1.1.1 };
+      page_least = h.0.0.0.0;
+      page_most = h.0.0.0.1;
+      page_power = h.0.0.1;
+      pages_least = h.0.1.0.0;
+      pages_most = h.0.1.0.1;
+      extents_least = h.0.1.1.0;
+      extents_most = h.0.1.1.1;
       extent_fits = h.1.0;
       total_fits = h.1.1;
     })
     (λ h. (
       (
-        ((h.page_size.least, h.page_size.most), h.page_size.power),
-        ((h.page_count.least, h.page_count.most), (h.extent_count.least, h.extent_count.most)),
+        ((h.page_least, h.page_most), h.page_power),
+        ((h.pages_least, h.pages_most), (h.extents_least, h.extents_most)),
       ),
       (h.extent_fits, h.total_fits),
     ))
@@ -81,9 +90,13 @@ record HasNumbers (p n e : ℕ) (g : Geometry) : Type 0 where
 
 limits_of : (g : Geometry) → AreLimits g.page g.pages g.extents
 limits_of g = record {
-  page_size = g.page_size;
-  page_count = g.page_count;
-  extent_count = g.extent_count;
+  page_least = g.page_least;
+  page_most = g.page_most;
+  page_power = g.page_power;
+  pages_least = g.pages_least;
+  pages_most = g.pages_most;
+  extents_least = g.extents_least;
+  extents_most = g.extents_most;
   extent_fits = g.extent_fits;
   total_fits = g.total_fits;
 }
@@ -100,9 +113,13 @@ some_geometry p n e = by (decided_limits p n e)
         page = p;
         pages = n;
         extents = e;
-        page_size = l.page_size;
-        page_count = l.page_count;
-        extent_count = l.extent_count;
+        page_least = l.page_least;
+        page_most = l.page_most;
+        page_power = l.page_power;
+        pages_least = l.pages_least;
+        pages_most = l.pages_most;
+        extents_least = l.extents_least;
+        extents_most = l.extents_most;
         extent_fits = l.extent_fits;
         total_fits = l.total_fits;
       },
@@ -142,8 +159,8 @@ module _ (at : ℕ → Option ℕ) (offset : ℕ) where
             length_record s.contents,
             head_sizes (count_in c),
             few_listed g c.retired s.contents.retired,
-            s.contents.runs.count,
-            g.extent_count.most,
+            s.contents.run_count,
+            g.extents_most,
           ));
     }
 
@@ -154,13 +171,13 @@ module _ (at : ℕ → Option ℕ) (offset : ℕ) where
     numbers_here = record {
       page =
           sym
-          (ap (λ (y : List ℕ). big_number 4 (take 4 (drop 12 y))) front_here.spelled ∙ big_number-reads_back 4 g.page [] (omega (arith, g.page_size.most)));
+          (ap (λ (y : List ℕ). big_number 4 (take 4 (drop 12 y))) front_here.spelled ∙ big_number-reads_back 4 g.page [] (omega (arith, g.page_most)));
       pages =
           sym
-          (ap (λ (y : List ℕ). big_number 4 (take 4 (drop 16 y))) front_here.spelled ∙ big_number-reads_back 4 g.pages [] (omega (arith, g.page_count.most)));
+          (ap (λ (y : List ℕ). big_number 4 (take 4 (drop 16 y))) front_here.spelled ∙ big_number-reads_back 4 g.pages [] (omega (arith, g.pages_most)));
       extents =
           sym
-          (ap (λ (y : List ℕ). big_number 4 (take 4 (drop 20 y))) front_here.spelled ∙ big_number-reads_back 4 g.extents [] (omega (arith, g.extent_count.most)));
+          (ap (λ (y : List ℕ). big_number 4 (take 4 (drop 20 y))) front_here.spelled ∙ big_number-reads_back 4 g.extents [] (omega (arith, g.extents_most)));
     }
 
   one_geometry : {g h : Geometry} {c d : Contents} → StandsByOwnSizes at offset g c → StandsByOwnSizes at offset h d → g ≡ h
@@ -401,8 +418,8 @@ marks_of P decided many = (
     by n marked (inr high) =
         absurd (false≢true (sym (get_or_past (map (λ n. test_of (decided n)) (range_with_len 0 many)) n false (omega (arith, long, high))) ∙ marked))
 
-some_lost : (bytes lacking : List ℕ) (failures : ℕ) → (lost : List Bool) × LosesBlocks bytes lacking failures lost
-some_lost bytes lacking failures =
+some_lost : (bytes lacking : List ℕ) (fails : ℕ → ℕ → Bool) (failures : ℕ) → (lost : List Bool) × LosesBlocks bytes lacking fails failures lost
+some_lost bytes lacking fails failures =
     let marks = marks_of (LacksByte bytes lacking) (decided_lacks bytes lacking) (2 ^ 17) in (
       marks.0,
       record {
@@ -410,20 +427,21 @@ some_lost bytes lacking failures =
         lacks = marks.1.all;
         failed = [];
         few = omega arith;
+        each = All-nil (λ n. MayFailIn fails (n * 512) 512);
         only = λ n marked. inl (marks.1.only n marked);
       },
     )
 
 -- of the known bytes, or of none, if none are known
-pub some_found_in : (raw : Option (List ℕ)) (lacking : List ℕ) (failures : ℕ) →
-    (records : List FoundRecord) × (ranges : List LostBytes) × AreFoundInSome raw lacking failures records ranges
-some_found_in raw lacking failures = by raw
+pub some_found_in : (raw : Option (List ℕ)) (lacking : List ℕ) (fails : ℕ → ℕ → Bool) (failures : ℕ) →
+    (records : List FoundRecord) × (ranges : List LostBytes) × AreFoundInSome raw lacking fails failures records ranges
+some_found_in raw lacking fails failures = by raw
   where
-    found : (bytes : List ℕ) → (records : List FoundRecord) × (ranges : List LostBytes) × AreFoundWith bytes lacking failures records ranges
+    found : (bytes : List ℕ) → (records : List FoundRecord) × (ranges : List LostBytes) × AreFoundWith bytes lacking fails failures records ranges
     found bytes =
-        let lost = some_lost bytes lacking failures in
+        let lost = some_lost bytes lacking fails failures in
         let all = some_found bytes lost.0 in (all.0, all.1, record { lost = lost.0; loses = lost.1; found = all.2 })
 
-    by : (raw : Option (List ℕ)) → (records : List FoundRecord) × (ranges : List LostBytes) × AreFoundInSome raw lacking failures records ranges
+    by : (raw : Option (List ℕ)) → (records : List FoundRecord) × (ranges : List LostBytes) × AreFoundInSome raw lacking fails failures records ranges
     by None = let all = found [] in (all.0, all.1, record { bytes = []; known = tt; found = all.2 })
     by (Some bytes) = let all = found bytes in (all.0, all.1, record { bytes = bytes; known = refl; found = all.2 })

@@ -42,7 +42,7 @@ module _ {image : Image} {bytes : List ℕ} {readable : List Bool} (h : IsBuffer
       size = image.geometry.page
 
       positive : 0 < size
-      positive = omega (arith, image.geometry.page_size.least)
+      positive = omega (arith, image.geometry.page_least)
 
       q : ℕ
       q = i / size
@@ -77,7 +77,7 @@ module _ {image : Image} {bytes : List ℕ} {readable : List Bool} (h : IsBuffer
   ]
     where
       quotient : s * image.geometry.page / image.geometry.page ≡ s
-      quotient = mul-div_cancel s (omega (arith, image.geometry.page_size.least))
+      quotient = mul-div_cancel s (omega (arith, image.geometry.page_least))
 
   module _ {g s : ℕ} (up : IsNextUnreadable readable g s) where
     in_extent : s * image.geometry.page ≤ extent_bytes image.geometry
@@ -102,7 +102,7 @@ module _ {image : Image} {bytes : List ℕ} {readable : List Bool} (h : IsBuffer
         i = g * image.geometry.page + k
 
         positive : 0 < image.geometry.page
-        positive = omega (arith, image.geometry.page_size.least)
+        positive = omega (arith, image.geometry.page_least)
 
         below : i < s * image.geometry.page
         below = omega (arith, hk)

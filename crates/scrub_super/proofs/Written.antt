@@ -10,10 +10,12 @@ use Rattle.scrub_frame.specs.Locator.{locator_bytes}
 use Rattle.scrub_super.specs.declared.head.Head.{Head}
 use Rattle.scrub_super.specs.Contents.{Contents, retired_in}
 use Rattle.scrub_super.specs.Planned.{AreRetired}
-use Rattle.scrub_super.specs.Record.{head_bytes, record_body, record_bytes, ArePointers, AreContents, BeginsWithRecord}
-use Rattle.scrub_super.specs.steps.RecordRead.{body_size, digest_place, record_head_size, retired_count}
+use Rattle.scrub_super.specs.Record.{record_body, record_bytes, AreContents, BeginsWithRecord}
+use Rattle.scrub_super.specs.steps.Limits.{ArePointers}
+use Rattle.scrub_super.specs.steps.RecordRead.{body_size, digest_place, head_bytes, record_head_size, retired_count}
 use Rattle.scrub_super.proofs.Fronts.{length_head}
 use Rattle.scrub_super.proofs.Listed.{count_in, small_count, length_listed, length_numbers}
+use Rattle.scrub_super.proofs.RecordParts.{body_behind, body_is}
 
 -- the head of these contents
 abbrev pub head_for : Contents → Head
@@ -56,7 +58,10 @@ pub body_written : (g : Geometry) (s : Contents) (old : List ℕ) {head : Head} 
     o1 ≡ old ++ head_bytes g head.generation head.runs head.retired →
     o2 ≡ o1 ++ flat_map (big_bytes 4) ps → o3 ≡ o2 ++ flat_map (big_bytes 4) ts → o4 ≡ o3 ++ flat_map locator_bytes rs →
     o4 ≡ old ++ record_body g s
-body_written g s old hh hp ht hr h1 h2 h3 h4 = rw (h4, h3, h2, h1, hh, hp, ht, hr) (simp append_assoc)
+body_written g s old {o4 = o4} hh hp ht hr h1 h2 h3 h4 = parts ∙ ap (λ body. old ++ body) (sym (body_is g s))
+  where
+    parts : o4 ≡ old ++ body_behind g s.generation (length s.runs) (count_in s) s
+    parts = rw (h4, h3, h2, h1, hh, hp, ht, hr) (simp append_assoc)
 
 -- and with the digest
 pub record_written : (g : Geometry) (s : Contents) (old : List ℕ) {o3 o4 seen digest : List ℕ} {start : ℕ} →

@@ -1,6 +1,7 @@
 -- Raw bytes in blocks of 512, some of which are lost.
-use Rattle.std.specs.Prelude.{◌≡◌, ◌<◌, ◌≤◌, ◌+◌, ◌*◌, ◌/◌, ◌^◌, ℕ, List, Bool, true, false, Option, None, ◌⊎◌, Contains, if◌then◌else◌, slice_get, slice_index_or}
+use Rattle.std.specs.Prelude.{◌≡◌, ◌<◌, ◌≤◌, ◌+◌, ◌*◌, ◌/◌, ◌^◌, ℕ, List, Bool, true, false, Option, None, ◌⊎◌, Contains, if◌then◌else◌, slice_get, slice_index_or, All}
 use Rattle.std.specs.Prelude.{length as len}
+use Rattle.scrub_disk.specs.Raw.{MayFailIn}
 
 -- a list of marks is true at block n
 abbrev pub IsMarked : List Bool → ℕ → Type 0
@@ -17,13 +18,14 @@ pub record LacksByte (bytes places : List ℕ) (n : ℕ) : Type 0 where
   pub before_end : n * 512 + slice_index_or places n 512 < len bytes
 
 -- among the blocks of 512 bytes below byte 2^26 each is lost that lacks a byte before the end, by the places of the first
--- lacking bytes, and of the others only those that failures cost, listed here by their numbers, at most as many as the
--- failures that were counted
-pub record LosesBlocks (bytes lacking : List ℕ) (failures : ℕ) (lost : List Bool) : Type 0 where
+-- lacking bytes, and of the others only those that failures cost, listed here by their numbers: at most as many as the
+-- failures that were counted, and in each of them a read may fail
+pub record LosesBlocks (bytes lacking : List ℕ) (fails : ℕ → ℕ → Bool) (failures : ℕ) (lost : List Bool) : Type 0 where
   pub few_blocks : len lost ≤ 2 ^ 17
   pub lacks : (n : ℕ) → n < 2 ^ 17 → LacksByte bytes lacking n → IsMarked lost n
   pub failed : List ℕ
   pub few : len failed ≤ failures
+  pub each : All (λ n. MayFailIn fails (n * 512) 512) failed
   pub only : (n : ℕ) → IsMarked lost n → LacksByte bytes lacking n ⊎ Contains failed n
 
 -- the blocks from `first` on up to `stop` are lost, and the ones before and after them aren't

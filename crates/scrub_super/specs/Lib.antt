@@ -5,6 +5,7 @@ pub mod Chosen
 pub mod Pages
 pub mod Planned
 pub mod Plan
+pub mod Reset
 pub mod Blocks
 pub mod UnknownSizes
 -- Files of other crates that public clauses cite.

@@ -1,11 +1,11 @@
 -- The contents of a plan, and how it follows from the superblock that counts, or from there being none.
-use Rattle.std.specs.Prelude.{◌≡◌, ◌+◌, ◌-◌, ◌*◌, ◌==◌, ℕ, List, [], All, Bool, true, false, Option, None, MatchOption, if◌then◌else◌, map, replicate, slice_get}
-use Rattle.std.specs.List.{enumerate_from, list_any}
+use Rattle.std.specs.Prelude.{◌≡◌, ◌-◌, ◌*◌, ◌==◌, ℕ, List, [], All, Bool, true, Option, None, if◌then◌else◌, is_some, replicate, slice_get}
+use Rattle.std.specs.Option.{option_map_or}
 use Rattle.scrub_disk.specs.declared.geometry.Geometry.{Geometry}
 use Rattle.scrub_frame.specs.declared.locator.Locator.{Locator}
 use Rattle.scrub_super.specs.Planned.{ArePlanned, AreRetired, extents_in_use, is_in_use}
-use Rattle.scrub_super.specs.Record.{ArePointers, AreRunLocators}
-use Rattle.scrub_super.specs.Contents.{Contents, retired_in}
+use Rattle.scrub_super.specs.steps.Limits.{ArePointers, AreRunLocators}
+use Rattle.scrub_super.specs.Contents.{retired_in}
 use Rattle.scrub_super.specs.Chosen.{Choice}
 
 -- the disk's sizes, the extents to scan, those that are retired, the write pointers of extents 1, 2 and so on, the
@@ -31,25 +31,20 @@ pub record IsPlan (plan : PlanValue) : Type 0 where
 abbrev pub pointer_of : PlanValue → ℕ → Option ℕ
 pointer_of plan e = if e == 0 then None else slice_get plan.pointers (e - 1)
 
--- a plan by a superblock: retired extents, pointers and runs are those of its record
-pub record IsPlanBy (plan : PlanValue) (c : Contents) : Type 0 where
-  pub has : plan.has_superblock ≡ true
-  pub retired : plan.retired ≡ retired_in c
-  pub pointers : plan.pointers ≡ c.pointers
-  pub runs : plan.runs ≡ c.runs
-
--- a plan without a superblock: each extent counts as full, none as retired, and there are no runs
-pub record IsPlanWithout (plan : PlanValue) (g : Geometry) : Type 0 where
-  pub has : plan.has_superblock ≡ false
-  pub retired : plan.retired ≡ []
-  pub pointers : plan.pointers ≡ replicate (g.extents - 1) (g.page * g.pages)
-  pub runs : plan.runs ≡ []
-
--- the plan that follows from the choice, with all extents except extent 0 and the retired ones
-pub record IsPlanOf (choice : Choice) (plan : PlanValue) : Type 0 where
-  pub geometry : plan.geometry ≡ choice.geometry
-  pub all : plan.planned ≡ extents_in_use choice.geometry.extents plan.retired
-  pub by : MatchOption choice.superblock (IsPlanWithout plan choice.geometry) (IsPlanBy plan)
+-- the plan that follows from the choice, with all extents except extent 0 and the retired ones: retired extents, pointers
+-- and runs are those of the superblock's record; without a superblock each extent counts as full, none as retired, and there
+-- are no runs
+abbrev pub plan_of : Choice → PlanValue
+plan_of choice = record {
+  geometry = choice.geometry;
+  planned = extents_in_use choice.geometry.extents (option_map_or retired_in choice.superblock []);
+  retired = option_map_or retired_in choice.superblock [];
+  pointers =
+      option_map_or (λ c. c.pointers) choice.superblock
+      (replicate (choice.geometry.extents - 1) (choice.geometry.page * choice.geometry.pages));
+  runs = option_map_or (λ c. c.runs) choice.superblock [];
+  has_superblock = is_some choice.superblock;
+}
 
 -- the same plan, but with these planned extents
 pub record IsRestricted (old : PlanValue) (extents : List ℕ) (new : PlanValue) : Type 0 where
@@ -57,22 +52,5 @@ pub record IsRestricted (old : PlanValue) (extents : List ℕ) (new : PlanValue)
   pub geometry : new.geometry ≡ old.geometry
   pub retired : new.retired ≡ old.retired
   pub pointers : new.pointers ≡ old.pointers
-  pub runs : new.runs ≡ old.runs
-  pub has : new.has_superblock ≡ old.has_superblock
-
--- of a pointer with its index i, which is that of extent i + 1: the pointer, or 0 if that is one of these extents
-abbrev pub pointer_reset : List ℕ → ℕ × ℕ → ℕ
-pointer_reset extents p = if list_any (λ e. e == p.0 + 1) extents then 0 else p.1
-
--- the write pointers of extents 1, 2 and so on, but 0 for each of these extents
-abbrev pub pointers_reset : List ℕ → List ℕ → List ℕ
-pointers_reset extents pointers = map (pointer_reset extents) (enumerate_from 0 pointers)
-
--- the same plan, but as if each of these extents had the write pointer 0
-pub record IsReset (old : PlanValue) (extents : List ℕ) (new : PlanValue) : Type 0 where
-  pub planned : new.planned ≡ old.planned
-  pub geometry : new.geometry ≡ old.geometry
-  pub retired : new.retired ≡ old.retired
-  pub pointers : new.pointers ≡ pointers_reset extents old.pointers
   pub runs : new.runs ≡ old.runs
   pub has : new.has_superblock ≡ old.has_superblock

@@ -23,4 +23,4 @@ is_in_use retired e = not (list_any (λ r. r == e) retired)
 
 -- all extents except extent 0 and the retired ones, ascending
 abbrev pub extents_in_use : ℕ → List ℕ → List ℕ
-extents_in_use extents retired = filter (is_in_use retired) (range_with_len 1 (extents - 1))
+extents_in_use extents retired = filter (λ e. not (list_any (λ r. r == e) retired)) (range_with_len 1 (extents - 1))

@@ -42,16 +42,16 @@ pub record AreFoundByOwnSizes (bytes : List ℕ) (lost : List Bool) (records : L
   pub records_are : AreFoundRecords (byte_left bytes lost) records
   pub ranges_are : AreLostRanges lost ranges
 
--- all superblock records of raw bytes, and all lost bytes, for some lost blocks that fit these first lacking bytes and this
--- number of failures
-pub record AreFoundWith (bytes lacking : List ℕ) (failures : ℕ) (records : List FoundRecord) (ranges : List LostBytes) : Type 0 where
+-- all superblock records of raw bytes, and all lost bytes, for some lost blocks that fit these first lacking bytes, the
+-- reads that may fail, and this number of failures
+pub record AreFoundWith (bytes lacking : List ℕ) (fails : ℕ → ℕ → Bool) (failures : ℕ) (records : List FoundRecord) (ranges : List LostBytes) : Type 0 where
   pub lost : List Bool
-  pub loses : LosesBlocks bytes lacking failures lost
+  pub loses : LosesBlocks bytes lacking fails failures lost
   pub found : AreFoundByOwnSizes bytes lost records ranges
 
 -- all superblock records and lost bytes of some bytes: those of the raw image if they are known, or else any
-pub record AreFoundInSome (raw : Option (List ℕ)) (lacking : List ℕ) (failures : ℕ) (records : List FoundRecord)
-    (ranges : List LostBytes) : Type 0 where
+pub record AreFoundInSome (raw : Option (List ℕ)) (lacking : List ℕ) (fails : ℕ → ℕ → Bool) (failures : ℕ)
+    (records : List FoundRecord) (ranges : List LostBytes) : Type 0 where
   pub bytes : List ℕ
   pub known : IfSome raw (λ text. bytes ≡ text)
-  pub found : AreFoundWith bytes lacking failures records ranges
+  pub found : AreFoundWith bytes lacking fails failures records ranges

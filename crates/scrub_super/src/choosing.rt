@@ -7,7 +7,7 @@ ghost use Rattle.scrub_super.specs.Contents.{Contents};
 ghost use Rattle.scrub_super.specs.Record.{BeginsWithRecord};
 ghost use Rattle.scrub_super.specs.Chosen.{Choice, IsChoice, RecordStandsAt};
 ghost use Rattle.scrub_super.specs.Pages.{IsRank};
-ghost use Rattle.scrub_super.specs.Plan.{PlanValue, IsPlanOf};
+ghost use Rattle.scrub_super.specs.Plan.{PlanValue, plan_of};
 ghost use Rattle.scrub_super.specs.declared.pages.Rank.{Rank};
 ghost use Rattle.scrub_super.specs.steps.ByConditions.{IsChoiceByConditions, IsRankByConditions};
 ghost use Rattle.scrub_disk.specs.Image.{Image};
@@ -188,5 +188,5 @@ pub fn choice_by_conditions()
 /// A law: each image has a choice, and each choice a plan. So an image has exactly one of each.
 pub fn each_image_has_a_choice()
     ensures choice { (image : Image) → (choice : Choice) × IsChoice image choice }
-    ensures plan { (choice : Choice) → (plan : PlanValue) × IsPlanOf choice plan }
+    ensures plan { (choice : Choice) → (plan : PlanValue) × (plan ≡ plan_of choice) }
 {}

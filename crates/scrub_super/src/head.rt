@@ -4,8 +4,9 @@
 ghost use Rattle.std.specs.Prelude.{◌≡◌, ◌+◌, ◌≤◌, ◌<◌, ◌^◌, ◌++◌, ℕ, IfSome, IfNone, length, take, vec_len};
 ghost use Rattle.std.specs.Prelude.{vec_capacity, option_map};
 ghost use Rattle.scrub_super.specs.Contents.{Contents};
-ghost use Rattle.scrub_super.specs.Record.{BeginsWithRecord, front_bytes, head_bytes};
+ghost use Rattle.scrub_super.specs.Record.{BeginsWithRecord};
 ghost use Rattle.scrub_super.specs.steps.RecordRead.{IsFront, IsHead, digest_place, digit_by};
+ghost use Rattle.scrub_super.specs.steps.RecordRead.{front_bytes, head_bytes};
 ghost use Rattle.scrub_super.specs.steps.RecordRead.{record_head_size, retired_count};
 ghost use Rattle.scrub_super.specs.declared.kind.RecordKind.{RecordKind};
 

@@ -4,7 +4,7 @@ ghost use Rattle.std.specs.Prelude.{◌≡◌, ◌==◌, ◌<◌, ◌≤◌, ◌
 ghost use Rattle.std.specs.Prelude.{true};
 ghost use Rattle.std.specs.List.{list_any};
 ghost use Rattle.std.specs.List.Sorted.{IsStrictlyIncreasing};
-ghost use Rattle.scrub_super.specs.Plan.{pointer_reset, pointers_reset};
+ghost use Rattle.scrub_super.specs.Reset.{pointer_reset, pointers_reset};
 ghost use Rattle.scrub_super.specs.Planned.{extents_in_use};
 
 use crate::chosen::Chosen;
@@ -51,14 +51,18 @@ impl Model for Plan {
 
 impl Plan {
     ghost use Rattle.scrub_super.specs.Planned.{ArePlanned, AreRetired, is_in_use};
-    ghost use Rattle.scrub_super.specs.Record.{AreRunLocators};
-    ghost use Rattle.scrub_super.specs.Plan.{pointer_of, IsPlanOf, IsReset, IsRestricted};
+    ghost use Rattle.scrub_super.specs.steps.Limits.{AreRunLocators};
+    ghost use Rattle.scrub_super.specs.Plan.{plan_of, pointer_of, IsRestricted};
+    ghost use Rattle.scrub_super.specs.Reset.{IsReset};
+    ghost use Rattle.scrub_super.specs.steps.PlanParts.{IsPlanInParts};
 
     /// The plan of all extents except extent 0 and the retired ones, from the chosen superblock. If there is
     /// no superblock, each extent counts as full, none is retired, and there are no index runs.
     pub fn make(alloc: Global, chosen: &Chosen, geometry: Geometry) -> Result<Plan, OutOfMemory>
         requires same_geometry { chosen.now.geometry ≡ geometry }
-        ensures { IfOk result (IsPlanOf chosen.now) }
+        ensures plan { IfOk result (λ plan. plan ≡ plan_of chosen.now) }
+        // The same part by part, for callers.
+        ensures parts { IfOk result (IsPlanInParts chosen.now) }
     {
         match chosen.superblock() {
             Some(superblock) => Ok(Plan {

@@ -59,10 +59,11 @@ pub fn find_superblocks<R: RawImage>(
     lacking: &[u32],
 ) -> Result<FoundSuperblocks, OutOfMemory>
     requires few_reads { R.reads raw.old < 2 ^ 62 }
-    ensures found { IfOk result (λ f. AreFoundInSome (R.bytes raw.old) lacking.now
+    ensures found { IfOk result (λ f. AreFoundInSome (R.bytes raw.old) lacking.now (R.fails raw.old)
         (R.failures raw.new - R.failures raw.old) f.records.items f.lost.items) }
     ensures failures { R.failures raw.old ≤ R.failures raw.new }
     ensures same_bytes { R.bytes raw.new ≡ R.bytes raw.old }
+    ensures same_fails { R.fails raw.new ≡ R.fails raw.old }
     ensures same_bound { R.most_failures raw.new ≡ R.most_failures raw.old }
     ensures reads { R.reads raw.new ≤ R.reads raw.old + max_extent_bytes }
 {
@@ -78,13 +79,13 @@ pub fn one_answer_for_lost_blocks()
         AreFoundByOwnSizes bytes lost a r → AreFoundByOwnSizes bytes lost b s → (a ≡ b) × (r ≡ s) }
 {}
 
-/// A law: raw bytes with some lost blocks have all their records and all their lost bytes; so there is an answer
-/// whatever bytes lack and however many reads fail. With `one_answer_for_lost_blocks`, lost blocks have exactly
-/// one list of each.
+/// A law: raw bytes with some lost blocks have all their records and all their lost bytes; so there is an
+/// answer whatever bytes lack and whichever reads fail. With `one_answer_for_lost_blocks`, lost blocks have
+/// exactly one list of each.
 pub fn each_front_has_an_answer()
     ensures blocks { (bytes : List ℕ) (lost : List Bool) →
         (records : List FoundRecord) × (ranges : List LostBytes) × AreFoundByOwnSizes bytes lost records ranges }
-    ensures raw { (raw : Option (List ℕ)) (lacking : List ℕ) (failures : ℕ) →
+    ensures raw { (raw : Option (List ℕ)) (lacking : List ℕ) (fails : ℕ → ℕ → Bool) (failures : ℕ) →
         (records : List FoundRecord) × (ranges : List LostBytes) ×
-        AreFoundInSome raw lacking failures records ranges }
+        AreFoundInSome raw lacking fails failures records ranges }
 {}

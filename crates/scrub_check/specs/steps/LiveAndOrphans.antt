@@ -5,15 +5,16 @@ use Rattle.std.specs.List.{filter, filter_map, sum_by}
 use Rattle.std.specs.List.Sorted.{IsSorted}
 use Rattle.scrub_disk.specs.declared.geometry.Geometry.{Geometry}
 use Rattle.scrub_scan.specs.declared.item.Item.{Item}
+use Rattle.scrub_scan.specs.Item.{start_of}
 use Rattle.scrub_scan.specs.Scanned.{Scanned}
 use Rattle.scrub_check.specs.declared.statuses.checked.Checked.{Checked}
 use Rattle.scrub_check.specs.declared.lists.cursor.Cursor.{Cursor}
+use Rattle.scrub_check.specs.declared.lists.kept_chunk.KeptChunk.{KeptChunk}
 use Rattle.scrub_check.specs.declared.lists.place.Place.{Place}
 use Rattle.scrub_check.specs.declared.places.chunk_at.ChunkAt.{ChunkAt}
 use Rattle.scrub_check.specs.declared.lists.live_and_orphans.LiveChunks.{LiveChunks}
 use Rattle.scrub_check.specs.declared.lists.live_and_orphans.LiveAndOrphans.{LiveAndOrphans}
 use Rattle.scrub_check.specs.Live.{size_of, live_chunks, live_bytes}
-use Rattle.scrub_check.specs.Candidates.{kept_of}
 use Rattle.scrub_check.specs.Chunks.{place_of, orphans}
 use Rattle.scrub_check.specs.steps.Places.{chunk_at_cmp}
 use Rattle.scrub_check.specs.steps.SoundPlaces.{is_live_by, is_named_by}
@@ -46,6 +47,10 @@ live_by starts e items = filter (is_live_by starts e) items
 -- the places of the chunks of extent e that aren't among these
 abbrev pub orphans_by : List ChunkAt → ℕ → List Item → List Place
 orphans_by starts e items = filter (λ p. not (is_named_by starts p)) (filter_map (place_of e) items)
+
+-- a chunk to keep: where it begins, and how many bytes its frame takes
+abbrev pub kept_of : Item → KeptChunk
+kept_of item = record { start = start_of item; bytes = size_of item }
 
 -- how many bytes the chunks at one of these places take, and where each lies
 pub record AreLiveBy (starts : List ChunkAt) (e : ℕ) (items : List Item) (l : LiveChunks) : Type 0 where

@@ -1,5 +1,5 @@
 -- The places that sound locators point to, sorted by the code.
-use Rattle.std.specs.Prelude.{◌≡◌, ◌&&◌, ℕ, Bool, nat_lt, List, map}
+use Rattle.std.specs.Prelude.{◌≡◌, ◌==◌, ◌&&◌, ℕ, Bool, nat_lt, List, map}
 use Rattle.std.specs.List.{filter, count_by}
 use Rattle.scrub_scan.specs.declared.item.Item.{Item}
 use Rattle.scrub_scan.specs.Item.{start_of}
@@ -9,7 +9,15 @@ use Rattle.scrub_check.specs.declared.statuses.checked.Checked.{Checked}
 use Rattle.scrub_check.specs.declared.places.chunk_at.ChunkAt.{ChunkAt}
 use Rattle.scrub_check.specs.steps.Places.{is_place, place_named_by}
 use Rattle.scrub_check.specs.Checked.{is_sound}
-use Rattle.scrub_check.specs.Live.{is_chunk, sound_at}
+use Rattle.scrub_check.specs.Live.{is_chunk, sound_at, has_sound_at}
+
+-- the checked locator is sound and points to place p of extent e
+abbrev pub is_sound_at : ℕ → ℕ → Checked → Bool
+is_sound_at e p c = is_sound c.status && (c.locator.extent == e) && (c.locator.offset == p)
+
+-- the item of extent e is a live chunk: a sound locator points to its start
+abbrev pub is_live : List Checked → ℕ → Item → Bool
+is_live checked e item = is_chunk item && has_sound_at checked e (start_of item)
 
 -- where the locator points
 abbrev pub place_of_checked : Checked → ChunkAt

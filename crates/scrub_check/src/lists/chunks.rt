@@ -10,7 +10,6 @@ use crate::lists::chunk_uuids::ChunkUuids;
 use crate::lists::live_and_orphans::part_chunks;
 use crate::lists::locator_index::LocatorIndex;
 use crate::lists::place::Place;
-use crate::places::item_frames::frame_of_item;
 use crate::statuses::checked::Checked;
 use scrub_disk::{OutOfMemory, PageSource};
 use scrub_scan::{AllFindings, Item};
@@ -21,12 +20,20 @@ use std::thread::Threads;
 pub(crate) fn place_of(extent: u32, item: &Item) -> Option<Place>
     ensures { result ≡ place_of extent item.now }
 {
-    frame_of_item(extent, item).map(|frame| Place {
-        extent: frame.extent,
-        offset: frame.offset,
-        length: frame.length,
-        uuid: frame.uuid,
-    })
+    match item {
+        Item::Chunk {
+            start,
+            uuid,
+            length,
+            ..
+        } => Some(Place {
+            extent,
+            offset: *start,
+            length: *length,
+            uuid: *uuid,
+        }),
+        _ => None,
+    }
 }
 
 /// The chunks among items of an extent, at their places.

@@ -1,10 +1,10 @@
 //! How many bytes the live chunks of one extent take. For all extents `live_and_orphans` finds it.
 
 ghost use Rattle.std.specs.Prelude.{◌≡◌, ◌<◌, ◌^◌};
-ghost use Rattle.std.specs.List.{filter, sum_by};
+ghost use Rattle.std.specs.List.{filter, list_any, sum_by};
 ghost use Rattle.scrub_scan.specs.Scanned.{scanned};
-ghost use Rattle.scrub_check.specs.Live.{is_sound_at, has_sound_at, is_chunk, is_live, size_of, live_bytes};
-ghost use Rattle.scrub_check.specs.Live.{HasLiveBytes};
+ghost use Rattle.scrub_check.specs.Live.{is_chunk, size_of, live_bytes, HasLiveBytes};
+ghost use Rattle.scrub_check.specs.steps.SoundPlaces.{is_sound_at, is_live};
 
 use crate::statuses::checked::Checked;
 use scrub_disk::PageSource;
@@ -34,12 +34,13 @@ fn is_sound_at(checked: &Checked, extent: u32, offset: u32) -> bool
 
 /// Whether a sound locator points to a place, by a walk over all of them.
 fn has_sound_at(checked: &[Checked], extent: u32, offset: u32) -> bool
-    ensures { result ≡ has_sound_at checked.now extent offset }
+    ensures { result ≡ list_any (is_sound_at extent offset) checked.now }
 {
     checked.iter().any(|one| is_sound_at(one, extent, offset))
 }
 
 /// Whether an item of an extent is a chunk that a sound locator points to.
+#[tactic(auto, using(crate::proofs::Counts::any_counts))]
 fn is_live(checked: &[Checked], extent: u32, item: &Item) -> bool
     ensures { result ≡ is_live checked.now extent item.now }
 {

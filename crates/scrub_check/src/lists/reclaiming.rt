@@ -10,10 +10,11 @@ ghost use Rattle.scrub_scan.specs.Scanned.{Scanned, scanned};
 ghost use Rattle.scrub_scan.specs.AllFindings.{extent_numbers};
 ghost use Rattle.scrub_check.specs.declared.statuses.checked.Checked.{Checked};
 ghost use Rattle.scrub_check.specs.Live.{live_bytes};
-ghost use Rattle.scrub_check.specs.steps.LocatorIndex.{IsLocatorIndex, with_reclaimable};
+ghost use Rattle.scrub_check.specs.steps.LocatorIndex.{IsLocatorIndex, by_free, reclaimable};
+ghost use Rattle.scrub_check.specs.steps.LocatorIndex.{with_reclaimable};
 ghost use Rattle.scrub_check.specs.steps.LiveAndOrphans.{AreLiveChunks};
 ghost use Rattle.scrub_check.specs.Candidates.{CandidateValue, has_sound_alone, is_reclaimable, candidate_of};
-ghost use Rattle.scrub_check.specs.Candidates.{by_free, reclaimable, AreCandidates};
+ghost use Rattle.scrub_check.specs.Candidates.{AreCandidates};
 ghost use Rattle.scrub_check.specs.SafeCandidates.{CandidatesAreSafe};
 
 use crate::lists::candidate::Candidate;
@@ -190,8 +191,8 @@ pub fn candidates_are_safe()
         CandidatesAreSafe image plan all checked }
 {}
 
-/// A law: there is a list of candidates, if the scanned extents ascend. With `one_list_of_candidates`, there is
-/// exactly one.
+/// A law: there is a list of candidates, if the scanned extents ascend. With `one_list_of_candidates`, there
+/// is exactly one.
 pub fn each_scan_has_candidates()
     ensures { (plan : PlanValue) (all : List Scanned) (checked : List Checked) (in_doubt : Bool) →
         IsStrictlyIncreasing (extent_numbers all) →

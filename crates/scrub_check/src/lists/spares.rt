@@ -4,10 +4,9 @@
 ghost use Rattle.std.specs.Prelude.{◌≡◌, ◌++◌, ◌∷◌, [], IfOk, OnOk, map};
 ghost use Rattle.std.specs.List.{filter, filter_map};
 ghost use Rattle.std.specs.List.Sorted.{IsSorted};
-ghost use Rattle.scrub_check.specs.Chunks.{frame_of_item};
 ghost use Rattle.scrub_check.specs.Spares.{AreByContent, AreSpares, HaveTheSameCopies, asks_for_spares};
 ghost use Rattle.scrub_check.specs.Spares.{content_cmp, content_named, content_of, frames, is_copy_of};
-ghost use Rattle.scrub_check.specs.Spares.{is_wanted, spares_by};
+ghost use Rattle.scrub_check.specs.Spares.{frame_of_item, is_wanted, spares_by};
 
 use crate::places::item_frames::frame_of_item;
 use crate::places::sorted_list::{count_of, into_sorted};

@@ -1,7 +1,7 @@
 //! Items as the frames that they are.
 
 ghost use Rattle.std.specs.Prelude.{◌≡◌};
-ghost use Rattle.scrub_check.specs.Chunks.{frame_of_item};
+ghost use Rattle.scrub_check.specs.Spares.{frame_of_item};
 
 use scrub_scan::{Item, Standing};
 

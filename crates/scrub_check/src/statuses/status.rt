@@ -237,7 +237,8 @@ pub fn one_status()
         ExactlyOne (HasStatusIn image plan locator) }
 {}
 
-/// A law: each locator has a status, under a write pointer and by a plan. With `one_status`, it has exactly one.
+/// A law: each locator has a status, under a write pointer and by a plan. With `one_status`, it has exactly
+/// one.
 pub fn each_locator_has_a_status()
     ensures under_pointer { (image : Image) (w : ℕ) (locator : Locator) →
         (status : Status) × HasStatus image w locator status }

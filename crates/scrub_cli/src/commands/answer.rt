@@ -95,7 +95,7 @@ pub fn sizes_listing<R: RawImage>(
 ) -> Result<Answer, OutOfMemory>
     requires { R.reads raw.old < 2 ^ 62 }
     ensures { IfOk result (λ a. AreSizesListed
-        (record { bytes = R.bytes raw.old; most_failures = R.most_failures raw.old })
+        (record { bytes = R.bytes raw.old; fails = R.fails raw.old; most_failures = R.most_failures raw.old })
         lacking.now a.text.items a.outcome) }
 {
     let listing = list_sizes(alloc, raw, lacking)?;

@@ -76,8 +76,8 @@ fn extent_of_raw<R: RawImage>(
     requires in_range { All (λ at. (at.0 < geometry.extents) × (at.1 < geometry.pages)) pages.now }
     requires in_extents { extent < geometry.extents }
     ensures loaded { IfOk result (λ disk.
-        IsLoadedExtent (R.bytes raw.old) (R.most_failures raw.old) geometry pages.now extent
-        (image_of disk)) }
+        IsLoadedExtent (R.bytes raw.old) (R.fails raw.old) (R.most_failures raw.old) geometry pages.now
+        extent (image_of disk)) }
     ensures too_long { result ≡ Err LoadFault.TooLong →
         IfSome (R.bytes raw.old) (λ known. disk_bytes geometry < length known) }
 {

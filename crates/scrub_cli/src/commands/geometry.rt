@@ -21,7 +21,8 @@ fn sizes_of<R: RawImage>(
 ) -> Result<Option<Geometry>, OutOfMemory>
     requires { R.reads raw.old < 2 ^ 62 }
     ensures { IfOk result (AreSizesRead
-        (record { bytes = R.bytes raw.old; most_failures = R.most_failures raw.old }) lacking.now) }
+        (record { bytes = R.bytes raw.old; fails = R.fails raw.old; most_failures = R.most_failures raw.old })
+        lacking.now) }
 {
     find_sizes(alloc, raw, lacking)
 }

@@ -1,7 +1,7 @@
 //! Raw images and maps in files of the system. Contracts don't say what a file holds, only how often an image
 //! was read and how often that failed.
 
-ghost use Rattle.std.specs.Prelude.{◌≡◌, ◌↔◌, ◌⊎◌, ◌*◌, ◌≤◌, ◌^◌, IfSome, IsTrue, None, length};
+ghost use Rattle.std.specs.Prelude.{◌≡◌, ◌↔◌, ◌⊎◌, ◌*◌, ◌≤◌, ◌^◌, IfSome, IsTrue, None, length, true};
 ghost use Rattle.scrub_cli.specs.FileKind.{IsBlockDevice, IsRegularFile};
 ghost use Rattle.scrub_cli.specs.KnownFiles.{file, map_file};
 
@@ -61,6 +61,8 @@ fn read_again(file: &File, out: &mut [u8], offset: u64) -> Option<usize>
 
 impl RawImage for FileImage {
     ghost bytes = { λ _. None };
+
+    ghost fails = { λ _ _ _. true };
 
     ghost reads = { λ image. image.reads };
 

@@ -17,8 +17,8 @@ pub enum MapReadFault {
 }
 
 /// Raw images and maps by name. Contracts see what is known of them before they are opened: of an image its
-/// bytes, if they are known, and how many of its reads fail at most; of a map its text, if that is known. Of
-/// files neither bytes nor text are known.
+/// bytes, if they are known, which of its reads may fail, and how many fail at most; of a map its text, if
+/// that is known. Of files neither bytes nor text are known, and each read may fail.
 pub trait Images {
     type Image: RawImage + Send + Drop;
 
@@ -29,6 +29,7 @@ pub trait Images {
     /// The raw image of this name, before any read of it, or `None` if it can't be opened.
     fn image(&mut self, name: &str) -> Option<Self::Image>
         ensures known { IfSome result (λ image. Self.Image.bytes image ≡ (known self.old name.now).bytes) }
+        ensures faults { IfSome result (λ image. Self.Image.fails image ≡ (known self.old name.now).fails) }
         ensures bounded { IfSome result (λ image. Self.Image.most_failures image ≡
             (known self.old name.now).most_failures) }
         ensures unread { IfSome result (λ image. Self.Image.reads image ≡ 0) }
@@ -49,6 +50,8 @@ pub trait Images {
         ensures few { IfOk result (λ r. IfSome r (λ readers. vec_len readers ≤ most)) }
         ensures known { IfOk result (λ r. IfSome r (λ readers.
             All (λ image. Self.Image.bytes image ≡ (known self.old name.now).bytes) readers.items)) }
+        ensures faults { IfOk result (λ r. IfSome r (λ readers.
+            All (λ image. Self.Image.fails image ≡ (known self.old name.now).fails) readers.items)) }
         ensures bounded { IfOk result (λ r. IfSome r (λ readers.
             sum_by (λ image. Self.Image.most_failures image) readers.items ≤
             (known self.old name.now).most_failures)) }

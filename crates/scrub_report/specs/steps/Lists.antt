@@ -1,7 +1,8 @@
 -- Steps of the code: what the report lists, and what it is drawn from.
-use Rattle.std.specs.Prelude.{◌≡◌, ◌&&◌, ◌==◌, ℕ, Bool, List, is_some, length}
+use Rattle.std.specs.Prelude.{◌≡◌, ◌&&◌, ◌==◌, ℕ, Bool, List, filter, is_some, length, map}
 use Rattle.std.specs.List.{list_all}
 use Rattle.scrub_disk.specs.Image.{Image}
+use Rattle.scrub_run.specs.declared.shard_id.ShardId.{ShardId}
 use Rattle.scrub_merge.specs.Binding.{BindingValue}
 use Rattle.scrub_check.specs.declared.statuses.checked.Checked.{Checked}
 use Rattle.scrub_check.specs.Checked.{dangling, hidden}
@@ -12,8 +13,12 @@ use Rattle.scrub_report.specs.declared.listed.Listed.{Listed}
 use Rattle.scrub_report.specs.declared.parts.Judged.{Judged}
 use Rattle.scrub_report.specs.declared.shards.Shards.{Shards}
 use Rattle.scrub_report.specs.Parts.{IsLivenessOf}
-use Rattle.scrub_report.specs.Report.{doubtful_ids, report_text}
+use Rattle.scrub_report.specs.Report.{report_text}
 use Rattle.scrub_report.specs.Scrubbed.{IsScrubbed, Scrubbed, is_clean, is_clean_choice, is_clean_extent}
+
+-- the identifiers of the doubtful bindings, in their order
+abbrev pub doubtful_ids : List BindingValue → List ShardId
+doubtful_ids bindings = map (λ b. b.id) (filter (λ b. b.doubtful) bindings)
 
 -- how many shards a map has, and the doubtful ones
 pub record AreShardsOf (bindings : List BindingValue) (s : Shards) : Type 0 where

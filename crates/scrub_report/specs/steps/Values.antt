@@ -1,16 +1,23 @@
 -- The values of an object's members, as the code keeps them, and what they are as JSON.
-use Rattle.std.specs.Prelude.{cond, map}
-use Rattle.serde_json.specs.Data.{Data, boolean, string}
+use Rattle.std.specs.Prelude.{List, [], ◌∷◌, codes, cond, map}
+use Rattle.serde_json.specs.Data.{Data, boolean, object, string}
+use Rattle.scrub_disk.specs.declared.geometry.Geometry.{Geometry}
+use Rattle.scrub_scan.specs.declared.item.Item.{Item}
+use Rattle.scrub_scan.specs.Line.{line_of}
 use Rattle.scrub_check.specs.declared.statuses.checked.Checked.{Checked}
 use Rattle.scrub_check.specs.Checked.{is_hidden}
-use Rattle.scrub_report.specs.Json.{list, natural, natural_or_null}
-use Rattle.scrub_report.specs.Report.{candidate_data, dangling_data, geometry_data, hidden_data, ids_data, items_data, numbers_data, place_data, run_data, shared_data, super_data}
+use Rattle.scrub_report.specs.Json.{list, natural, natural_or_null, with_keys}
+use Rattle.scrub_report.specs.Report.{candidate_data, dangling_data, ids_data, locator_members, numbers_data, place_data, run_data, shared_data, super_data}
 use Rattle.scrub_report.specs.Texts.{owner_text, state_text, status_text, uuid_text}
 use Rattle.scrub_report.specs.declared.keys.KeyValue.{KeyValue}
 use Rattle.scrub_report.specs.declared.keys.KeyValue.TheVariants as key
 use Rattle.scrub_report.specs.declared.runs.RunRow.{RunRow}
 use Rattle.scrub_report.specs.declared.object.Value.{Value}
 use Rattle.scrub_report.specs.declared.object.Value.TheVariants.{Number, Optional, Optional32, Flag, Owner, Status, State, Uuid, Numbers, Items}
+
+-- a list of the lines of items
+abbrev pub items_data : List Item → Data
+items_data items = list (map (λ item. string (line_of item)) items)
 
 -- the value of a member, as JSON
 abbrev pub value_data : Value → Data
@@ -29,9 +36,17 @@ value_data (Items items) = items_data items.now
 abbrev pub row_data : RunRow → Data
 row_data r = run_data r.locator r.entries r.state
 
+-- one of `hidden`: a locator and its owner
+abbrev pub hidden_data : Checked → Data
+hidden_data c = object (locator_members c)
+
 -- the value of a hidden or of a dangling locator, by its status
 abbrev pub locator_data : Checked → Data
 locator_data c = cond (is_hidden c.status) (hidden_data c) (dangling_data c)
+
+-- the value of `geometry`: how many extents a disk has, how many bytes a page, and how many pages an extent
+abbrev pub geometry_data : Geometry → Data
+geometry_data g = with_keys ((codes "extents", natural g.extents) ∷ (codes "page", natural g.page) ∷ (codes "pages", natural g.pages) ∷ [])
 
 -- the value of a key of the report, as JSON
 abbrev pub key_data : KeyValue → Data

@@ -6,7 +6,7 @@ use Rattle.std.proofs.lemmas.List.{append-nil}
 use Rattle.std.proofs.lemmas.List.Prefix.{front_from_reads}
 use Rattle.scrub_frame.specs.declared.form.Form.{Form}
 use Rattle.scrub_frame.specs.declared.form.Form.TheVariants.{Plain, Sealed}
-use Rattle.scrub_frame.specs.Frame.{form_byte, magic, frame, frame_overhead}
+use Rattle.scrub_frame.specs.Frame.{magic, frame, frame_overhead}
 use Rattle.scrub_frame.proofs.Frames.{one_frame_lem, length-frame}
 use Rattle.scrub_disk.specs.Image.{Image, AreBytesAt}
 use Rattle.scrub_scan.specs.Extent.{Extent, extent_of, FrameAt}
@@ -45,11 +45,11 @@ one_frame_under image e v w p f t b g u c h k =
 
 -- lemma: at most one magic is at a place
 pub one_magic_at : (at : ℕ → Option ℕ) (p : ℕ) (f g : Form) → AreBytesAt at p (magic f) → AreBytesAt at p (magic g) → f ≡ g
-one_magic_at at p f g h k =
-    same f g (same_Some (form_byte f) (form_byte g) (sym (h 1 (omega arith)) ∙ k 1 (omega arith)))
-  where
-    same : (f g : Form) → form_byte f ≡ form_byte g → f ≡ g
-    same Plain Plain e = refl
-    same Plain Sealed e = absurd (let z : ⊥ = omega (arith, e) in z)
-    same Sealed Plain e = absurd (let z : ⊥ = omega (arith, e) in z)
-    same Sealed Sealed e = refl
+one_magic_at at p Plain Plain h k = refl
+one_magic_at at p Plain Sealed h k =
+    let e : 0x5E ≡ 0x5F = same_Some 0x5E 0x5F (sym (h 1 (omega arith)) ∙ k 1 (omega arith)) in
+    absurd (let z : ⊥ = omega (arith, e) in z)
+one_magic_at at p Sealed Plain h k =
+    let e : 0x5F ≡ 0x5E = same_Some 0x5F 0x5E (sym (h 1 (omega arith)) ∙ k 1 (omega arith)) in
+    absurd (let z : ⊥ = omega (arith, e) in z)
+one_magic_at at p Sealed Sealed h k = refl

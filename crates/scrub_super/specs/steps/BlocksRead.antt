@@ -1,9 +1,10 @@
 -- Steps of reading a raw image in blocks, and of the search for records in them.
-use Rattle.std.specs.Prelude.{◌≡◌, ◌<◌, ◌≤◌, ◌+◌, ◌*◌, ◌/◌, ◌^◌, ◌%◌, ℕ, List, Bool, true, false, Option, Some, ◌⊎◌, Contains, slice_get, slice_index, slice_index_or, take, [], ◌∷◌, ◌&&◌, not, if◌then◌else◌}
+use Rattle.std.specs.Prelude.{◌≡◌, ◌<◌, ◌≤◌, ◌+◌, ◌*◌, ◌/◌, ◌^◌, ◌%◌, ℕ, List, Bool, true, false, Option, Some, ◌⊎◌, Contains, slice_get, slice_index, slice_index_or, take, [], ◌∷◌, ◌&&◌, not, if◌then◌else◌, All}
 use Rattle.std.specs.Prelude.{length as len}
 use Rattle.scrub_disk.specs.Limits.{max_extent_bytes}
 use Rattle.scrub_disk.specs.declared.geometry.Geometry.{Geometry}
 use Rattle.scrub_disk.specs.Image.{AreBytesAt, extent_bytes}
+use Rattle.scrub_disk.specs.Raw.{MayFailIn}
 use Rattle.scrub_super.specs.declared.unknown_sizes.FoundRecord.{FoundRecord}
 use Rattle.scrub_super.specs.declared.unknown_sizes.LostBytes.{LostBytes}
 use Rattle.scrub_super.specs.declared.unknown_sizes.blocks.Block.{Block}
@@ -12,22 +13,23 @@ use Rattle.scrub_super.specs.Record.{BeginsWithRecord, record_bytes}
 use Rattle.scrub_super.specs.Pages.{kind_of}
 use Rattle.scrub_super.specs.Blocks.{IsMarked, LacksByte}
 
--- a raw image after at most so many more reads: its bytes and the bound on its failures are the same, and failures never
--- get fewer
-pub record IsReadFurther {R : Type 0} (bytes : R → Option (List ℕ)) (bound failures reads : R → ℕ) (old new : R) (most : ℕ) : Type 0
-  where
-    pub same_bytes : bytes new ≡ bytes old
-    pub same_bound : bound new ≡ bound old
-    pub failed : failures old ≤ failures new
-    pub few : reads new ≤ reads old + most
+-- a raw image after at most so many more reads: its bytes, the reads that may fail and the bound on its failures are the
+-- same, and failures never get fewer
+pub record IsReadFurther {R : Type 0} (bytes : R → Option (List ℕ)) (fails : R → ℕ → ℕ → Bool) (bound failures reads : R → ℕ) (old new : R)
+    (most : ℕ) : Type 0 where
+  pub same_bytes : bytes new ≡ bytes old
+  pub same_fails : fails new ≡ fails old
+  pub same_bound : bound new ≡ bound old
+  pub failed : failures old ≤ failures new
+  pub few : reads new ≤ reads old + most
 
 -- a block at an offset was read into the front of `out`, or is lost, because its first lacking byte is before the end or
--- because a failure was counted
-pub record IsBlockRead (bytes : List ℕ) (offset lacking before after : ℕ) (out : List ℕ) (block : Block) : Type 0 where
+-- because a read in it failed
+pub record IsBlockRead (bytes : List ℕ) (fails : ℕ → ℕ → Bool) (offset lacking before after : ℕ) (out : List ℕ) (block : Block) : Type 0 where
   pub read : block.is_lost ≡ false → AreBytesAt (slice_get bytes) offset (take block.len out)
   pub ended : block.len < 512 → len bytes ≤ offset + block.len
   pub lacks : lacking < 512 → offset + lacking < len bytes → block.is_lost ≡ true
-  pub only : block.is_lost ≡ true → ((lacking < 512) × (offset + lacking < len bytes)) ⊎ (before < after)
+  pub only : block.is_lost ≡ true → ((lacking < 512) × (offset + lacking < len bytes)) ⊎ ((before < after) × MayFailIn fails offset 512)
 
 -- the first list begins with the bytes of the second
 abbrev pub BeginsWith : List ℕ → List ℕ → Type 0
@@ -41,16 +43,17 @@ pub record AreBlockMarks (bytes : List ℕ) (lost : List Bool) : Type 0 where
 
 -- the bytes of blocks that aren't lost are those of the raw image, and the lost blocks are those that lack a byte and those
 -- that failures cost
-pub record AreBlocksRead (bytes lacking : List ℕ) (failures : ℕ) (read : List ℕ) (lost : List Bool) : Type 0 where
+pub record AreBlocksRead (bytes lacking : List ℕ) (fails : ℕ → ℕ → Bool) (failures : ℕ) (read : List ℕ) (lost : List Bool) : Type 0 where
   pub held : (i : ℕ) → i < len read → ¬ IsMarked lost (i / 512) → slice_get bytes i ≡ Some (slice_index read i)
   pub lacks : (n : ℕ) → n < len lost → LacksByte bytes lacking n → IsMarked lost n
   pub failed : List ℕ
   pub few : len failed ≤ failures
+  pub each : All (λ n. MayFailIn fails (n * 512) 512) failed
   pub only : (n : ℕ) → IsMarked lost n → LacksByte bytes lacking n ⊎ Contains failed n
 
 -- all that matters was read: up to the end of the raw image, or 2^26 bytes
-pub record AreAllRead (bytes lacking : List ℕ) (failures : ℕ) (read : List ℕ) (lost : List Bool) : Type 0 where
-  pub blocks : AreBlocksRead bytes lacking failures read lost
+pub record AreAllRead (bytes lacking : List ℕ) (fails : ℕ → ℕ → Bool) (failures : ℕ) (read : List ℕ) (lost : List Bool) : Type 0 where
+  pub blocks : AreBlocksRead bytes lacking fails failures read lost
   pub ended : (len bytes ≤ len read) ⊎ (len read ≡ max_extent_bytes)
 
 -- no byte from the offset on up to `end` is lost, and at `end` the bytes end or one is lost

@@ -1,14 +1,34 @@
 -- Steps of reading a record: its head, and what that says of the whole record.
-use Rattle.std.specs.Prelude.{◌≡◌, ◌<◌, ◌≤◌, ◌+◌, ◌*◌, ◌-◌, ◌^◌, ℕ, List, Option, Some, None, drop, take, option_map, slice_index}
+use Rattle.std.specs.Prelude.{◌≡◌, ◌<◌, ◌≤◌, ◌+◌, ◌*◌, ◌-◌, ◌^◌, ℕ, List, [], ◌∷◌, ◌++◌, Option, Some, None, drop, take, option_map, slice_index}
 use Rattle.std.specs.Prelude.{length as len}
 use Rattle.std.specs.Option.{option_map_or, unwrap_or}
-use Rattle.byteorder.specs.Endian.{big_number}
+use Rattle.byteorder.specs.Endian.{big_bytes, big_number}
 use Rattle.scrub_disk.specs.declared.geometry.Geometry.{Geometry}
 use Rattle.scrub_super.specs.declared.kind.RecordKind.{RecordKind}
 use Rattle.scrub_super.specs.declared.kind.RecordKind.TheVariants.{Ssb1, Ssb2}
 use Rattle.scrub_super.specs.Contents.{Contents}
-use Rattle.scrub_super.specs.Record.{BeginsWithRecord, front_bytes, head_bytes}
+use Rattle.scrub_super.specs.Record.{BeginsWithRecord}
 use Rattle.scrub_super.specs.Pages.{magic_of}
+
+-- the digit that ends the magic: that of `SSB1`, or of `SSB2` if retired extents are listed
+abbrev pub digit_of : Option ℕ → ℕ
+digit_of None = 0x31
+digit_of (Some retired) = 0x32
+
+-- what both kinds of record begin with: the magic, the generation, the disk's sizes and the number of index runs
+abbrev pub front_bytes : ℕ → Geometry → ℕ → ℕ → List ℕ
+front_bytes digit g generation runs =
+    (0x53 ∷ 0x53 ∷ 0x42 ∷ digit ∷ []) ++ big_bytes 8 generation
+    ++ big_bytes 4 g.page ++ big_bytes 4 g.pages ++ big_bytes 4 g.extents ++ big_bytes 2 runs
+
+-- the number of retired extents in two bytes, or nothing if they aren't listed
+abbrev pub count_bytes : Option ℕ → List ℕ
+count_bytes None = []
+count_bytes (Some retired) = big_bytes 2 retired
+
+-- all of a record before the write pointers: with these after it, `body_is` says, it is a record without its digest
+abbrev pub head_bytes : Geometry → ℕ → ℕ → Option ℕ → List ℕ
+head_bytes g generation runs retired = front_bytes (digit_of retired) g generation runs ++ count_bytes retired
 
 -- the kind of a record with so many retired extents, if they are listed
 abbrev pub kind_by : Option ℕ → RecordKind

@@ -5,6 +5,7 @@ ghost use Rattle.std.specs.Prelude.{◌≡◌, ◌+◌, ◌-◌, ◌*◌, ◌<�
 ghost use Rattle.std.specs.Prelude.{IfSome, OnErr, OnOk, length, slice_get, slice_index_or, take};
 ghost use Rattle.scrub_disk.specs.Limits.{max_extent_bytes};
 ghost use Rattle.scrub_disk.specs.Image.{AreBytesAt};
+ghost use Rattle.scrub_disk.specs.Raw.{MayFailIn};
 ghost use Rattle.scrub_super.specs.steps.BlocksRead.{AreAllRead, AreBlockMarks, IsBlockRead, IsReadFurther};
 
 use scrub_disk::{OutOfMemory, RawFault, RawImage};
@@ -43,8 +44,9 @@ fn read_front<R: RawImage>(raw: &mut R, offset: u64, out: &mut [u8]) -> Result<u
         (λ bytes. AreBytesAt (slice_get bytes) offset (take n out.new))) }
     ensures ended { IfOk result (λ n. n < length out.new →
         IfSome (R.bytes raw.old) (λ bytes. length bytes ≤ offset + n)) }
-    ensures failed { OnErr result (R.failures raw.old < R.failures raw.new) }
-    ensures image { IsReadFurther R.bytes R.most_failures R.failures R.reads
+    ensures failed { OnErr result ((R.failures raw.old < R.failures raw.new)
+        × MayFailIn (R.fails raw.old) offset (length out.old)) }
+    ensures image { IsReadFurther R.bytes R.fails R.most_failures R.failures R.reads
         raw.old raw.new (length out.old) }
 {
     let mut done = 0;
@@ -68,12 +70,15 @@ fn read_block<R: RawImage>(raw: &mut R, offset: u64, lacking: usize, out: &mut [
     ensures within { result.len ≤ BLOCK_BYTES }
     ensures lost { result.is_lost ≡ true → 0 < result.len }
     ensures read { IfSome (R.bytes raw.old) (λ bytes.
-        IsBlockRead bytes offset lacking (R.failures raw.old) (R.failures raw.new) out.new result) }
+        IsBlockRead bytes (R.fails raw.old) offset lacking (R.failures raw.old) (R.failures raw.new) out.new
+        result) }
     // The same of any bytes that hold what was read.
     ensures own { (bytes : List ℕ) → AreBytesAt (slice_get bytes) offset (take result.len out.new) →
         (result.len < BLOCK_BYTES → length bytes ≤ offset + result.len) →
-        IsBlockRead bytes offset lacking (R.failures raw.old) (R.failures raw.new) out.new result }
-    ensures image { IsReadFurther R.bytes R.most_failures R.failures R.reads raw.old raw.new BLOCK_BYTES }
+        IsBlockRead bytes (R.fails raw.old) offset lacking (R.failures raw.old) (R.failures raw.new) out.new
+        result }
+    ensures image { IsReadFurther R.bytes R.fails R.most_failures R.failures R.reads
+        raw.old raw.new BLOCK_BYTES }
 {
     match read_front(raw, offset, out) {
         Ok(len) => Block {
@@ -117,11 +122,12 @@ pub(crate) fn read_blocks<R: RawImage>(
     requires few_reads { R.reads raw.old < 2 ^ 62 }
     ensures marks { IfOk result (λ b. AreBlockMarks b.bytes.items b.lost.items) }
     ensures read { IfOk result (λ b. IfSome (R.bytes raw.old) (λ known.
-        AreAllRead known lacking.now (R.failures raw.new - R.failures raw.old) b.bytes.items b.lost.items)) }
+        AreAllRead known lacking.now (R.fails raw.old) (R.failures raw.new - R.failures raw.old)
+        b.bytes.items b.lost.items)) }
     // The bytes that were read could be those of the raw image.
-    ensures own { IfOk result (λ b. AreAllRead b.bytes.items lacking.now
+    ensures own { IfOk result (λ b. AreAllRead b.bytes.items lacking.now (R.fails raw.old)
         (R.failures raw.new - R.failures raw.old) b.bytes.items b.lost.items) }
-    ensures image { IsReadFurther R.bytes R.most_failures R.failures R.reads
+    ensures image { IsReadFurther R.bytes R.fails R.most_failures R.failures R.reads
         raw.old raw.new max_extent_bytes }
 {
     let mut blocks = Blocks {

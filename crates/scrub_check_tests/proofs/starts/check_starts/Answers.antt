@@ -13,4 +13,4 @@ agrees_on_starts-requires g c =
     let image = image_of c.args.disk.now in
     subst (λ (is : List Item). IsStrictlyIncreasing (map start_of is)) (sym c.as_slice.ensures)
     (starts_rise (extent_of image c.args.extent c.args.pointer) c.in_ok-items.items
-    (omega (arith, image.geometry.page_size.least)) c.in_ok-items.ensures)
+    (omega (arith, image.geometry.page_least)) c.in_ok-items.ensures)

@@ -25,7 +25,7 @@ pub returns : goal.returns
 returns g c p q =
     let before = g.D.PageSource.image c.args.before.now in
     let most : c.extents-extent-end.result ≡ before.geometry.extents = c.extents-extent-end.ensures ∙ ap (λ h. h.extents) c.geometry.ensures in
-    let some = before.geometry.extent_count.least in
+    let some = before.geometry.extents_least in
     let last : c.loop-extent.extent ≤ c.extents-extent-end.result = c.loop-extent.auto.extent-end (omega (arith, most, some)) in
     let end : c.loop-extent.extent ≡ before.geometry.extents = omega (arith, most, last, c.loop-extent-test.false) in
     all_lines before (g.E.PageSource.image c.args.after.now) c.args.resets.now (found_in c.args.found.now p.read)

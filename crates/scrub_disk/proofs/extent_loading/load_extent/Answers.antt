@@ -9,7 +9,8 @@ pub returns-clause-loaded : goal.returns-clause-loaded
 returns-clause-loaded g c =
     let old = c.in_ok-disk.disk in
     let disk = c.mark_all.new.disk in
-    loaded_alone (g.R.RawImage.bytes c.args.raw.now) (g.R.RawImage.bytes c.read_extent_of.new.raw) c.args.geometry
+    loaded_alone (g.R.RawImage.bytes c.args.raw.now) (g.R.RawImage.bytes c.read_extent_of.new.raw)
+    (g.R.RawImage.fails c.args.raw.now) c.args.geometry
     c.args.bad.now c.args.extent
     (g.R.RawImage.failures c.args.raw.now) (g.R.RawImage.failures c.read_extent_of.new.raw)
     (g.R.RawImage.failures c.has_byte_at.new.raw) (c.extent_bytes.result * c.extents.result)
@@ -19,4 +20,5 @@ returns-clause-loaded g c =
     c.if-has_byte_at.false c.read_extent_of.ensures.image.counted c.has_byte_at.ensures.image.counted
     (alone_whole disk.geometry disk.extent disk.bytes.items disk.unreadable.items disk.whole)
     (read_alone old c.args.geometry c.args.extent c.in_ok-disk.ensures.geometry c.in_ok-disk.ensures.extent)
-    c.in_ok-disk.ensures.read c.has_byte_at.ensures.not_there c.mark_all.ensures
+    c.in_ok-disk.ensures.read
+    (rw c.read_extent_of.ensures.image.same_fails at c.has_byte_at.ensures.not_there) c.mark_all.ensures

@@ -8,7 +8,8 @@ use Rattle.scrub_disk.proofs.loading.load.Goals as goal
 pub returns-clause-loaded : goal.returns-clause-loaded
 returns-clause-loaded g c =
     let disk = c.mark_all.new.disk in
-    loaded_with (g.R.RawImage.bytes c.args.raw.now) (g.R.RawImage.bytes c.read_disk.new.raw) c.args.geometry
+    loaded_with (g.R.RawImage.bytes c.args.raw.now) (g.R.RawImage.bytes c.read_disk.new.raw)
+    (g.R.RawImage.fails c.args.raw.now) c.args.geometry
     c.args.bad.now
     (g.R.RawImage.failures c.args.raw.now) (g.R.RawImage.failures c.read_disk.new.raw)
     (g.R.RawImage.failures c.has_byte_at.new.raw) (c.extent_bytes.result * c.extents.result)
@@ -18,4 +19,5 @@ returns-clause-loaded g c =
     c.if-has_byte_at.false
     c.in_ok-disk.ensures.geometry c.read_disk.ensures.image.counted c.has_byte_at.ensures.image.counted
     (held_whole disk.geometry disk.bytes.items disk.unreadable.items disk.whole)
-    c.in_ok-disk.ensures.pages c.in_ok-disk.ensures.lost c.has_byte_at.ensures.not_there c.mark_all.ensures
+    c.in_ok-disk.ensures.pages c.in_ok-disk.ensures.lost
+    (rw c.read_disk.ensures.image.same_fails at c.has_byte_at.ensures.not_there) c.mark_all.ensures

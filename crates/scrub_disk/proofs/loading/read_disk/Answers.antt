@@ -30,7 +30,7 @@ returns-clause-lost g c =
     let image : image_of c.from_parts.result ≡ held c.args.geometry c.read_pages.new.bytes c.read_pages.new.unreadable =
     loaded_image c.args.geometry c.in_ok-bytes.bytes c.in_ok-unreadable.unreadable c.read_pages.new.bytes
     c.read_pages.new.unreadable (image_of c.from_parts.result) c.from_parts.ensures bytes marks in
-    loses_loaded c.args.geometry (g.R.RawImage.bytes c.args.raw.now) c.read_pages.new.bytes c.read_pages.new.unreadable
+    loses_loaded c.args.geometry (g.R.RawImage.bytes c.args.raw.now) (g.R.RawImage.fails c.args.raw.now) c.read_pages.new.bytes c.read_pages.new.unreadable
     c.page-page.result (length c.read_pages.new.unreadable)
     (g.R.RawImage.failures c.read_pages.new.raw - g.R.RawImage.failures c.args.raw.now) (image_of c.from_parts.result)
     image c.page-page.ensures (marks ∙ mark_vector) (returns-clause-pages g c) c.read_pages.ensures.lost

@@ -62,9 +62,9 @@ divided N r m e s t pos small readers few_readers most each share stride =
 -- a disk has a page, and at most 2^26
 pages_of : (g : Geometry) → (0 < g.pages * g.extents) × (g.pages * g.extents ≤ 2 ^ 26)
 pages_of g =
-    let some_pages : 1 * g.extents ≤ g.pages * g.extents = mul-le-mul_right g.extents g.page_count.least in
-    let rows : 64 * (g.pages * g.extents) ≤ g.page * (g.pages * g.extents) = mul-le-mul_right (g.pages * g.extents) g.page_size.least in
-    (omega (arith, some_pages, g.extent_count.least), omega (arith, rows, g.total_fits))
+    let some_pages : 1 * g.extents ≤ g.pages * g.extents = mul-le-mul_right g.extents g.pages_least in
+    let rows : 64 * (g.pages * g.extents) ≤ g.page * (g.pages * g.extents) = mul-le-mul_right (g.pages * g.extents) g.page_least in
+    (omega (arith, some_pages, g.extents_least), omega (arith, rows, g.total_fits))
 
 division : (g : Geometry) (N r m e s t : ℕ) → N ≡ g.pages * g.extents → 0 < r → r < 2 ^ 32 → 0 < m → e ≡ div_ceil N r →
     s ≡ div_ceil e m → t ≡ div_ceil e s → AreDivided (g.pages * g.extents) r m e s t

@@ -18,20 +18,20 @@ returns-then-has_byte_at-clause-too_long g c e known every =
     (c.in-Ok.ensures.same_bytes known every) end c.if-has_byte_at.true c.has_byte_at.ensures.there
 
 pub returns-clause-loaded : goal.returns-clause-loaded
-returns-clause-loaded g c known every =
+returns-clause-loaded g c known every fails all_fail =
     let disk = c.mark_all.new.disk in
     let parts = c.in-Ok.read.0 in
     let most = sum_by (λ r. g.R.RawImage.most_failures r) c.args.readers.items in
     let same = c.divide-division.ensures.geometry in
-    let read = rw same at (c.in-Ok.ensures.read known every) in
+    let read = rw same at (c.in-Ok.ensures.read known every fails all_fail) in
     let all = whole_disk c.args.geometry c.divide-division.result.stride (vec_len c.args.readers * c.divide-division.result.share)
     parts.filled.items parts.marks.items (rw same at c.in-Ok.ensures.shape) (rw c.len.ensures at c.divide-division.ensures.enough) in
     let bytes = joined c.args.geometry.page parts.filled.items in
-    let holds = holds_read c.args.geometry known most bytes parts.marks.items
+    let holds = holds_read c.args.geometry known fails most bytes parts.marks.items
     (image_of c.from_blocks-disk.result) c.from_blocks-disk.ensures all.0 all.1 read in
     let bounded : g.R.RawImage.failures c.has_byte_at.new.raw ≤ most =
     omega (arith, (g.met.R.RawImage g.world.𝓛 g.world.𝓜 g.world.𝓡 ((λ s x. x), (λ x. x), (λ x. x), λ x. x)).failures_are_bounded c.has_byte_at.new.raw, c.has_byte_at.ensures.image.same_bound, c.in-Ok.ensures.within) in
-    loaded_by_readers known (g.R.RawImage.bytes c.in-Ok.read.1) c.args.geometry c.args.bad.now most
+    loaded_by_readers known (g.R.RawImage.bytes c.in-Ok.read.1) fails c.args.geometry c.args.bad.now most
     (g.R.RawImage.failures c.in-Ok.read.1) (g.R.RawImage.failures c.has_byte_at.new.raw)
     (c.extent_bytes.result * c.extents.result) c.has_byte_at.result (image_of c.from_blocks-disk.result) (image_of disk)
     (c.in-Ok.ensures.same_bytes known every)
@@ -39,6 +39,6 @@ returns-clause-loaded g c known every =
     c.if-has_byte_at.false (ap (λ i. i.geometry) c.from_blocks-disk.ensures) bounded
     (held_whole disk.geometry (joined disk.geometry.page disk.blocks.items) disk.unreadable.items disk.whole)
     holds
-    (loses_read c.args.geometry known most bytes parts.marks.items (image_of c.from_blocks-disk.result)
+    (loses_read c.args.geometry known fails most bytes parts.marks.items (image_of c.from_blocks-disk.result)
     c.from_blocks-disk.ensures all.1 holds read)
-    c.has_byte_at.ensures.not_there c.mark_all.ensures
+    (rw (c.in-Ok.ensures.same_fails fails all_fail) at c.has_byte_at.ensures.not_there) c.mark_all.ensures

@@ -18,5 +18,5 @@ returns-clause-read g c =
     let geometry = c.args.division.geometry in
     let first : c.min-first.result ≡ first_page geometry c.args.division.stride c.args.number = search rules in
     let only : c.in_ok-from_array.field-0.items ≡ c.in_ok-block.block ∷ [] = search rules in
-    one_block_read (g.R.RawImage.bytes c.args.raw.now) c.min-first.result _ geometry.page _ c.in_ok-block.block _ c.in_ok-block.marks.items
+    one_block_read (g.R.RawImage.bytes c.args.raw.now) (g.R.RawImage.fails c.args.raw.now) c.min-first.result _ geometry.page _ c.in_ok-block.block _ c.in_ok-block.marks.items
     first only c.in_ok-block.ensures.read

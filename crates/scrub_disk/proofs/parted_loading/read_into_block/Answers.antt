@@ -76,19 +76,19 @@ loop-alloc-preserved g c =
     c.read_pages.auto.bytes
     ∙ length-take-le (n * c.page-page.result) c.loop-alloc.buffer (omega (arith, fits, own, c.loop-alloc.invariant.room)) ∙ own in
     let both =
-    more_pages_read (g.R.RawImage.bytes c.args.raw.now) (g.R.RawImage.bytes c.loop-alloc.raw) c.args.first
+    more_pages_read (g.R.RawImage.bytes c.args.raw.now) (g.R.RawImage.bytes c.loop-alloc.raw) (g.R.RawImage.fails c.args.raw.now) c.args.first
     (c.args.first + c.len-in-loop-alloc-2.result) d.geometry.page (length old) n
     (g.R.RawImage.failures c.loop-alloc.raw - g.R.RawImage.failures c.args.raw.now)
     (g.R.RawImage.failures c.read_pages.new.raw - g.R.RawImage.failures c.loop-alloc.raw)
     (g.R.RawImage.failures c.read_pages.new.raw - g.R.RawImage.failures c.args.raw.now)
     c.loop-alloc.block c.add_pages.new.self c.read_pages.new.bytes old c.read_pages.new.unreadable c.deref.result.now
     c.extend_from_slice.new.self.items
-    (omega (arith, d.geometry.page_size.least)) c.loop-alloc.invariant.image.same_bytes
+    (omega (arith, d.geometry.page_least)) c.loop-alloc.invariant.image.same_bytes
     (let done : c.len-in-loop-alloc-2.result ≡ length old = search rules in omega (arith, done))
     (omega (arith, c.loop-alloc.invariant.image.counted, c.read_pages.ensures.image.counted))
     c.loop-alloc.invariant.size (let e : length old ≡ length old = omega arith in e) bytes (kept ∙ made) marked every
     (rw page at c.in_ok-stored.ensures.added) c.loop-alloc.invariant.read
-    (rw page at c.read_pages.ensures.read) (rw page at c.read_pages.ensures.lost) in
+    (rw page at c.read_pages.ensures.read) (rw (page, c.loop-alloc.invariant.image.same_fails) at c.read_pages.ensures.lost) in
     record {
       image = read_on_more c.loop-alloc.invariant.image c.read_pages.ensures.image;
       reads = rw total

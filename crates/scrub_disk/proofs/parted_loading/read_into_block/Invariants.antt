@@ -7,7 +7,7 @@ use Rattle.scrub_disk.proofs.parted_loading.read_into_block.Given as goal
 
 abbrev pub invariant-loop-alloc : goal.invariant-loop-alloc
 invariant-loop-alloc g l = record {
-  image : IsReadOn (λ r. g.R.RawImage.bytes r) (λ r. g.R.RawImage.most_failures r) (λ r. g.R.RawImage.failures r) l.initial.raw l.raw;
+  image : IsReadOn g.R.RawImage.bytes g.R.RawImage.fails g.R.RawImage.most_failures g.R.RawImage.failures l.initial.raw l.raw;
   reads : g.R.RawImage.reads l.raw ≤ g.R.RawImage.reads l.initial.raw + (l.division.geometry.page + 1) * length l.marks.items;
   room : length l.buffer ≡ l.division.geometry.page * l.division.at_once;
   within : length l.marks.items ≤ l.count;
@@ -15,7 +15,7 @@ invariant-loop-alloc g l = record {
   stored : length l.block.bytes.items ≡ l.stored * l.division.geometry.page;
   few : l.stored ≤ length l.marks.items;
   size : length (block_text l.division.geometry.page l.block) ≡ length l.marks.items * l.division.geometry.page;
-  read : IsReadFrom (g.R.RawImage.bytes l.initial.raw) l.first l.division.geometry.page (g.R.RawImage.failures l.raw - g.R.RawImage.failures l.initial.raw) (block_text l.division.geometry.page l.block) l.marks.items;
+  read : IsReadFrom (g.R.RawImage.bytes l.initial.raw) (g.R.RawImage.fails l.initial.raw) l.first l.division.geometry.page (g.R.RawImage.failures l.raw - g.R.RawImage.failures l.initial.raw) (block_text l.division.geometry.page l.block) l.marks.items;
 }
 
 abbrev pub decreases-loop-alloc : goal.decreases-loop-alloc

@@ -57,9 +57,9 @@ loop-number-preserved g c =
           (g.R.RawImage.failures c.loop-number.raw - g.R.RawImage.failures c.args.raw.now)
           (g.R.RawImage.failures c.read_block.new.raw - g.R.RawImage.failures c.loop-number.raw)
           (g.R.RawImage.failures c.read_block.new.raw - g.R.RawImage.failures c.args.raw.now)
-          (g.R.RawImage.bytes c.args.raw.now) part.filled.items more.filled.items
+          (g.R.RawImage.bytes c.args.raw.now) (g.R.RawImage.fails c.args.raw.now) part.filled.items more.filled.items
           all.filled.items part.marks.items more.marks.items all.marks.items next refl refl
           (omega (arith, c.loop-number.invariant.image.counted, c.read_block.ensures.image.counted))
           c.loop-number.invariant.shape c.in_ok-read_block.ensures.shape blocks marks
-          c.loop-number.invariant.read (rw c.loop-number.invariant.image.same_bytes at c.in_ok-read_block.ensures.read);
+          c.loop-number.invariant.read (rw (c.loop-number.invariant.image.same_bytes, c.loop-number.invariant.image.same_fails) at c.in_ok-read_block.ensures.read);
     }

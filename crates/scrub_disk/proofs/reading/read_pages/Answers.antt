@@ -12,12 +12,14 @@ loop-number-preserved g c =
       reads = omega arith;
       within = c.read_next-is_whole.ensures.within;
       lost =
-          marks_more_ahead (g.R.RawImage.bytes c.args.raw.now) (g.R.RawImage.bytes c.loop-number.raw) c.args.first
+          marks_more_ahead (g.R.RawImage.bytes c.args.raw.now) (g.R.RawImage.bytes c.loop-number.raw)
+          (g.R.RawImage.fails c.args.raw.now) c.args.first
           c.args.page c.loop-number.number
           (g.R.RawImage.failures c.args.raw.now) (g.R.RawImage.failures c.loop-number.raw)
           (g.R.RawImage.failures c.read_next-is_whole.new.raw) c.loop-number.unreadable c.read_next-is_whole.result.0
           c.loop-number.invariant.image.same_bytes c.loop-number.invariant.image.counted c.read_next-is_whole.ensures.image.counted
-          below c.loop-number.invariant.lost c.read_next-is_whole.ensures.lost;
+          below c.loop-number.invariant.lost
+          (rw c.loop-number.invariant.image.same_fails at c.read_next-is_whole.ensures.lost);
       held =
           held_more_ahead (g.R.RawImage.bytes c.args.raw.now) (g.R.RawImage.bytes c.loop-number.raw)
           (c.args.first * c.args.page) c.args.page c.loop-number.number c.loop-number.unreadable c.loop-number.bytes

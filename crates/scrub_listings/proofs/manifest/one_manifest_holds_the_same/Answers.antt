@@ -20,5 +20,5 @@ returns-clause-whole c resets others image other text a b x y u v =
 
 pub returns-clause-shards : goal.returns-clause-shards
 returns-clause-shards c resets others image other text x y bytes other_bytes =
-    same_shards image other x.found y.found x.scrubbed y.scrubbed bytes other_bytes
+    same_shards resets others image other x.found y.found x.scrubbed y.scrubbed bytes other_bytes
     (same_content resets others image other x.found y.found x.scrubbed y.scrubbed (sym x.text_is ∙ y.text_is)).shards

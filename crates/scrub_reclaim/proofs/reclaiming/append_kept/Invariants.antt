@@ -3,8 +3,7 @@ use Rattle.std.proofs.Common.{◌≡◌, ◌++◌, List, take}
 use Rattle.std.specs.Prelude.{string_bytes}
 use Rattle.std.specs.List.{flat_map}
 use Rattle.scrub_check.specs.declared.statuses.checked.Checked.{Checked}
-use Rattle.scrub_reclaim.specs.steps.Moves.{PointAlike}
-use Rattle.scrub_reclaim.specs.Reclaimable.{kept_lines}
+use Rattle.scrub_reclaim.specs.steps.Moves.{PointAlike, kept_lines}
 use Rattle.scrub_reclaim.proofs.reclaiming.append_kept.Given as goal
 
 abbrev pub invariant-loop-chunk : goal.invariant-loop-chunk

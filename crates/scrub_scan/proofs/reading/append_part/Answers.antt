@@ -8,7 +8,7 @@ use Rattle.scrub_scan.proofs.reading.append_part.Goals as goal
 pub returns-clause-part : goal.returns-clause-part
 returns-clause-part g c =
     let image = g.D.PageSource.image c.args.disk.now in
-    let pos : 0 < length c.args.buffer.now = omega (arith, c.requires.one_page, image.geometry.page_size.least) in
+    let pos : 0 < length c.args.buffer.now = omega (arith, c.requires.one_page, image.geometry.page_least) in
     let offset : c.args.place % length c.args.buffer.now < length c.args.buffer.now = mod-lt c.args.place pos in
     let l : length c.read_page.new.out ≡ length c.args.buffer.now = c.read_page.auto.out in (
       omega (arith, c.min-last.ensures, offset),

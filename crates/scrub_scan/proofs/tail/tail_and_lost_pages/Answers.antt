@@ -78,7 +78,7 @@ returns-clause-each g c =
       pages,
       pages_before image c.args.target.now c.requires.target,
     ) in
-    all_read c.loop-page.pages image.geometry.pages (omega (arith, image.geometry.page_count.most))
+    all_read c.loop-page.pages image.geometry.pages (omega (arith, image.geometry.pages_most))
     (rw last at c.loop-page.invariant.read)
 
 pub returns-clause-bad_pages : goal.returns-clause-bad_pages

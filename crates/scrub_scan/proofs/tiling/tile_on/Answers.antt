@@ -14,7 +14,7 @@ use Rattle.scrub_scan.proofs.tiling.tile_on.Goals as goal
 pub loop-place-init : goal.loop-place-init
 loop-place-init g c =
     let image = g.D.PageSource.image c.args.disk.now in
-    let positive : 0 < image.geometry.page = omega (arith, image.geometry.page_size.least) in
+    let positive : 0 < image.geometry.page = omega (arith, image.geometry.page_least) in
     let settled = c.requires.settled in
     record {
       scans = c.requires.scans;
@@ -32,7 +32,7 @@ make_room-requires-clause-within g c κs within =
 pub returns-then-right-place-clause-collected : goal.returns-then-right-place-clause-collected
 returns-then-right-place-clause-collected g c =
     let image = g.D.PageSource.image c.args.disk.now in
-    let positive : 0 < image.geometry.page = omega (arith, image.geometry.page_size.least) in
+    let positive : 0 < image.geometry.page = omega (arith, image.geometry.page_least) in
     let x = target_of image c.args.target.now in
     settled_collected x c.in_ok-right.right c.make_room.new.payloads c.make_room.new.self positive
     (c.in_ok-right.ensures.settled x c.loop-place.invariant.collected c.if-right-place.true)
@@ -96,7 +96,7 @@ loop-place-preserved g c =
     let old = c.trust.new.self in
     let later = c.add.new.self.pending.items in
     let r = c.in_ok-reached.reached in
-    let positive : 0 < image.geometry.page = omega (arith, image.geometry.page_size.least) in
+    let positive : 0 < image.geometry.page = omega (arith, image.geometry.page_least) in
     let right = c.in_ok-right.ensures.right x inv.collected in
     let same : c.in_ok-right.right ≡ place = omega (arith, right.0, c.if-right-place.false) in
     let held = c.trust.ensures.collected x c.make_room.new.payloads (c.in_ok-right.ensures.collected x positive inv.collected same) in

@@ -6,7 +6,7 @@ use Rattle.scrub_super.proofs.extent_zero.choose_with_pages.Goals as goal
 
 pub seen_in-seen-requires : goal.seen_in-seen-requires
 seen_in-seen-requires g c =
-    omega (arith, c.deref-3.ensures.len, c.in_ok-found.ensures.count, c.geometry-geometry.result.page_count.most)
+    omega (arith, c.deref-3.ensures.len, c.in_ok-found.ensures.count, c.geometry-geometry.result.pages_most)
 
 pub pages_of-requires-clause-count : goal.pages_of-requires-clause-count
 pages_of-requires-clause-count g c = ap length c.deref-6.ensures.value ∙ c.in_ok-found.ensures.count

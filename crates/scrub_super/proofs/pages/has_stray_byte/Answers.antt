@@ -1,5 +1,5 @@
 -- The bytes past the reach are zero or aren't.
-use Rattle.std.proofs.Common.{rules, ◌≡◌, ◌-◌, arith, drop, length, length-drop, min, sym}
+use Rattle.std.proofs.Common.{rules, ◌≡◌, ◌-◌, arith, drop, length, length-drop, min}
 use Rattle.std.proofs.lemmas.List.{take_all}
 use Rattle.scrub_super.proofs.PageSteps.{stray_by}
 use Rattle.scrub_super.proofs.pages.has_stray_byte.Goals as goal

@@ -3,7 +3,7 @@ use Rattle.std.proofs.Common.{◌∙◌, ap, arith, map}
 use Rattle.std.specs.List.{enumerate_from}
 use Rattle.std.proofs.lemmas.List.{take_all}
 use Rattle.std.proofs.lemmas.List.FromFn.{length-enumerate_from}
-use Rattle.scrub_super.specs.Plan.{pointer_reset}
+use Rattle.scrub_super.specs.Reset.{pointer_reset}
 use Rattle.scrub_super.proofs.Resets.{reset_more}
 use Rattle.scrub_super.proofs.plan.pointers_reset.Goals as goal
 

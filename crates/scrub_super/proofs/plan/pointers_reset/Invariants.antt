@@ -1,6 +1,6 @@
 use Rattle.std.proofs.Common.{◌≡◌, map, take}
 use Rattle.std.specs.List.{enumerate_from}
-use Rattle.scrub_super.specs.Plan.{pointer_reset}
+use Rattle.scrub_super.specs.Reset.{pointer_reset}
 use Rattle.scrub_super.proofs.plan.pointers_reset.Given as goal
 
 -- those of the first extents

@@ -14,7 +14,7 @@ overflow_add-body_len c =
       c.body_len.ensures,
       small_head c.args.geometry c.args.superblock.now c.head_of.ensures c.requires.retired,
       few_runs c.args.superblock.now c.head_of.ensures c.requires.runs,
-      c.args.geometry.extent_count.most,
+      c.args.geometry.extents_most,
       head_sizes c.head_of.result.retired,
     )
 
@@ -47,7 +47,9 @@ returns-clause-read_again c = λ rest.
     record_again c.args.geometry c.args.superblock.now c.args.out.now.items _ rest _ (omega arith) (returns-clause-ok c)
     (record {
       generation = c.append_body.ensures.generation;
-      pointers = c.requires.pointers;
+      pointer_count = c.requires.pointers.count;
+      pointers_within = c.requires.pointers.within;
       retired = c.requires.retired;
-      runs = record { count = c.requires.runs; each = c.append_body.ensures.fit };
+      run_count = c.requires.runs;
+      each_run = c.append_body.ensures.fit;
     })

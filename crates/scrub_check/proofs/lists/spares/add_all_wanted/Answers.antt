@@ -1,6 +1,5 @@
 -- One more item.
-use Rattle.scrub_check.specs.Chunks.{frame_of_item}
-use Rattle.scrub_check.specs.Spares.{is_wanted}
+use Rattle.scrub_check.specs.Spares.{frame_of_item, is_wanted}
 use Rattle.scrub_check.proofs.SpareCopies.{item_more}
 use Rattle.scrub_check.proofs.lists.spares.add_all_wanted.Goals as goal
 

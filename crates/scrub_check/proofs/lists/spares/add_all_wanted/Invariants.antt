@@ -1,7 +1,6 @@
 use Rattle.std.proofs.Common.{◌≡◌, ◌++◌, take}
 use Rattle.std.specs.List.{filter, filter_map}
-use Rattle.scrub_check.specs.Chunks.{frame_of_item}
-use Rattle.scrub_check.specs.Spares.{is_wanted}
+use Rattle.scrub_check.specs.Spares.{frame_of_item, is_wanted}
 use Rattle.scrub_check.proofs.lists.spares.add_all_wanted.Given as goal
 
 -- the wanted chunks of the items so far

@@ -33,7 +33,7 @@ status_by_item-requires g c =
     let found = findings_facts image c.args.scan.now.plan.now c.args.scan.now.all.now.extents c.args.locator.now.extent c.pointer-pointer.result c.findings_of-findings.result.now
     c.args.scan.now.whole.findings c.findings_of-findings.ensures c.pointer-pointer.ensures.value in
     rw c.items.ensures
-    (starts_rise (extent_of image c.args.locator.now.extent c.pointer-pointer.result) c.findings_of-findings.result.now.items (omega (arith, image.geometry.page_size.least)) found.tiled)
+    (starts_rise (extent_of image c.args.locator.now.extent c.pointer-pointer.result) c.findings_of-findings.result.now.items (omega (arith, image.geometry.page_least)) found.tiled)
 
 -- so they decide its status, or its place has to be read
 pub returns : goal.returns

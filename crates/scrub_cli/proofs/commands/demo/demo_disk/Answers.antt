@@ -8,9 +8,13 @@ use Rattle.scrub_cli.proofs.commands.demo.demo_disk.Goals as goal
 pub invariant_of-geometry : goal.invariant_of-geometry
 unfolding lib.Count.ones
 invariant_of-geometry c = record {
-  page_size = record { least = lit≤ tt; most = lit≤ tt; power = refl };
-  page_count = record { least = lit≤ tt; most = lit≤ tt };
-  extent_count = record { least = lit≤ tt; most = lit≤ tt };
+  page_least = lit≤ tt;
+  page_most = lit≤ tt;
+  page_power = refl;
+  pages_least = lit≤ tt;
+  pages_most = lit≤ tt;
+  extents_least = lit≤ tt;
+  extents_most = lit≤ tt;
   extent_fits = lit≤ tt;
   total_fits = lit≤ tt;
 }

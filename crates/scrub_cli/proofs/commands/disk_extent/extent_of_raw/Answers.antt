@@ -10,7 +10,7 @@ returns-clause-loaded g c =
     let bound = g.met.R.RawImage.failures_are_bounded c.load_extent.new.raw in
     let same = c.load_extent.ensures.same_bound in
     IfOk-weaker c.load_extent.result _ _
-    (λ disk loaded. loaded_extent_more (g.R.RawImage.bytes c.args.raw.now)
+    (λ disk loaded. loaded_extent_more (g.R.RawImage.bytes c.args.raw.now) (g.R.RawImage.fails c.args.raw.now)
     (g.R.RawImage.failures c.load_extent.new.raw - g.R.RawImage.failures c.args.raw.now) (g.R.RawImage.most_failures c.args.raw.now)
     c.args.geometry c.args.pages.now c.args.extent (image_of disk) (omega (arith, bound, same)) loaded)
     c.load_extent.ensures.loaded

@@ -23,6 +23,6 @@ returns-in_err-disk g c =
 
 pub returns : goal.returns
 returns g c blocks keeps =
-    extent_loaded_by (g.I.Images.known c.args.images.now c.args.name.now) _ _ c.args.geometry c.args.losses.now.pages.items blocks
-    c.args.extent (image_of c.in_ok-disk.disk) _ c.in-Some.ensures.known c.in-Some.ensures.bounded
+    extent_loaded_by (g.I.Images.known c.args.images.now c.args.name.now) _ _ _ c.args.geometry c.args.losses.now.pages.items blocks
+    c.args.extent (image_of c.in_ok-disk.disk) _ c.in-Some.ensures.known c.in-Some.ensures.faults c.in-Some.ensures.bounded
     (rw c.deref.ensures.value at c.in_ok-disk.ensures.loaded) (c.in_ok-apply_map.ensures blocks keeps)

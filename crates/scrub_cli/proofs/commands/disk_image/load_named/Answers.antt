@@ -27,10 +27,11 @@ returns-clause-disk g c blocks keeps =
     let image = image_of c.in_ok-disk.disk in
     let known = g.I.Images.known c.args.images.now c.args.name.now in
     let all = rw c.in-Some.is at c.in_ok-readers.ensures.known in
+    let faults = rw c.in-Some.is at c.in_ok-readers.ensures.faults in
     let few = rw c.in-Some.is at c.in_ok-readers.ensures.bounded in
-    let loaded = rw c.deref.ensures.value at (c.in_ok-disk.ensures.loaded known.bytes all) in
+    let loaded = rw c.deref.ensures.value at (c.in_ok-disk.ensures.loaded known.bytes all known.fails faults) in
     record {
       before = image;
-      loaded = loaded_as_known known known.bytes c.args.geometry pages image _ known.most_failures refl refl few loaded;
+      loaded = loaded_as_known known known.bytes known.fails c.args.geometry pages image _ known.most_failures refl refl refl few loaded;
       rescued = c.in_ok-apply_map.ensures blocks keeps;
     }

@@ -6,8 +6,8 @@ use Rattle.scrub_cli.proofs.commands.disk_image.named_page.Goals as goal
 -- no pair, and so no page
 pub returns-in_err-extent : goal.returns-in_err-extent
 returns-in_err-extent c =
-    let extents = c.args.geometry.extent_count.most in
-    let pages = c.args.geometry.page_count.most in
+    let extents = c.args.geometry.extents_most in
+    let pages = c.args.geometry.pages_most in
     rw c.from_residual.ensures (λ at named.
     let in_extents = named.in_extents in
     let in_pages = named.in_pages in

@@ -30,7 +30,8 @@ returns-clause-geometry g c =
           subst
           (λ lacking. AreSizesRead known lacking None)
           c.deref.ensures.value
-          (read_as_known known _ _ _ _ (c.in-Some.ensures.known ∙ ap (λ k. k.bytes) same)
+          (read_as_known known _ _ _ _ _ (c.in-Some.ensures.known ∙ ap (λ k. k.bytes) same)
+          (c.in-Some.ensures.faults ∙ ap (λ k. k.fails) same)
           (c.in-Some.ensures.bounded ∙ ap (λ k. k.most_failures) same)
           (rw c.in-None.is at c.in_ok-geometry.ensures));
     }

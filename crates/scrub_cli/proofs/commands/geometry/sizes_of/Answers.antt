@@ -7,6 +7,6 @@ pub returns : goal.returns
 returns g c =
     let bound = g.met.R.RawImage.failures_are_bounded c.find_sizes.new.raw in
     let same = c.find_sizes.ensures.same_bound in
-    sizes_read (g.R.RawImage.bytes c.args.raw.now) (g.R.RawImage.most_failures c.args.raw.now) c.args.lacking.now
+    sizes_read (g.R.RawImage.bytes c.args.raw.now) (g.R.RawImage.fails c.args.raw.now) (g.R.RawImage.most_failures c.args.raw.now) c.args.lacking.now
     (g.R.RawImage.failures c.find_sizes.new.raw - g.R.RawImage.failures c.args.raw.now) c.find_sizes.result
     (omega (arith, bound, same)) c.find_sizes.ensures.sizes

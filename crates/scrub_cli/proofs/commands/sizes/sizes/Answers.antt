@@ -30,7 +30,8 @@ returns g c =
           subst
           (λ lacking. AreSizesListed known lacking c.in_ok-sizes_listing.field-0.text.items c.in_ok-sizes_listing.field-0.outcome)
           c.deref.ensures.value
-          (listed_as_known known _ _ _ _ _ (c.in-Some.ensures.known ∙ ap (λ k. k.bytes) same)
+          (listed_as_known known _ _ _ _ _ _ (c.in-Some.ensures.known ∙ ap (λ k. k.bytes) same)
+          (c.in-Some.ensures.faults ∙ ap (λ k. k.fails) same)
           (c.in-Some.ensures.bounded ∙ ap (λ k. k.most_failures) same)
           c.in_ok-sizes_listing.ensures);
     }

@@ -18,7 +18,7 @@ returns-in_default-clause-reads g c =
             arith,
             c.load_near.ensures.asked n h,
             c.claimed_head.ensures.reads.asked,
-            (g.D.PageSource.image c.args.disk.now).geometry.page_count.least,
+            (g.D.PageSource.image c.args.disk.now).geometry.pages_least,
           );
       read = λ h. c.claimed_head.ensures.reads.read q (c.load_near.ensures.read q h);
     }

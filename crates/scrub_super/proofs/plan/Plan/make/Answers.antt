@@ -1,7 +1,7 @@
 -- What holds of the lists of a plan, with a superblock and without one.
 use Rattle.std.proofs.Common.{◌-◌, arith, refl, []}
 use Rattle.scrub_super.specs.Record.{AreContents}
-use Rattle.scrub_super.proofs.Listed.{listed_extents}
+use Rattle.scrub_super.proofs.Listed.{listed_extents, pointers_in, runs_in}
 use Rattle.scrub_super.proofs.Plans.{in_use_planned, all_in_use, full_pointers, no_runs, none_retired, chosen_fits}
 use Rattle.scrub_super.proofs.plan.Plan.make.Goals as goal
 
@@ -25,8 +25,8 @@ invariant_of-result c =
             c.retired.ensures,
           )
           (all_in_use c.args.geometry.extents _);
-      within = rw (c.in_ok-from_slice-in-Some-2.ensures.items, c.pointers.ensures) fits.pointers;
-      located = rw (c.in_ok-from_slice-in-Some-3.ensures.items, c.runs.ensures) fits.runs;
+      within = rw (c.in_ok-from_slice-in-Some-2.ensures.items, c.pointers.ensures) (pointers_in fits);
+      located = rw (c.in_ok-from_slice-in-Some-3.ensures.items, c.runs.ensures) (runs_in fits);
     }
 
 pub invariant_of-result-in-None : goal.invariant_of-result-in-None
@@ -43,6 +43,6 @@ invariant_of-result-in-None c = record {
         c.extent_bytes.ensures,
         c.extents-in-None-2.ensures,
       )
-      (full_pointers c.args.geometry (c.args.geometry.extents - 1) _ (omega (arith, c.args.geometry.extent_count.least)) refl);
+      (full_pointers c.args.geometry (c.args.geometry.extents - 1) _ (omega (arith, c.args.geometry.extents_least)) refl);
   located = no_runs c.new-in-None.ensures.items;
 }

@@ -1,6 +1,6 @@
 -- All but the write pointers is copied.
 use Rattle.std.proofs.Common.{◌∙◌, ap}
-use Rattle.scrub_super.specs.Plan.{pointers_reset}
+use Rattle.scrub_super.specs.Reset.{pointers_reset}
 use Rattle.scrub_super.proofs.Resets.{reset_within}
 use Rattle.scrub_super.proofs.plan.Plan.with_resets.Goals as goal
 

@@ -6,14 +6,14 @@ use Rattle.scrub_super.proofs.unknown_sizes.blocks.read_block.Goals as goal
 
 pub returns-in-Ok-clause-read : goal.returns-in-Ok-clause-read
 returns-in-Ok-clause-read g c =
-    block_read (g.R.RawImage.bytes c.args.raw.now) c.args.offset c.args.lacking (g.R.RawImage.failures c.args.raw.now)
+    block_read (g.R.RawImage.fails c.args.raw.now) (g.R.RawImage.bytes c.args.raw.now) c.args.offset c.args.lacking (g.R.RawImage.failures c.args.raw.now)
     (g.R.RawImage.failures c.read_front.new.raw) c.in-Ok.len
     _ c.read_front.new.out c.in-Ok.ensures.within (omega arith) c.in-Ok.ensures.read c.in-Ok.ensures.ended
     (λ lost. ltb-true c.args.lacking c.in-Ok.len lost) (λ there. lt-ltb c.args.lacking c.in-Ok.len there)
 
 pub returns-in-Ok-clause-own : goal.returns-in-Ok-clause-own
 returns-in-Ok-clause-own g c = λ bytes stands ends.
-    block_read (Some bytes) c.args.offset c.args.lacking (g.R.RawImage.failures c.args.raw.now)
+    block_read (g.R.RawImage.fails c.args.raw.now) (Some bytes) c.args.offset c.args.lacking (g.R.RawImage.failures c.args.raw.now)
     (g.R.RawImage.failures c.read_front.new.raw) c.in-Ok.len
     _ c.read_front.new.out c.in-Ok.ensures.within (omega arith) stands (λ short. ends (omega (arith, short)))
     (λ lost. ltb-true c.args.lacking c.in-Ok.len lost) (λ there. lt-ltb c.args.lacking c.in-Ok.len there)

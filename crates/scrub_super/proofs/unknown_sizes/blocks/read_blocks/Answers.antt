@@ -11,7 +11,7 @@ loop-number-preserved g c =
     let adds : AddsBlock c.loop-number.blocks.bytes.items c.loop-number.blocks.lost.items c.read_block-block.new.out c.read_block-block.result.len c.read_block-block.result.is_lost c.add_block.new.blocks.bytes.items c.add_block.new.blocks.lost.items =
     record { bytes = c.in_ok-add_block.ensures.bytes; marks = c.in_ok-add_block.ensures.lost; few = few; full = full } in
     record {
-      image = record { same_bytes = cc; same_bound = cc; failed = omega arith; few = omega arith };
+      image = record { same_bytes = cc; same_fails = cc; same_bound = cc; failed = omega arith; few = omega arith };
       size =
           omega (
             arith,
@@ -25,14 +25,15 @@ loop-number-preserved g c =
           begins_next adds (omega (arith, c.loop-number.invariant.size, c.loop-number.invariant.marks))
           c.read_block-block.ensures.lost c.loop-number.invariant.begins;
       read =
-          blocks_next adds _ _ _ _ c.loop-number.invariant.image.same_bytes c.loop-number.invariant.marks c.first_lacking.ensures
+          blocks_next adds _ _ _ _ _ c.loop-number.invariant.image.same_bytes c.loop-number.invariant.marks c.first_lacking.ensures
           c.loop-number.invariant.size refl c.loop-number.invariant.image.failed c.read_block-block.ensures.image.failed
-          c.loop-number.invariant.read c.read_block-block.ensures.read;
+          c.loop-number.invariant.read
+          (rw c.loop-number.invariant.image.same_fails at c.read_block-block.ensures.read);
       own = λ known begins.
-          blocks_next adds {raw = Some known} {was = Some known} _ _ _ _ refl c.loop-number.invariant.marks c.first_lacking.ensures
+          blocks_next adds {raw = Some known} {was = Some known} _ _ _ _ _ refl c.loop-number.invariant.marks c.first_lacking.ensures
           c.loop-number.invariant.size refl c.loop-number.invariant.image.failed c.read_block-block.ensures.image.failed
           (c.loop-number.invariant.own known (begins_so_far adds known begins))
-          (c.read_block-block.ensures.own known
+          ((rw c.loop-number.invariant.image.same_fails at c.read_block-block.ensures.own) known
           (block_stands adds known _ (omega (arith, c.loop-number.invariant.size)) begins)
           (λ short. absurd (omega (arith, short, c.if-block-lt-BLOCK_BYTES.false))));
     }
@@ -42,15 +43,16 @@ returns-clause-read g c =
     elim c.loop-number-test.branch [
       | else-loop-number-test w ↦
           rw (w.raw-is, w.blocks-is)
-          (all_read_full (g.R.RawImage.bytes c.args.raw.now) c.args.lacking.now c.loop-number.blocks.lost.items c.loop-number.blocks.bytes.items _ (omega (arith, c.loop-number.invariant.size, w.loop-number-test.false, c.loop-number.auto.number-end)) c.loop-number.invariant.read)
+          (all_read_full (g.R.RawImage.fails c.args.raw.now) (g.R.RawImage.bytes c.args.raw.now) c.args.lacking.now c.loop-number.blocks.lost.items c.loop-number.blocks.bytes.items _ (omega (arith, c.loop-number.invariant.size, w.loop-number-test.false, c.loop-number.auto.number-end)) c.loop-number.invariant.read)
       | then-loop-number-test+in_ok-add_block+then-block-lt-BLOCK_BYTES w ↦
           let full : length w.read_block-block.new.out ≡ 512 = search rules in
           let adds : AddsBlock c.loop-number.blocks.bytes.items c.loop-number.blocks.lost.items w.read_block-block.new.out w.read_block-block.result.len w.read_block-block.result.is_lost w.add_block.new.blocks.bytes.items w.add_block.new.blocks.lost.items =
           record { bytes = w.in_ok-add_block.ensures.bytes; marks = w.in_ok-add_block.ensures.lost; few = w.read_block-block.ensures.within; full = full } in
           rw (w.raw-is, w.blocks-is)
-          (blocks_end adds _ _ _ _ c.loop-number.invariant.image.same_bytes c.loop-number.invariant.marks w.first_lacking.ensures
+          (blocks_end adds _ _ _ _ _ c.loop-number.invariant.image.same_bytes c.loop-number.invariant.marks w.first_lacking.ensures
           c.loop-number.invariant.size refl c.loop-number.invariant.image.failed w.read_block-block.ensures.image.failed
-          c.loop-number.invariant.read w.read_block-block.ensures.read w.if-block-lt-BLOCK_BYTES.true)
+          c.loop-number.invariant.read
+          (rw c.loop-number.invariant.image.same_fails at w.read_block-block.ensures.read) w.if-block-lt-BLOCK_BYTES.true)
     ]
 
 pub returns-clause-own : goal.returns-clause-own
@@ -59,17 +61,17 @@ returns-clause-own g c =
       | else-loop-number-test w ↦
           let bytes = c.loop-number.blocks.bytes.items in
           rw (w.raw-is, w.blocks-is)
-          (all_read_full (Some bytes) c.args.lacking.now c.loop-number.blocks.lost.items bytes _ (omega (arith, c.loop-number.invariant.size, w.loop-number-test.false, c.loop-number.auto.number-end)) (c.loop-number.invariant.own bytes (begins_itself bytes)))
+          (all_read_full (g.R.RawImage.fails c.args.raw.now) (Some bytes) c.args.lacking.now c.loop-number.blocks.lost.items bytes _ (omega (arith, c.loop-number.invariant.size, w.loop-number-test.false, c.loop-number.auto.number-end)) (c.loop-number.invariant.own bytes (begins_itself bytes)))
       | then-loop-number-test+in_ok-add_block+then-block-lt-BLOCK_BYTES w ↦
           let full : length w.read_block-block.new.out ≡ 512 = search rules in
           let adds : AddsBlock c.loop-number.blocks.bytes.items c.loop-number.blocks.lost.items w.read_block-block.new.out w.read_block-block.result.len w.read_block-block.result.is_lost w.add_block.new.blocks.bytes.items w.add_block.new.blocks.lost.items =
           record { bytes = w.in_ok-add_block.ensures.bytes; marks = w.in_ok-add_block.ensures.lost; few = w.read_block-block.ensures.within; full = full } in
           let bytes = w.add_block.new.blocks.bytes.items in
           rw (w.raw-is, w.blocks-is)
-          (blocks_end adds {raw = Some bytes} {was = Some bytes} _ _ _ _ refl c.loop-number.invariant.marks w.first_lacking.ensures
+          (blocks_end adds {raw = Some bytes} {was = Some bytes} _ _ _ _ _ refl c.loop-number.invariant.marks w.first_lacking.ensures
           c.loop-number.invariant.size refl c.loop-number.invariant.image.failed w.read_block-block.ensures.image.failed
           (c.loop-number.invariant.own bytes (begins_so_far adds bytes (begins_itself bytes)))
-          (w.read_block-block.ensures.own bytes
+          ((rw c.loop-number.invariant.image.same_fails at w.read_block-block.ensures.own) bytes
           (block_stands adds bytes _ (omega (arith, c.loop-number.invariant.size)) (begins_itself bytes))
           (λ short. omega (arith, length-next adds, c.loop-number.invariant.size)))
           w.if-block-lt-BLOCK_BYTES.true)

@@ -14,6 +14,7 @@ loop-done-preserved g c =
     (omega arith) piece in
     record {
       same_bytes = cc;
+      same_fails = cc;
       same_bound = cc;
       failures = search rules;
       reads = omega arith;

@@ -6,6 +6,7 @@ use Rattle.scrub_super.proofs.unknown_sizes.blocks.read_front.Given as goal
 abbrev pub invariant-loop-done : goal.invariant-loop-done
 invariant-loop-done g l = record {
   same_bytes : g.R.RawImage.bytes l.raw ≡ g.R.RawImage.bytes l.initial.raw;
+  same_fails : g.R.RawImage.fails l.raw ≡ g.R.RawImage.fails l.initial.raw;
   same_bound : g.R.RawImage.most_failures l.raw ≡ g.R.RawImage.most_failures l.initial.raw;
   failures : g.R.RawImage.failures l.raw ≡ g.R.RawImage.failures l.initial.raw;
   reads : g.R.RawImage.reads l.raw ≤ g.R.RawImage.reads l.initial.raw + l.done;
