@@ -2,7 +2,7 @@
 """Makes the lists of docs/DEFINITIONS.md: each public definition, with the comment above it as its sentence.
 
 The page keeps its head, which is written by hand, up to a line that says where the lists begin. Files come in the order of each crate's
-Lib.antt, and then of its steps.antt. Each definition needs a comment of one sentence directly above it.
+Lib.antt, and then of its steps.antt. Each definition needs a comment of one sentence, or two, directly above it.
 """
 import re
 import sys
@@ -39,8 +39,9 @@ def sections_of(crate, faults):
     return [(comment, specs) for comment, specs in sections if specs]
 
 
-def one_sentence(comment):
-    return comment != "" and not re.search(r"[.!?] +[A-Z`]", comment)
+def is_short(comment):
+    """Whether it has one sentence, or two."""
+    return comment != "" and len(re.findall(r"[.!?] +[A-Z`]", comment)) < 2
 
 
 def block_of(spec, faults):
@@ -49,8 +50,8 @@ def block_of(spec, faults):
         faults.append(f"crates/{short(spec.path)} doesn't begin with a comment")
     out = [f"### [`{spec.path.stem}`](../crates/{short(spec.path)})", "", spec.sentence, ""]
     for name, (comment, is_public) in spec.comments().items():
-        if not one_sentence(comment):
-            faults.append(f"crates/{short(spec.path)}: {name} has no comment of one sentence above it")
+        if not is_short(comment):
+            faults.append(f"crates/{short(spec.path)}: {name} has no comment of one sentence or two above it")
         if is_public:
             out.append(f"- `{name}`: {comment.removesuffix('.')}")
     return out + [""]
