@@ -9,9 +9,8 @@ use Rattle.clap.specs.Walk.{arg_by_id, finished, nothing_held, row_text, settled
 use Rattle.clap.specs.Faults.{check_fault, defaults_fault, settle_fault, walk_fault}
 use Rattle.clap.specs.declared.builder.value_parser.ValueParser.TheVariants.{Signed}
 use Rattle.clap.specs.declared.error.kind.ErrorKind.TheVariants.{MissingRequiredArgument}
-use Rattle.clap_walk.specs.Exchanged.{AreClean}
 use Rattle.clap_walk.specs.Rows.{EachRow, HasNumberTo, IsSound}
-use Rattle.clap_walk.specs.Rules.{AreUsual, IsUsual}
+use Rattle.clap_walk.specs.Rules.{AreClean, AreUsual, IsUsual}
 use Rattle.clap_walk.proofs.Walks.{parts, settled_keeps, walk_keeps}
 use Rattle.clap_walk.proofs.Values.{given_row, no_defaults, number_there, text_there, use_keeps}
 

@@ -2,6 +2,3 @@
 pub mod Walks
 pub mod Values
 pub mod Given
-pub mod SameRows
-pub mod AlikeWalks
-pub mod Exchanges

@@ -1,4 +1,3 @@
--- Definitions for the lemmas and laws of this crate.
+-- Definitions for the lemmas and the law of this crate.
 pub mod Rules
 pub mod Rows
-pub mod Exchanged

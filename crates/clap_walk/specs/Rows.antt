@@ -1,7 +1,5 @@
 -- The rows in which `clap` keeps what it found for each argument.
 use Rattle.std.specs.Prelude.{◌≡◌, ◌≢◌, ℕ, List, [], ◌∷◌, Some, pos}
-use Rattle.std.specs.List.{filter}
-use Rattle.std.specs.Str.{bytes_eq}
 use Rattle.clap.specs.Words.{IsSignedIn, without_minus, one_of}
 use Rattle.clap.specs.Walk.{Row, Rule, Text, arg_by_id, reading_by}
 use Rattle.clap.specs.Faults.{values_fault}
@@ -14,14 +12,6 @@ EachRow P (r ∷ rows) = P r × EachRow P rows
 -- the row has values, the parser of its rule accepted them, and they are read as that rule says
 abbrev pub IsSound : List Rule → Row → Type 0
 IsSound c r = (a : Rule) → arg_by_id c r.id ≡ Some a → (r.values ≢ []) × (values_fault a r.values ≡ []) × (r.reading ≡ reading_by a)
-
--- the rows of a name
-abbrev pub named : Text → List Row → List Row
-named id rows = filter (λ r. bytes_eq r.id id) rows
-
--- each name has the same rows in both lists
-abbrev pub AreSame : List Row → List Row → Type 0
-AreSame xs ys = (id : Text) → named id xs ≡ named id ys
 
 -- a value was found for the option, and its parser accepted it as a whole number from 0 to a maximum
 abbrev pub HasNumberTo : ℕ → List Row → Text → Type 0

@@ -1,7 +1,9 @@
--- The rules of a table of arguments, as `clap` builds them.
-use Rattle.std.specs.Prelude.{◌≡◌, ◌⊎◌, false, List, [], ◌∷◌, None, Some}
+-- The rules of a table of arguments, as `clap` builds them, and arguments that have no fault by them.
+use Rattle.std.specs.Prelude.{◌≡◌, ◌⊎◌, false, List, [], ◌∷◌, Some}
 use Rattle.clap.specs.Facts.{unwrap_or_range}
-use Rattle.clap.specs.Walk.{Rule, action_of, arg_by_id, most_values}
+use Rattle.clap.specs.Faults.{level_fault}
+use Rattle.clap.specs.Simple.{Shape}
+use Rattle.clap.specs.Walk.{Rule, Text, action_of, arg_by_id, most_values, nothing_held}
 use Rattle.clap.specs.declared.builder.action.ArgAction.TheVariants.{Set, Append, Help}
 
 -- Q holds of each rule of a list
@@ -14,10 +16,10 @@ abbrev pub IsUsual : List Rule → Rule → Type 0
 IsUsual c a = (arg_by_id c a.id ≡ Some a)
     × ((action_of a ≡ Help) ⊎ (((action_of a ≡ Set) ⊎ (action_of a ≡ Append)) × ((unwrap_or_range a.range).start_inclusive ≡ 1) × (most_values a ≡ 1)))
 
--- the rule is known by its own name alone, takes no trailing arguments, and has no default
-abbrev pub IsByName : Rule → Type 0
-IsByName a = (a.aliases ≡ []) × ((a.long ≡ None) ⊎ (a.long ≡ Some a.id)) × (a.trailing_var_arg ≡ false) × (a.defaults ≡ [])
-
 -- each rule is usual and has no default
 abbrev pub AreUsual : List Rule → Type 0
 AreUsual rules = EachRule (IsUsual rules) rules × EachRule (λ a. a.defaults ≡ []) rules
+
+-- `clap` finds no fault in the arguments that follow a command
+abbrev pub AreClean : Shape → List Text → Type 0
+AreClean s words = level_fault s [] nothing_held words false [] ≡ []

@@ -7,4 +7,3 @@ pub mod ArgsFound
 pub mod LongNumbers
 pub mod Numbers
 pub mod Pairs
-pub mod Orders

@@ -26,8 +26,7 @@ use Rattle.clap.specs.declared.builder.value_parser.ValueParser.TheVariants.{Sig
 use Rattle.clap.specs.declared.error.kind.ErrorKind.{ErrorKind}
 use Rattle.clap.proofs.CallerReads.{signed_reads}
 use Rattle.clap.proofs.ValueTestLemmas.{accepts-Accepts}
-use Rattle.clap_walk.specs.Rows.{AreSame, EachRow, IsSound}
-use Rattle.clap_walk.proofs.SameRows.{found_same}
+use Rattle.clap_walk.specs.Rows.{EachRow, IsSound}
 use Rattle.clap_walk.proofs.Values.{row_found}
 use Rattle.clap_walk.proofs.Walks.{parts}
 use Rattle.scrub_args.specs.steps.Parsed.{HasNumbers, IsReadNumber}
@@ -62,11 +61,6 @@ has_numbers c rows sound name a rule parser plain = go (find (λ r. bytes_eq r.i
     go (Some r) found =
         let known = found.1 a (ap (arg_by_id c) found.0 ∙ rule) in
         each r.reading r.values (known.2 ∙ ap (λ p. reading_of (parser_of_value p)) parser) known.1
-
--- the values read are the same
-pub many_same : (xs ys : List Row) → AreSame xs ys → (id : Text) → many_of id xs ≡ many_of id ys
-many_same xs ys same id =
-    ap (λ (o : Option Row). option_map (λ r. map (read_as r.reading) r.values) o) (found_same id xs ys (same id))
 
 -- none were found
 pub no_numbers : (found : List Row) (name : Text) (numbers : List ℕ) → None ≡ many_of name found → numbers ≡ [] →

@@ -20,37 +20,37 @@ use Rattle.scrub_args.proofs.LongNumbers.{may_have_long}
 use Rattle.scrub_args.proofs.Numbers.{has_numbers}
 
 -- the commands as `clap` builds them
-abbrev pub leaf : Shape → Shape
+abbrev leaf : Shape → Shape
 leaf shape = built_leaf (inherited (record shardscrub_app.top { is_built = true }) shape)
 
-abbrev pub disk : Text → Shape
+abbrev disk : Text → Shape
 disk name = leaf (image_shape name (workers_rule ∷ []))
 
-abbrev pub looked : Text → Shape
+abbrev looked : Text → Shape
 looked name = leaf (free_shape name (workers_rule ∷ []))
 
-abbrev pub built_manifest : Shape
+abbrev built_manifest : Shape
 built_manifest = leaf manifest_shape
 
-abbrev pub built_shard : Shape
+abbrev built_shard : Shape
 built_shard = leaf shard_shape
 
-abbrev pub built_summary : Shape
+abbrev built_summary : Shape
 built_summary = leaf summary_shape
 
-abbrev pub built_compare : Shape
+abbrev built_compare : Shape
 built_compare = leaf compare_shape
 
-abbrev pub built_reclaimable : Shape
+abbrev built_reclaimable : Shape
 built_reclaimable = leaf reclaimable_shape
 
-abbrev pub built_superblocks : Shape
+abbrev built_superblocks : Shape
 built_superblocks = leaf superblocks_shape
 
-abbrev pub built_sizes : Shape
+abbrev built_sizes : Shape
 built_sizes = leaf sizes_shape
 
-abbrev pub built_items : Shape
+abbrev built_items : Shape
 built_items = leaf items_shape
 
 abbrev built_demo : Shape

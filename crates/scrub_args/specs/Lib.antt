@@ -2,7 +2,6 @@
 pub mod CommandLine
 pub mod Accepting
 pub mod Args
-pub mod Order
 pub mod Pair
 pub mod ShardId
 -- Steps of the code, and lemmas that types need.

@@ -61,7 +61,8 @@ pub fn refusal_of(alloc: Global, text: &str) -> Result<String, AllocError>
 {
     let reason = "not a line of a doubt that can be accepted, without the word doubt";
     let refusal = format!(in alloc;
-        "error: invalid value '{text}' for '--accept <LINE>': {reason}\n\nFor more information, try '--help'.\n"
+        "error: invalid value '{text}' for '--accept <LINE>': {reason}\n\n\
+         For more information, try '--help'.\n"
     )?;
     Ok(refusal)
 }

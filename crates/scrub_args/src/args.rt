@@ -1,10 +1,9 @@
 //! What the arguments ask for. Here they are only parsed; each command checks its own sizes, places and
 //! files.
-ghost use Rattle.std.specs.Prelude.{◌≡◌, ◌≢◌, ◌&&◌, false, true, IfOk, List, MatchOption, MatchResult};
+ghost use Rattle.std.specs.Prelude.{◌≡◌, ◌≢◌, ◌&&◌, false, true, IfOk, MatchOption, MatchResult};
 ghost use Rattle.std.specs.Prelude.{None, Some, codes, is_none, is_some};
-ghost use Rattle.clap.specs.Words.{Text, first_of, found_of, kind_of, one_of, rows_of, subcommand_rows_of};
+ghost use Rattle.clap.specs.Words.{first_of, found_of, kind_of, one_of, rows_of, subcommand_rows_of};
 ghost use Rattle.scrub_args.specs.Accepting.{refusal_of};
-ghost use Rattle.scrub_args.specs.Order.{AreExchanged};
 ghost use Rattle.scrub_args.specs.steps.Parsed.{ComesOf, HasCompare, HasImage, HasImageName, HasItems};
 ghost use Rattle.scrub_args.specs.steps.Parsed.{HasManifest};
 ghost use Rattle.scrub_args.specs.steps.Parsed.{HasNumber, HasNumbers, HasScan, HasShard, HasText};
@@ -208,14 +207,6 @@ pub fn read_args<'a>(alloc: Global, args: &'a [&'a str]) -> Result<Option<Reques
     };
     Ok(Some(request_of(alloc, &matches)?))
 }
-
-/// A law: the order of options doesn't matter. If arguments name a command, they ask for the same after two
-/// neighbouring options are exchanged. The options have different names, and each is one argument with its
-/// value (`--page=64`).
-pub fn order_is_free()
-    ensures { (args others : List Text) (r : Request) → AreExchanged args others →
-        NameCommand args r → NameCommand others r }
-{}
 
 /// The request that was parsed. A text that can't be accepted is refused.
 fn request_of<'a>(alloc: Global, matches: &ArgMatches<'a>) -> Result<Request<'a>, ArgsFault>

@@ -85,7 +85,7 @@ lines, and the status is 1:
 
 A lost index run may have a newer entry of the shard, as the report says under doubtful. Then the bytes
 are written, the error stream has the line a newer entry may be lost, and the status is 1. Status 0
-doesn't say that the superblock is the last one: behind a lost superblock the bytes may be older ones.
+doesn't say that the superblock is the last one: if a newer one is lost, the bytes may be older ones.
 
 Exit status:
   0  all bytes are written, whatever else is wrong with the disk
@@ -113,7 +113,7 @@ The error stream has these lines, in this order. The archive is written whole al
   a newer entry may be lost: ID   the shard ID is in the archive; a lost index run may have a newer entry
 
 The last two come by ascending identifier, one for a shard. The whole archive is made in memory before its
-first byte is written. Status 0 doesn't say that the superblock is the last one: behind a lost superblock
+first byte is written. Status 0 doesn't say that the superblock is the last one: if a newer one is lost,
 the bytes may be older ones, and shards may be missing.
 
 Exit status:
@@ -366,7 +366,8 @@ Example, for a disk with 3 extents of 4 pages of 64 bytes:
   shardscrub reclaimable --page 64 --pages 4 --extents 3 examples/one-shard.img";
 
 pub(crate) const COMPARE_ABOUT: &str =
-    "Compares two images of a disk: whether what was written in between lost anything, and extents may be reset";
+    "Compares two images of a disk: whether what was written in between lost anything, and extents may be \
+     reset";
 
 pub(crate) const COMPARE_AFTER_HELP: &str =
     "BEFORE is an image whose doubts were settled, AFTER a later one of the same disk, or the same file. The
@@ -392,9 +393,9 @@ The last line is unsafe, or if there is no other line:
 
   safe BEFORE AFTER               the generations of the superblocks that count
 
-Before a reset safe says that the extents of --reset may be reset, and after it that nothing was lost by
-it. It doesn't say that the pointer is 0 by then: without --reset each pointer that became 0 has a line.
-Compare the last line with the generations that were written: safe 7 8 says, too, that superblock 8
+Before a reset safe says that the extents of --reset may be reset, and after it that nothing named was
+lost by it. It doesn't say that the pointer is 0 by then: without --reset each pointer that became 0 has a
+line. Compare the last line with the generations that were written: safe 7 8 says, too, that superblock 8
 counts.
 
 These are no reasons: none that became spare, fewer hidden runs, and zeros that were written over bytes

@@ -7,6 +7,7 @@ use Rattle.std.proofs.lemmas.List.{get_or_default}
 use Rattle.std.proofs.lemmas.List.Sorted.{IsPermutation-trans, IsPermutation-append_left, IsPermutation-to_front, sum_by-IsPermutation}
 use Rattle.std.proofs.lemmas.List.Sums.{sum_by-append, sum_by-cons}
 use Rattle.std.proofs.lemmas.Simd.{map-map}
+use Rattle.list_facts.proofs.Counts.{contained_counts, counted_contained, one_for, one_for-same, rising_once}
 use Rattle.scrub_scan.specs.declared.extent_result.ExtentResult.{ExtentResult}
 use Rattle.scrub_scan.specs.Scanned.{Scanned, scanned}
 use Rattle.scrub_scan.specs.AllFindings.{extent_numbers}
@@ -14,7 +15,6 @@ use Rattle.scrub_book.specs.declared.book.AddRefused.{AddRefused}
 use Rattle.scrub_book.specs.declared.book.AddRefused.TheVariants.{Stranger, Double}
 use Rattle.scrub_book.specs.Extents.{extents_in}
 use Rattle.scrub_book.specs.Book.{BookValue, IsAddRefused}
-use Rattle.scrub_book.proofs.Counts.{one_for, is_one, contained_counts, counted_contained, rising_once}
 
 -- the numbers of results are the extents that they are of
 pub numbers_shown : {D : Type 0} {s : _} (rs : List (ExtentResult D s)) →
@@ -61,7 +61,7 @@ module _ (planned : List ℕ) (all : List Scanned)
   own : (one : Scanned) → 1 ≤ one_for one.extent one.extent
   own one =
       let same : (one.extent == one.extent) ≡ true = grind (arith, nat_tests) in
-      omega (arith, is_one one.extent one.extent same)
+      omega (arith, one_for-same one.extent one.extent same)
 
   -- the next result is of a planned extent
   pub next_planned : (came rest : List Scanned) (one : Scanned) → IsPermutation all (came ++ one ∷ rest) →

@@ -1,28 +1,21 @@
 -- What a complete pool has.
-use Rattle.std.proofs.Common.{Some, ◌≡◌, ◌==◌, ◌&&◌, ◌++◌, ◌∷◌, ◌∙◌, ℕ, suc, List, [], Bool, true, false, Option, All, length, get_or, sum_by, arith, refl, sym, ap, slice_get, is_none}
+use Rattle.std.proofs.Common.{Some, ◌≡◌, ◌==◌, ◌&&◌, ◌++◌, ◌∷◌, ◌∙◌, ℕ, suc, List, [], true, Option, All, length, get_or, sum_by, arith, refl, ap, slice_get, is_none}
 use Rattle.std.specs.List.{Contains, list_all}
 use Rattle.std.specs.List.Sorted.{IsStrictlyIncreasing}
 use Rattle.std.specs.Option.{option_to_list}
-use Rattle.std.proofs.lemmas.Bool.{true≢false}
-use Rattle.std.proofs.lemmas.Bool.Decides.{nat_tests}
-use Rattle.std.proofs.lemmas.List.{get_or_default, nil_from_length}
+use Rattle.std.proofs.lemmas.Bool.{and_parts}
+use Rattle.std.proofs.lemmas.List.{get_or_default}
 use Rattle.std.proofs.lemmas.List.Elements.{All-contains}
 use Rattle.std.proofs.lemmas.List.Sums.{sum_by-cons}
+use Rattle.list_facts.proofs.Counts.{contained_counts, counted_contained, one_for, rising_once}
+use Rattle.list_facts.proofs.Slices.{nil_from_no_length}
 use Rattle.scrub_disk.specs.Image.{Image}
 use Rattle.scrub_super.specs.Plan.{PlanValue}
 use Rattle.scrub_super.specs.Planned.{ArePlanned}
 use Rattle.scrub_scan.specs.Scanned.{Scanned}
 use Rattle.scrub_scan.specs.AllFindings.{extent_numbers, AreAllFindings}
 use Rattle.scrub_book.specs.Pool.{MemberValue, PoolState, start, is_complete, having, IsAccount, IsScanned, IsMember, IsPool, IsAssembly, IsOnceEach, EveryScheduleFinds}
-use Rattle.scrub_book.proofs.Counts.{one_for, contained_counts, counted_contained, rising_once}
 use Rattle.scrub_book.proofs.Pools.{one_among, start_is, leads_keeps}
-
-both : (a b : Bool) → (a && b) ≡ true → (a ≡ true) × (b ≡ true)
-both true b is = (refl, is)
-both false b is = absurd (true≢false (sym is))
-
-is_empty : {X : Type 0} (xs : List X) → (length xs == 0) ≡ true → xs ≡ []
-is_empty xs is = let none : length xs ≡ 0 = grind (arith, nat_tests, is) in nil_from_length xs none
 
 module _ (image : Image) (plan : PlanValue) where
   -- members that are through hold nothing and have no results
@@ -30,8 +23,8 @@ module _ (image : Image) (plan : PlanValue) where
       list_all (λ m. is_none m.held && m.has_retired) ms ≡ true → sum_by (λ m. sum_by f (having m)) ms ≡ 0
   through_have f [] are through = refl
   through_have f (m ∷ ms) are through =
-      let parts = both (is_none m.held && m.has_retired) (list_all (λ x. is_none x.held && x.has_retired) ms) through in
-      let facts = both (is_none m.held) m.has_retired parts.0 in
+      let parts = and_parts (is_none m.held && m.has_retired) (list_all (λ x. is_none x.held && x.has_retired) ms) through in
+      let facts = and_parts (is_none m.held) m.has_retired parts.0 in
       let left = (are 0 m (omega arith)).left facts.1 in
       let none : sum_by f (having m) ≡ 0 =
       ap (λ (o : Option ℕ). sum_by f (option_to_list o ++ extent_numbers m.results)) left.0
@@ -47,8 +40,8 @@ module _ (image : Image) (plan : PlanValue) where
   pub complete_sums : (p : PoolState) → IsPool image plan p → is_complete p ≡ true → (f : ℕ → ℕ) →
       sum_by f (extent_numbers p.arrivals) ≡ sum_by f plan.planned
   complete_sums p pool complete f =
-      let parts = both (length p.queue == 0) (list_all (λ m. is_none m.held && m.has_retired) p.members) complete in
-      let queue : sum_by f p.queue ≡ 0 = ap (sum_by f) (is_empty p.queue parts.0) in
+      let parts = and_parts (length p.queue == 0) (list_all (λ m. is_none m.held && m.has_retired) p.members) complete in
+      let queue : sum_by f p.queue ≡ 0 = ap (sum_by f) (nil_from_no_length p.queue parts.0) in
       omega (arith, pool.account f, queue, through_have f p.members pool.members parts.1)
 
   -- what a member holds is planned

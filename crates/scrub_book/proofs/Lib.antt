@@ -1,7 +1,9 @@
-pub mod Pools
-pub mod Counts
-pub mod Complete
+-- Lemmas on results that are collected, and on the pool as a machine.
+
+-- the book
 pub mod Places
-pub mod PoolSteps
 pub mod Arrivals
-pub mod Options
+-- the pool, event by event
+pub mod Pools
+pub mod PoolSteps
+pub mod Complete

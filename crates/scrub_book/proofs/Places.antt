@@ -1,18 +1,19 @@
 -- Slots for the results of planned extents, as they are filled.
-use Rattle.std.proofs.Common.{refl, ◌≡◌, ◌<◌, ◌≤◌, ℕ, List, [], ◌∷◌, Bool, true, false, not, length, get_or, set, map, replicate, position, arith, sym, ◌∙◌, ap, Some, None, Option, IfSome, IfNone, zero, suc, inl, inr, Result, Ok, Err}
+use Rattle.std.proofs.Common.{refl, ◌≡◌, ◌<◌, ◌≤◌, ℕ, List, [], ◌∷◌, true, false, not, length, get_or, set, map, replicate, position, arith, sym, ◌∙◌, ap, Some, None, Option, IfSome, zero, suc, inl, inr}
 use Rattle.std.specs.List.{AllZip, Contains, position_or_len}
-use Rattle.std.specs.List.Sorted.{IsPermutation, IsStrictlyIncreasing, IsBinarySearchResult}
+use Rattle.std.specs.List.Sorted.{IsPermutation, IsStrictlyIncreasing}
 use Rattle.std.specs.Option.{is_some}
-use Rattle.std.specs.Ordering.{nat_cmp}
-use Rattle.std.specs.Result.{result_ok}
 use Rattle.std.proofs.lemmas.Grind.{common_steps}
-use Rattle.std.proofs.lemmas.Bool.{true≢false, cases_eq, cases_lt}
+use Rattle.std.proofs.lemmas.Bool.{true≢false, cases_lt}
 use Rattle.std.proofs.lemmas.Simd.{map-map}
 use Rattle.std.proofs.lemmas.Slice.Zip.{AllZip-long}
 use Rattle.std.proofs.lemmas.List.Elements.{All-contains_itself, Contains-get_or}
-use Rattle.std.proofs.lemmas.List.Kept.{AllPairs-from_increasing}
 use Rattle.std.proofs.lemmas.List.Quantifiers.{position-Some}
-use Rattle.std.proofs.lemmas.List.Sorted.{searched, IsPermutation-refl, IsPermutation-trans, IsPermutation-cons, IsPermutation-middle, IsPermutation-map}
+use Rattle.std.proofs.lemmas.List.Sorted.{IsPermutation-refl, IsPermutation-trans, IsPermutation-cons, IsPermutation-middle, IsPermutation-map}
+use Rattle.list_facts.proofs.Bools.{false_from_not, true_from_not}
+use Rattle.list_facts.proofs.Elements.{Contains-behind}
+use Rattle.list_facts.proofs.Options.{None_from_not_some}
+use Rattle.list_facts.proofs.Rising.{one_place_if_rising, rising_never_falls}
 use Rattle.scrub_disk.specs.Image.{Image}
 use Rattle.scrub_super.specs.Plan.{PlanValue, IsRestricted, pointer_of}
 use Rattle.scrub_scan.specs.declared.extent_result.ExtentResult.{ExtentResult}
@@ -21,51 +22,6 @@ use Rattle.scrub_scan.specs.AllFindings.{extent_numbers}
 use Rattle.scrub_scan.specs.Slots.{held_in, AreFull, IsPlannedResult, AreSlots, scanned_in}
 use Rattle.scrub_scan.proofs.Slots.{all_found}
 use Rattle.scrub_book.specs.Book.{BookValue, IsResultAdded, IsLeastMissing, HasAll}
-use Rattle.scrub_book.proofs.Options.{is_nothing}
-
--- a number is in only one place among ascending ones
-pub one_place : (es : List ℕ) → IsStrictlyIncreasing es → (i j : ℕ) → i < length es → j < length es →
-    get_or es i 0 ≡ get_or es j 0 → i ≡ j
-one_place es rising i j below within same = elim (cases_eq i j) [
-  | inl e ↦ e
-  | inr differ ↦ elim (cases_lt i j) [
-    | inl less ↦ absurd (omega (arith, same, AllPairs-from_increasing es rising i j 0 less within))
-    | inr more ↦
-        absurd (omega (arith, same, AllPairs-from_increasing es rising j i 0 (omega (arith, more, differ)) below))
-  ]
-]
-
--- ascending numbers never fall
-numbers_rise : (es : List ℕ) → IsStrictlyIncreasing es → (i j : ℕ) → i ≤ j → j < length es →
-    get_or es i 0 ≤ get_or es j 0
-numbers_rise es rising i j le below = elim (cases_eq i j) [
-  | inl same ↦ omega (arith, ap (λ n. get_or es n 0) same)
-  | inr differ ↦ omega (arith, AllPairs-from_increasing es rising i j 0 (omega (arith, le, differ)) below)
-]
-
--- if a search among ascending numbers finds no place, the number isn't there
-pub not_found : (es : List ℕ) (e : ℕ) (r : Result ℕ ℕ) → IsStrictlyIncreasing es →
-    IsBinarySearchResult (λ y. nat_cmp y e) es r → IfNone (result_ok r) (¬ Contains es e)
-not_found es e (Ok i) rising is = tt
-not_found es e (Err i) rising is = λ there.
-    let parted = searched es e (Err i) is (numbers_rise es rising) in
-    let at : get_or es there.0 0 ≡ e = grind (arith, common_steps, there.1, there.2) in
-    elim (cases_lt there.0 i) [
-      | inl less ↦ omega (arith, at, parted.1 there.0 less)
-      | inr more ↦ omega (arith, at, parted.2 there.0 (omega (arith, more)) there.1)
-    ]
-
-not_true : (b : Bool) → not b ≡ true → b ≡ false
-not_true true h = absurd (true≢false (sym h))
-not_true false h = refl
-
-not_false : (b : Bool) → not b ≡ false → b ≡ true
-not_false true h = refl
-not_false false h = absurd (true≢false h)
-
--- what a list contains, it contains with one more in front
-contains_more : {X : Type 0} (x : X) (xs : List X) (y : X) → Contains xs y → Contains (x ∷ xs) y
-contains_more x xs y there = (suc there.0, omega (arith, there.1), there.2)
 
 module _ {X : Type 0} where
   -- empty slots hold nothing
@@ -102,7 +58,7 @@ module _ {X : Type 0} where
       AreFull slots
   none_empty slots none =
       let is : position (λ slot. not (is_some slot)) slots ≡ None =
-      is_nothing (position (λ slot. not (is_some slot)) slots) none in
+      None_from_not_some (position (λ slot. not (is_some slot)) slots) none in
       full_before slots (grind (arith, common_steps, is))
 
   -- the first empty slot, and those before it
@@ -112,8 +68,8 @@ module _ {X : Type 0} where
   first_empty_at slots i d is =
       let facts = position-Some (λ slot. not (is_some slot)) slots i d is in (
         facts.0,
-        not_true (is_some (get_or slots i d)) facts.1,
-        λ k less. not_false (is_some (get_or slots k d)) (facts.2 k less),
+        false_from_not (is_some (get_or slots i d)) facts.1,
+        λ k less. true_from_not (is_some (get_or slots k d)) (facts.2 k less),
       )
 
   module _ {A : Type 0} (R : A → X → Type 0) where
@@ -143,7 +99,7 @@ module _ {X : Type 0} where
       number_came (e ∷ es) (None ∷ slots) (suc i) d c h below filled =
           number_came es slots i d c h.1 (omega (arith, below)) filled
       number_came (e ∷ es) (Some x ∷ slots) (suc i) d c h below filled =
-          contains_more (number x) (map number (held_in slots)) (get_or es i d)
+          Contains-behind (number x) (map number (held_in slots)) (get_or es i d)
           (number_came es slots i d c h.1 (omega (arith, below)) filled)
 
       -- each number of what is held is that of a filled slot
@@ -200,7 +156,7 @@ module _ {D : Type 0} {s : _} (image : Image) (plan : PlanValue) (slots : List (
       let from =
       came_from (IsPlannedResult image plan) (λ (r : ExtentResult D s). r.extent) (λ e r h. h.extent_is) plan.planned
       slots (get_or plan.planned i 0) 0 d are (rw numbers at there) in
-      let same : from.0 ≡ i = one_place plan.planned rising from.0 i from.1 below from.3 in
+      let same : from.0 ≡ i = one_place_if_rising plan.planned rising from.0 i from.1 below from.3 in
       true≢false (sym from.2 ∙ ap (λ n. is_some (get_or slots n d)) same ∙ empty)
 
   -- if all slots are full, each planned extent has its result
@@ -241,7 +197,7 @@ module _ {D : Type 0} {s : _} (image : Image) (plan : PlanValue) (slots : List (
               | inl before-i ↦ before-i
               | inr more ↦
                   absurd
-                  (omega (arith, at, less, numbers_rise plan.planned rising i there.0 (omega (arith, more)) there.1))
+                  (omega (arith, at, less, rising_never_falls plan.planned rising i there.0 (omega (arith, more)) there.1))
             ] in
             rw at at (came_at there.0 None there.1 (first.2 there.0 sooner))
 

@@ -5,6 +5,7 @@ use Rattle.std.specs.Option.{option_map_or, option_to_list}
 use Rattle.std.proofs.lemmas.Option.{none-some, slice_get-map, slice_get-get_or, slice_get_within}
 use Rattle.std.proofs.lemmas.List.{map-append, map-set, length-map, length-append}
 use Rattle.std.proofs.lemmas.List.Elements.{All-append, All-set}
+use Rattle.list_facts.proofs.Counts.{sum_by-one}
 use Rattle.scrub_disk.specs.Image.{Image}
 use Rattle.scrub_super.specs.Plan.{PlanValue, pointer_of}
 use Rattle.scrub_scan.specs.declared.extent_result.ExtentResult.{ExtentResult}
@@ -19,7 +20,6 @@ use Rattle.scrub_book.specs.Extents.{extents_in}
 use Rattle.scrub_book.specs.Book.{BookValue}
 use Rattle.scrub_book.specs.steps.Member.{member_value, results_in, state_of, IsReady, HoldsPool}
 use Rattle.scrub_book.specs.Pool.{MemberValue, PoolState, worker_of, member_refusal, refusal, taking, having_found, through, IsTake, IsDone, IsRetire, IsStep, IsPool, having}
-use Rattle.scrub_book.proofs.Counts.{ones}
 use Rattle.scrub_book.proofs.Pools.{one_among, step_keeps}
 
 -- an event that isn't refused names a member
@@ -182,7 +182,7 @@ module _ {D : Type 0} {s : _} where
         let one : ℕ → ℕ = λ e. 1 in
         let among = one_among one p.members (worker_of event) (member_value m) (place named) in
         let has : sum_by one (having (member_value m)) ≡ length (having (member_value m)) =
-        ones (having (member_value m)) in
+        sum_by-one (having (member_value m)) in
         let parts = length-append (option_to_list (member_value m).held) (extent_numbers (member_value m).results) in
         let results : length (extent_numbers (member_value m).results) ≡ length (results_in m) =
         length-map (member_value m).results (λ x. x.extent) ∙ ap length (value_results m)
@@ -197,6 +197,6 @@ module _ {D : Type 0} {s : _} where
           parts,
           results,
           came,
-          ones (extent_numbers p.arrivals),
-          ones book.plan.planned,
+          sum_by-one (extent_numbers p.arrivals),
+          sum_by-one book.plan.planned,
         )

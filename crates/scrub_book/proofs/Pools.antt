@@ -7,6 +7,7 @@ use Rattle.std.proofs.lemmas.List.{map-append}
 use Rattle.std.proofs.lemmas.List.Elements.{All-append, All-push, All-set}
 use Rattle.std.proofs.lemmas.List.Folds.{sum_by-replicate}
 use Rattle.std.proofs.lemmas.List.Sums.{get_or-le-sum_by, sum_by-append, sum_by-cons, sum_by-set}
+use Rattle.list_facts.proofs.Options.{None_from_not_some}
 use Rattle.scrub_disk.specs.Image.{Image}
 use Rattle.scrub_super.specs.Plan.{PlanValue}
 use Rattle.scrub_scan.specs.AllFindings.{extent_numbers}
@@ -15,7 +16,6 @@ use Rattle.scrub_book.specs.declared.event.Event.TheVariants.{Take, Done, Retire
 use Rattle.scrub_book.specs.declared.event.StepRefused.{StepRefused}
 use Rattle.scrub_book.specs.declared.event.StepRefused.TheVariants.{NoWorker}
 use Rattle.scrub_book.specs.Pool.{MemberValue, PoolState, idle, start, worker_of, member_refusal, refusal, IsScanned, IsTake, IsDone, IsRetire, IsStep, Leads, having, IsMember, IsPool}
-use Rattle.scrub_book.proofs.Options.{is_nothing}
 
 -- if the whole gives nothing, the test is false and the rest gives nothing
 gives_nothing : {X : Type 0} (b : Bool) (x : X) (rest : Option X) → (if b then Some x else rest) ≡ None →
@@ -35,7 +35,7 @@ free : (m : MemberValue) (x y : StepRefused) (rest : Option StepRefused) →
     (m.has_retired ≡ false) × (m.held ≡ None)
 free m x y rest may =
     let first = gives_nothing m.has_retired x _ may in
-    (first.0, is_nothing m.held (gives_nothing (is_some m.held) y rest first.1).0)
+    (first.0, None_from_not_some m.held (gives_nothing (is_some m.held) y rest first.1).0)
 
 -- the sums over the members, before and after one is written
 placed : (f : ℕ → ℕ) (ms : List MemberValue) (v : ℕ) (m n : MemberValue) → slice_get ms v ≡ Some m →

@@ -1,8 +1,9 @@
 -- Lists of checked locators.
-use Rattle.std.proofs.Common.{◌≡◌, ◌<◌, ℕ, zero, suc, List, [], ◌∷◌, Option, length, get_or, arith, refl}
+use Rattle.std.proofs.Common.{◌≡◌, ◌<◌, ℕ, List, [], ◌∷◌, Option, length, get_or, refl}
 use Rattle.std.proofs.Math.Path.{ap₂}
 use Rattle.std.specs.List.{AllZip}
 use Rattle.std.proofs.lemmas.List.Elements.{All-nil, All-cons}
+use Rattle.list_facts.proofs.Zips.{AllZip-at}
 use Rattle.scrub_disk.specs.Image.{Image}
 use Rattle.scrub_super.specs.Plan.{PlanValue}
 use Rattle.scrub_check.specs.declared.named.Named.{Named}
@@ -22,18 +23,10 @@ each_checked image plan (n ∷ ns) (c ∷ cs) h =
     let rest = each_checked image plan ns cs h.1 in
     record { same = ap₂ (λ m ms. m ∷ ms) h.0.same rest.same; statuses = All-cons (λ c. HasStatusIn image plan c.locator c.status) c cs h.0.status rest.statuses }
 
--- what holds place by place holds at a place
-pub zipped_at : {A B : Type 0} (R : A → B → Type 0) (xs : List A) (ys : List B) (i : ℕ) (d : A) (e : B) → i < length xs →
-    AllZip R xs ys → R (get_or xs i d) (get_or ys i e)
-zipped_at R [] ys i d e below h = absurd (omega (arith, below))
-zipped_at R (x ∷ xs) [] i d e below h = absurd h
-zipped_at R (x ∷ xs) (y ∷ ys) zero d e below h = h.0
-zipped_at R (x ∷ xs) (y ∷ ys) (suc i) d e below h = zipped_at R xs ys i d e (omega (arith, below)) h.1
-
 -- what is known of one
 pub known_at : (image : Image) (plan : PlanValue) (names : List Named) (tells : List (Option Status)) (i : ℕ) (n : Named) (t : Option Status) →
     i < length names → n ≡ get_or names i n → t ≡ get_or tells i t →
     AllZip (IsKnownBefore image plan) names tells → IsKnownBefore image plan n t
 known_at image plan names tells i n t below name_is tell_is known =
     rw name_is
-    (rw tell_is (zipped_at (IsKnownBefore image plan) names tells i n t below known))
+    (rw tell_is (AllZip-at (IsKnownBefore image plan) names tells i n t below known))

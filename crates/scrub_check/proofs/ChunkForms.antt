@@ -4,10 +4,10 @@ use Rattle.std.specs.List.{find, Contains}
 use Rattle.std.specs.List.Sorted.{IsStrictlyIncreasing}
 use Rattle.std.specs.Option.{option_and_then}
 use Rattle.std.specs.Prelude.{slice_index}
-use Rattle.std.proofs.lemmas.Bool.{eqb-true}
 use Rattle.std.proofs.lemmas.Option.{none-some, same_Some}
-use Rattle.std.proofs.lemmas.List.{get_or-map, length-map}
+use Rattle.std.proofs.lemmas.List.{get_or-map}
 use Rattle.std.proofs.lemmas.List.Elements.{All-contains}
+use Rattle.list_facts.proofs.Searches.{find_none, find_paired, find_passes, pairs_rise}
 use Rattle.scrub_disk.specs.Image.{Image}
 use Rattle.scrub_frame.specs.declared.form.Form.{Form}
 use Rattle.scrub_frame.specs.declared.locator.Locator.{Locator}
@@ -17,7 +17,6 @@ use Rattle.scrub_scan.specs.AllFindings.{AreScannedBy, HaveFindings, ScannedDisk
 use Rattle.scrub_scan.specs.Findings.{IsFindings}
 use Rattle.scrub_scan.specs.Item.{start_of}
 use Rattle.scrub_scan.specs.Scanned.{Scanned}
-use Rattle.scrub_scan.proofs.Entries.{find_paired, find_passes, pairs_rise}
 use Rattle.scrub_check.specs.ChunkForms.{form_at, form_of}
 use Rattle.scrub_check.proofs.PartedExtents.{starts_found}
 
@@ -34,23 +33,9 @@ item_found items p i item rising below is there =
     ∙ find_paired start_of items (pairs_rise start_of items rising) i item below
     ∙ ap Some (sym there)
 
--- a search for what isn't there finds nothing
-none_found : {X : Type 0} (number : X → ℕ) (xs : List X) (p : ℕ) → ¬ Contains (map number xs) p → find (λ x. number x == p) xs ≡ None
-none_found {X} number xs p none = by (find (λ x. number x == p) xs) refl
-  where
-    by : (o : Option X) → find (λ x. number x == p) xs ≡ o → o ≡ None
-    by None is = refl
-    by (Some x) is =
-        let passes = find_passes (λ y. number y == p) xs x is in
-        let there : Contains xs x = passes.1 in
-        absurd (none (
-          there.0,
-          omega (arith, there.1, length-map xs number),
-          get_or-map number xs there.0 x p there.1 ∙ ap number there.2 ∙ eqb-true (number x) p passes.0,
-        ))
-
+-- if none begins there, none is found
 pub no_item : (items : List Item) (p : ℕ) → ¬ Contains (map start_of items) p → None ≡ option_and_then form_of (find (λ one. start_of one == p) items)
-no_item items p none = ap (option_and_then form_of) (sym (none_found start_of items p none))
+no_item items p none = ap (option_and_then form_of) (sym (find_none start_of items p none))
 
 -- ---- in an extent
 
@@ -71,7 +56,7 @@ module _ (all : List Scanned) (l : Locator) where
   pub no_form : ¬ Contains (extent_numbers all) l.extent → None ≡ form_at all l
   no_form none =
       ap (λ (o : Option Scanned). option_and_then form_of (option_and_then (λ f. find (λ item. start_of item == l.offset) f.findings.items) o))
-      (sym (none_found (λ f. f.extent) all l.extent none))
+      (sym (find_none (λ f. f.extent) all l.extent none))
 
 -- the items that were found in an extent ascend
 pub items_rise : {D : Type 0} (image_of : D → Image) (all : ScannedDisk D) (e : ℕ) (found : Findings) (items : List Item) →

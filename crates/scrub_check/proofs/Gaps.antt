@@ -1,17 +1,14 @@
 -- Unreadable pages, and the bytes on them.
-use Rattle.std.proofs.Common.{◌≡◌, ◌<◌, ◌≤◌, ◌+◌, ◌-◌, ◌/◌, ℕ, true, arith, refl, sym, ◌∙◌, ap, Option, Some, None, is_none}
+use Rattle.std.proofs.Common.{◌≡◌, ◌<◌, ◌≤◌, ◌+◌, ◌-◌, ◌/◌, ℕ, true, arith, refl, sym, ◌∙◌, ap, is_none}
 use Rattle.std.proofs.lemmas.Nat.{div_below}
+use Rattle.list_facts.proofs.Arithmetic.{div_rises, place_in_row}
+use Rattle.list_facts.proofs.Filters.{Contains-filter_range, filter_range-passes}
+use Rattle.list_facts.proofs.Options.{None_from_is_none}
 use Rattle.scrub_disk.specs.Image.{Image, byte, extent_bytes, unreadable_pages, HasWholePages}
 use Rattle.scrub_disk.proofs.HeldBytes.{byte-unreadable}
 use Rattle.scrub_scan.specs.Extent.{HasGap}
 use Rattle.scrub_scan.proofs.BytesAt.{page_byte}
-use Rattle.scrub_scan.proofs.PlacePages.{page_rises, place_in_page}
-use Rattle.scrub_frame.proofs.Filtered.{filtered_has, filtered_is}
 use Rattle.scrub_check.proofs.Searches.{LiesBetween}
-
-none_is : {A : Type 0} (o : Option A) → is_none o ≡ true → o ≡ None
-none_is None e = refl
-none_is (Some x) e = absurd (cc)
 
 -- one of the bytes from `start` up to `end` can't be read exactly if one of their pages can't
 pub gap_pages : (image : Image) (e start size page first last : ℕ) → HasWholePages image → e < image.geometry.extents →
@@ -20,18 +17,19 @@ pub gap_pages : (image : Image) (e start size page first last : ℕ) → HasWhol
     LiesBetween (unreadable_pages image e) first last → HasGap (byte image e) start size
 gap_pages image e start size page first last whole he fits some hp hf hl (q, there, low, high) =
     let pos : 0 < page = omega (arith, hp, image.geometry.page_least) in
-    let is = filtered_is (λ p. is_none (image.page e p)) 0 image.geometry.pages q there in
+    let is = filter_range-passes (λ p. is_none (image.page e p)) 0 image.geometry.pages q there in
     let place =
-    place_in_page q start (start + size) page pos (omega (arith, some)) (omega (arith, low, hf)) (omega (arith, high, hl)) in
+    place_in_row q start (start + size) page pos (omega (arith, some)) (omega (arith, low, hf)) (omega (arith, high, hl)) in
     record {
       place = place.0;
       low = place.1;
       high = place.2;
       unreadable =
           byte-unreadable image e place.0
-          (ap (image.page e) (ap (λ p. place.0 / p) (sym hp) ∙ place.3) ∙ none_is (image.page e q) is.2);
+          (ap (image.page e) (ap (λ p. place.0 / p) (sym hp) ∙ place.3) ∙ None_from_is_none (image.page e q) is.2);
     }
 
+-- a byte that can't be read is on an unreadable page
 pub pages_gap : (image : Image) (e start size page first last : ℕ) → HasWholePages image → e < image.geometry.extents →
     start + size ≤ extent_bytes image.geometry → 0 < size →
     page ≡ image.geometry.page → first ≡ start / page → last ≡ (start + size - 1) / page →
@@ -45,8 +43,8 @@ pages_gap image e start size page first last whole he fits some hp hf hl gap =
     div_below gap.place image.geometry.page image.geometry.pages (omega (arith, pos, hp)) (omega (arith, inside)) in
     let same : gap.place / image.geometry.page ≡ gap.place / page = ap (λ p. gap.place / p) (sym hp) in (
       gap.place / image.geometry.page,
-      filtered_has (λ p. is_none (image.page e p)) 0 image.geometry.pages (gap.place / image.geometry.page) (omega arith)
+      Contains-filter_range (λ p. is_none (image.page e p)) 0 image.geometry.pages (gap.place / image.geometry.page) (omega arith)
           (omega (arith, q)) none,
-      omega (arith, page_rises start gap.place page pos gap.low, same, hf),
-      omega (arith, page_rises gap.place (start + size - 1) page pos (omega (arith, gap.high)), same, hl),
+      omega (arith, div_rises start gap.place page pos gap.low, same, hf),
+      omega (arith, div_rises gap.place (start + size - 1) page pos (omega (arith, gap.high)), same, hl),
     )

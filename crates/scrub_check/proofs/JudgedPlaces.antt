@@ -3,14 +3,13 @@ use Rattle.std.proofs.Common.{◌≡◌, ◌<◌, ◌+◌, ◌&&◌, ◌==◌, �
 use Rattle.std.specs.Borrow.{Bor}
 use borrow.Author.Count.{below_more}
 use Rattle.std.specs.Iterator.Runs.{Run, AllItems}
-use Rattle.std.specs.List.{AllAdjacentBelow, AllZip, Contains, flat_map}
+use Rattle.std.specs.List.{AllAdjacentBelow, Contains}
 use Rattle.std.specs.Option.{option_map}
 use Rattle.std.proofs.lemmas.Bool.{and_parts, cases_eq, eqb-true}
 use Rattle.std.proofs.lemmas.Grind.{get_or-set_at}
-use Rattle.std.proofs.lemmas.List.{length-append, length-set, map-append, get_or_append_left, get_or-append-add, get_or-set_other}
-use Rattle.std.proofs.lemmas.List.Elements.{All-nil, All-cons, Contains-append_left, Contains-push}
+use Rattle.std.proofs.lemmas.List.{length-set, map-append, get_or-set_other}
+use Rattle.std.proofs.lemmas.List.Elements.{Contains-append_left, Contains-push}
 use Rattle.std.proofs.lemmas.Option.{same_Some}
-use Rattle.rayon.proofs.ListFacts.{AllZip-append}
 use Rattle.scrub_check.specs.declared.places.chunk_at.ChunkAt.{ChunkAt}
 use Rattle.scrub_check.specs.declared.statuses.by_place.OpenLocator.{OpenLocator}
 use Rattle.scrub_check.specs.declared.statuses.status.Status.{Status}
@@ -28,24 +27,6 @@ All-run {A = A} p P each k d below = here (p.at k) _ (each k) (p.reads k d (omeg
     here (Some y) x h is = subst P (same_Some y x is) h
     here None x h is = absurd (cc)
 
--- what holds of the whole holds of its parts
-pub All-parts : {X A : Type 0} (P : A → Type 0) (f : X → List A) (xs : List X) → All P (flat_map f xs) → All (λ x. All P (f x)) xs
-All-parts P f [] h = All-nil (λ x. All P (f x))
-All-parts {A = A} P f (x ∷ xs) h =
-    let rest : List A = flat_map f xs in
-    let long = length-append (f x) rest in
-    All-cons (λ y. All P (f y)) x xs
-    (λ k d below. rw (get_or_append_left (f x) rest d k below) at (h k d (omega (arith, long, below))))
-    (All-parts P f xs (λ k d below. rw (get_or-append-add (f x) rest k d) at (h (length (f x) + k) d (omega (arith, long, below)))))
-
--- and what holds part by part holds of the wholes
-pub AllZip-parts : {X Y A B : Type 0} (R : A → B → Type 0) (f : X → List A) (g : Y → List B) (xs : List X) (ys : List Y) →
-    AllZip (λ x y. AllZip R (f x) (g y)) xs ys → AllZip R (flat_map f xs) (flat_map g ys)
-AllZip-parts R f g [] [] h = tt
-AllZip-parts R f g [] (y ∷ ys) h = absurd h
-AllZip-parts R f g (x ∷ xs) [] h = absurd h
-AllZip-parts R f g (x ∷ xs) (y ∷ ys) h = AllZip-append R (f x) (flat_map f xs) (g y) (flat_map g ys) h.0 (AllZip-parts R f g xs ys h.1)
-
 -- whether two open locators have one place, as code compares them
 abbrev pub is_same : OpenLocator → OpenLocator → Bool
 is_same a b = (a.place.extent == b.place.extent) && (a.place.offset == b.place.offset)
@@ -55,6 +36,7 @@ same_place a b e =
     let same = and_parts (a.extent == b.extent) (a.offset == b.offset) e in
     λ i. record { extent = eqb-true a.extent b.extent same.0 i; offset = eqb-true a.offset b.offset same.1 i }
 
+-- locators of which each has the place of the next one have one place
 pub one_place : (left : Bor (List OpenLocator)) → AllAdjacentBelow (λ a b. is_same a b ≡ true) left.now (length left.now) →
     HaveOnePlace left.now
 one_place left alike = λ k d below.

@@ -1,38 +1,46 @@
-pub mod Searches
+-- Lemmas on locators, runs and the lists that follow.
+
+-- chunks, payloads and runs
+pub mod PlannedFindings
+pub mod ChunkForms
+pub mod Payloads
+pub mod RunStates
+pub mod Listed
+pub mod RunsApart
+-- the status of a locator
+pub mod ClaimedFrames
+pub mod Gaps
+pub mod StatusByFrame
+pub mod OneStatus
+pub mod OpenPlaces
+pub mod JudgedPlaces
+-- lists of locators: named, checked, by place
+pub mod NamedLists
+pub mod Owners
+pub mod CheckedLists
+pub mod Rebuilt
+pub mod SortedPlaces
+pub mod PartedPlaces
+pub mod Starts
+-- searches and counts among what ascends
 pub mod Between
-pub mod SpareCopies
 pub mod Counts
+pub mod Rising
 pub mod Distinct
+pub mod Searches
+pub mod StartSearch
+-- the lists that follow from checked locators
+pub mod PartedItems
+pub mod PartedExtents
+pub mod SpareCopies
 pub mod SharedPlaces
 pub mod BrokenShards
 pub mod SameUuids
-pub mod SortedPlaces
 pub mod Sizes
-pub mod StartSearch
-pub mod Collected
-pub mod CheckedLists
 pub mod Reclaimable
-pub mod PartedPlaces
-pub mod PartedItems
-pub mod PartedExtents
-pub mod ChunkForms
-pub mod Rising
 pub mod KeptChunks
-pub mod OneList
-pub mod Starts
-pub mod Gaps
-pub mod PlannedFindings
-pub mod StatusByFrame
-pub mod ClaimedFrames
-pub mod OpenPlaces
-pub mod JudgedPlaces
-pub mod Payloads
-pub mod RunStates
-pub mod OneStatus
-pub mod Listed
-pub mod RunsApart
-pub mod NamedLists
+-- worked examples; that there is one answer
 pub mod Examples
-pub mod Rebuilt
+pub mod OneList
 pub mod StatusThere
 pub mod ListsThere

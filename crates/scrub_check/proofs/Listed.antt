@@ -1,8 +1,9 @@
 -- Index runs that were read, in lists.
-use Rattle.std.proofs.Common.{◌≡◌, ◌≤◌, List, [], ◌∷◌, length, map, arith, sym, ◌∙◌}
+use Rattle.std.proofs.Common.{◌≡◌, ◌≤◌, List, length, map, arith, sym, ◌∙◌}
 use Rattle.std.specs.List.{AllZip, zip}
 use Rattle.std.proofs.lemmas.List.{length-map}
 use Rattle.std.proofs.lemmas.Slice.Zip.{AllZip-long, length-zip}
+use Rattle.list_facts.proofs.Zips.{AllZip-map_seconds, AllZip-zip_of_maps}
 use Rattle.scrub_disk.specs.Image.{Image}
 use Rattle.scrub_super.specs.Plan.{PlanValue}
 use Rattle.scrub_merge.specs.Binding.{Runs}
@@ -13,24 +14,6 @@ use Rattle.scrub_check.specs.steps.RunWithStatus.{IsRunWithStatus}
 use Rattle.scrub_check.specs.Runs.{HasRunIn, AreCounted, AreReadRuns, AreRunStatuses, ReadRunsValue}
 use Rattle.scrub_check.specs.Status.{HasStatusIn}
 
--- what is said of each is said of a part of each
-zip_part : {A B C : Type 0} (R : A → B → Type 0) (S : A → C → Type 0) (part : B → C) → ((a : A) (b : B) → R a b → S a (part b)) →
-    (xs : List A) (ys : List B) → AllZip R xs ys → AllZip S xs (map part ys)
-zip_part R S part says [] [] each = tt
-zip_part R S part says [] (y ∷ ys) each = absurd each
-zip_part R S part says (x ∷ xs) [] each = absurd each
-zip_part R S part says (x ∷ xs) (y ∷ ys) each = (says x y each.0, zip_part R S part says xs ys each.1)
-
--- and of two parts of each
-zip_parts : {A B C D : Type 0} (R : A → B → Type 0) (S : A → C → D → Type 0) (left : B → C) (right : B → D) →
-    ((a : A) (b : B) → R a b → S a (left b) (right b)) → (xs : List A) (ys : List B) → AllZip R xs ys →
-    AllZip (λ x p. S x p.0 p.1) xs (zip (map left ys) (map right ys))
-zip_parts R S left right says [] [] each = tt
-zip_parts R S left right says [] (y ∷ ys) each = absurd each
-zip_parts R S left right says (x ∷ xs) [] each = absurd each
-zip_parts R S left right says (x ∷ xs) (y ∷ ys) each =
-    (says x y each.0, zip_parts R S left right says xs ys each.1)
-
 -- the lists have what was read of each
 pub are_read : (image : Image) (plan : PlanValue) (judged : List RunWithStatus) (runs : Runs) (states : List RunState) →
     runs ≡ map (λ one. one.run) judged → states ≡ map (λ one. one.state) judged →
@@ -40,14 +23,15 @@ are_read image plan judged runs states runs_are states_are all =
     (rw states_are
     (record {
       same = length-map judged (λ one. one.state) ∙ sym (length-map judged (λ one. one.run));
-      each = zip_parts (IsRunWithStatus image plan) (HasRunIn image plan) (λ one. one.run) (λ one. one.state) (λ l one is. is.run) plan.runs judged all;
+      each = AllZip-zip_of_maps (IsRunWithStatus image plan) (HasRunIn image plan) (λ one. one.run) (λ one. one.state) (λ l one is. is.run) plan.runs judged all;
     }))
 
+-- the statuses of runs that were judged
 pub have_statuses : (image : Image) (plan : PlanValue) (judged : List RunWithStatus) (statuses : List Status) →
     statuses ≡ map (λ one. one.status) judged → AllZip (IsRunWithStatus image plan) plan.runs judged →
     AreRunStatuses image plan statuses
 have_statuses image plan judged statuses are all =
-    rw are (zip_part (IsRunWithStatus image plan) (HasStatusIn image plan) (λ one. one.status) (λ l one is. is.status) plan.runs judged all)
+    rw are (AllZip-map_seconds (IsRunWithStatus image plan) (HasStatusIn image plan) (λ one. one.status) (λ l one is. is.status) plan.runs judged all)
 
 -- there are as many as the plan names
 pub as_many : (image : Image) (plan : PlanValue) (r : ReadRunsValue) → AreReadRuns image plan r → length r.runs ≡ length plan.runs

@@ -11,6 +11,7 @@ use Rattle.scrub_check.specs.declared.named.Owner.TheVariants.{Run, Shard}
 use Rattle.scrub_check.specs.declared.named.Named.{Named}
 use Rattle.scrub_check.specs.Named.{named_by_runs, named_by_shard}
 
+-- a locator of a run, by the run's number
 abbrev pub run_named : ℕ → Locator → Named
 run_named k l = record { owner = Run k; locator = l }
 
@@ -22,6 +23,7 @@ one_run_more k (x ∷ ls) l =
     ∙ ap (λ n. run_named k x ∷ (named_by_runs (k + 1) ls ++ run_named n l ∷ []))
     (let e : k + 1 + length ls ≡ k + suc (length ls) = omega arith in e)
 
+-- one more run is named
 pub runs_more : (ls : List Locator) (i : ℕ) (d : Locator) (old new : List Named) → i < length ls →
     old ≡ named_by_runs 0 (take i ls) →
     new ≡ old ++ record { owner = Run i; locator = get_or ls i d } ∷ [] → new ≡ named_by_runs 0 (take (i + 1) ls)
@@ -33,6 +35,7 @@ runs_more ls i d old new below is grown =
     ∙ sym (one_run_more 0 (take i ls) (get_or ls i d))
     ∙ ap (λ xs. named_by_runs 0 xs) (sym (take_more ls i d below))
 
+-- one more locator of a shard
 pub shard_more : (old : List Named) (id : ShardId) (ls : List Locator) (i : ℕ) (d : Locator) (named new : List Named) →
     i < length ls →
     named ≡ old ++ map (λ l. record { owner = Shard id; locator = l }) (take i ls) →
@@ -46,6 +49,7 @@ shard_more old id ls i d named new below is grown =
     ∙ ap (λ ns. old ++ ns)
     (sym (map-append name (take i ls) (get_or ls i d ∷ [])) ∙ ap (λ xs. map name xs) (sym (take_more ls i d below)))
 
+-- one more binding
 pub bindings_more : (old : List Named) (bs : List BindingValue) (i : ℕ) (d : BindingValue) (named new : List Named) →
     i < length bs →
     named ≡ old ++ flat_map named_by_shard (take i bs) → new ≡ named ++ named_by_shard (get_or bs i d) →
@@ -64,6 +68,7 @@ run_at [] rest k i d e below = absurd (omega (arith, below))
 run_at (l ∷ ls) rest k zero d e below = refl
 run_at (l ∷ ls) rest k (suc i) d e below = run_at ls rest (k + 1) i d e (omega (arith, below))
 
+-- as many names as runs are there at least
 pub runs_first : (ls : List Locator) (rest : List Named) (k : ℕ) → length ls ≤ length (named_by_runs k ls ++ rest)
 runs_first [] rest k = omega arith
 runs_first (l ∷ ls) rest k = let more = runs_first ls rest (k + 1) in omega (arith, more)

@@ -76,22 +76,22 @@ by_tests image w l Hidden h = from_chunk image w l Hidden h.0 (inl (refl, h.1))
 by_tests image w l Sound h = from_chunk image w l Sound h.0 (inr (h.1, refl))
 
 -- two statuses by one test: that of the test both, or by the tests after it
-tested : (failed s t : Status) (test P Q : Type 0) → (P → Q → s ≡ t) → Tested failed s test P → Tested failed t test Q → s ≡ t
-tested failed s t test P Q same (inl a) (inl b) = sym a.0 ∙ b.0
-tested failed s t test P Q same (inl a) (inr b) = absurd (a.1 b.0)
-tested failed s t test P Q same (inr a) (inl b) = absurd (b.1 a.0)
-tested failed s t test P Q same (inr a) (inr b) = same a.1 b.1
+same_after_test : (failed s t : Status) (test P Q : Type 0) → (P → Q → s ≡ t) → Tested failed s test P → Tested failed t test Q → s ≡ t
+same_after_test failed s t test P Q same (inl a) (inl b) = sym a.0 ∙ b.0
+same_after_test failed s t test P Q same (inl a) (inr b) = absurd (a.1 b.0)
+same_after_test failed s t test P Q same (inr a) (inl b) = absurd (b.1 a.0)
+same_after_test failed s t test P Q same (inr a) (inr b) = same a.1 b.1
 
 one_status_lem : (image : Image) (w : ℕ) (l : Locator) (s t : Status) → HasStatus image w l s → HasStatus image w l t → s ≡ t
 one_status_lem image w l s t h k =
-    tested OutOfRange s t _ _ _ (
-    tested PastPointer s t _ _ _ (
-    tested Unreadable s t _ _ _ (
-    tested NoFrame s t _ _ _ (
-    tested WrongUuid s t _ _ _ (
-    tested WrongLength s t _ _ _ (
-    tested WrongDigest s t _ _ _ (
-    tested Hidden s t _ _ _ (λ a b. sym a ∙ b)))))))) (by_tests image w l s h) (by_tests image w l t k)
+    same_after_test OutOfRange s t _ _ _ (
+    same_after_test PastPointer s t _ _ _ (
+    same_after_test Unreadable s t _ _ _ (
+    same_after_test NoFrame s t _ _ _ (
+    same_after_test WrongUuid s t _ _ _ (
+    same_after_test WrongLength s t _ _ _ (
+    same_after_test WrongDigest s t _ _ _ (
+    same_after_test Hidden s t _ _ _ (λ a b. sym a ∙ b)))))))) (by_tests image w l s h) (by_tests image w l t k)
 
 -- no status at all
 abbrev NoStatus : Image → ℕ → Locator → Type 0
@@ -161,10 +161,11 @@ by_range image l Sound h = absurd h
 
 pub one_in_retired : (image : Image) (l : Locator) → ExactlyOne (HasStatusInRetired image l)
 one_in_retired image l = record {
-  one = λ s t h k. tested OutOfRange s t _ _ _ (λ a b. sym a ∙ b) (by_range image l s h) (by_range image l t k);
+  one = λ s t h k. same_after_test OutOfRange s t _ _ _ (λ a b. sym a ∙ b) (by_range image l s h) (by_range image l t k);
   some = λ none. none OutOfRange (λ in_range. none Retired in_range);
 }
 
+-- a locator has exactly one status under a plan
 pub one_in_plan : (image : Image) (plan : PlanValue) (l : Locator) → ExactlyOne (HasStatusIn image plan l)
 one_in_plan image plan l = by (is_retired plan l.extent)
   where

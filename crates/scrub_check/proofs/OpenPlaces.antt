@@ -1,10 +1,11 @@
 -- Places that have to be read, and the locators that point to them.
-use Rattle.std.proofs.Common.{◌≡◌, ◌<◌, ℕ, zero, suc, List, [], ◌∷◌, ◌++◌, Option, Some, None, IfSome, IfNone, IfOk, Result, Ok, Err, is_some, All, set, length, get_or, arith, sym, ◌∙◌, ap, false}
+use Rattle.std.proofs.Common.{◌≡◌, ◌<◌, ℕ, List, [], ◌∷◌, ◌++◌, Option, Some, None, IfSome, IfNone, IfOk, Result, Ok, Err, is_some, All, set, length, get_or, arith, sym, ◌∙◌, ap, false}
 use Rattle.std.specs.List.{AllZip, flat_map}
 use Rattle.std.proofs.lemmas.Slice.Zip.{AllZip-long}
 use Rattle.std.proofs.lemmas.List.{get_or_default}
 use Rattle.std.proofs.lemmas.List.Elements.{All-push}
 use Rattle.std.proofs.lemmas.Option.{same_Some}
+use Rattle.list_facts.proofs.Zips.{AllZip-at, AllZip-set}
 use Rattle.scrub_disk.specs.Image.{Image}
 use Rattle.scrub_frame.specs.declared.locator.Locator.{Locator}
 use Rattle.scrub_super.specs.Plan.{PlanValue, pointer_of}
@@ -22,7 +23,7 @@ use Rattle.scrub_check.specs.steps.Places.{place_named_by}
 use Rattle.scrub_check.specs.steps.Open.{CanBeRead, IsFoundAt, IsSeenAt, IsOpen, IsOpenAt}
 use Rattle.scrub_check.specs.Named.{named_by_shard, named_locators}
 use Rattle.scrub_check.specs.Runs.{AreRunStatuses}
-use Rattle.scrub_check.proofs.CheckedLists.{known_at, zipped_at}
+use Rattle.scrub_check.proofs.CheckedLists.{known_at}
 use Rattle.scrub_check.proofs.NamedLists.{run_at}
 
 -- the place of an open locator can be read
@@ -42,6 +43,7 @@ found_at : (image : Image) (e p v w : ℕ) (found : Option Standing) → v ≡ w
 found_at image e p v w (Some s) same some none = rw same at some
 found_at image e p v w None same some none = rw same at none
 
+-- what was found at a place under the plan's pointer is seen there
 pub frame_seen : {E : Type 0} (image : Image) (plan : PlanValue) (s : ChunkAt) (v : ℕ) (r : Result (Option Standing) E) →
     pointer_of plan s.extent ≡ Some v →
     IfOk r (λ found. IfSome found (IsStandingAt image v s.extent s.offset)) →
@@ -72,15 +74,6 @@ open_more names tells i n t p os more below name_is tell_is none there grown bef
       place = λ d. there ∙ ap (λ (m : Named). place_named_by m.locator) (same d);
     }))
 
--- a status that is put to the others
-pub put_at : {A B : Type 0} (R : A → B → Type 0) (xs : List A) (ys : List B) (i : ℕ) (y : B) → ((d : A) → R (get_or xs i d) y) →
-    AllZip R xs ys → AllZip R xs (set ys i y)
-put_at R [] [] i y one all = tt
-put_at R [] (z ∷ ys) i y one all = absurd all
-put_at R (x ∷ xs) [] i y one all = absurd all
-put_at R (x ∷ xs) (z ∷ ys) zero y one all = (one x, all.1)
-put_at R (x ∷ xs) (z ∷ ys) (suc i) y one all = (all.0, put_at R xs ys i y one all.1)
-
 -- the place of one of them can be read
 pub left_can_be_read : (image : Image) (plan : PlanValue) (names : List Named) (o : OpenLocator) → plan.geometry ≡ image.geometry →
     IsOpenAt image plan names o → CanBeRead image plan o.place
@@ -96,5 +89,5 @@ run_known image plan map statuses tells i d below are known =
     let runs : i < length plan.runs = omega (arith, below, AllZip-long (HasStatusIn image plan) plan.runs statuses are) in
     let at : (n : Named) → HasStatusIn image plan (get_or (named_locators plan.runs map) i n).locator (get_or statuses i d) =
     λ n. rw (run_at plan.runs (flat_map named_by_shard map) 0 i n n.locator runs)
-    (zipped_at (HasStatusIn image plan) plan.runs statuses i n.locator d runs are) in
-    put_at (IsKnownBefore image plan) (named_locators plan.runs map) tells i (Some (get_or statuses i d)) at known
+    (AllZip-at (HasStatusIn image plan) plan.runs statuses i n.locator d runs are) in
+    AllZip-set (IsKnownBefore image plan) (named_locators plan.runs map) tells i (Some (get_or statuses i d)) at known

@@ -21,7 +21,7 @@ use Rattle.scrub_check.specs.declared.lists.live_and_orphans.LiveAndOrphans.{Liv
 use Rattle.scrub_check.specs.Live.{size_of, live_bytes, has_sound_at}
 use Rattle.scrub_check.specs.Chunks.{place_of, chunks, orphans}
 use Rattle.scrub_check.specs.Candidates.{is_reclaimable, candidate_of}
-use Rattle.scrub_check.specs.steps.LocatorIndex.{reclaimable_by}
+use Rattle.scrub_check.specs.steps.LocatorIndex.{reclaimable, reclaimable_by}
 use Rattle.scrub_check.specs.steps.SoundPlaces.{AreSoundPlaces}
 use Rattle.scrub_check.specs.steps.LiveAndOrphans.{kept_of, orphans_by, AreLiveBy, AreLiveChunks, AreLiveAndOrphans}
 use Rattle.scrub_check.proofs.Reclaimable.{parted_of_live}
@@ -68,13 +68,19 @@ pub none_reclaimable : (g : Option Geometry) (checked : List Checked) → [] ≡
 none_reclaimable None checked = refl
 none_reclaimable (Some g) checked = refl
 
+-- those of some extents that may be reclaimed, and then those of others
+pub reclaimable_parts : (g : Geometry) (checked : List Checked) (fs gs : List Scanned) →
+    reclaimable g fs checked ++ reclaimable g gs checked ≡ reclaimable g (fs ++ gs) checked
+reclaimable_parts g checked fs gs =
+    sym (map-append (candidate_of checked) (filter (is_reclaimable g checked) fs) (filter (is_reclaimable g checked) gs))
+    ∙ ap (map (candidate_of checked)) (sym (filter-append (is_reclaimable g checked) fs gs))
+
 -- those of them that may be reclaimed, if that is asked for
 reclaimable_more : (g : Option Geometry) (checked : List Checked) (fs : List Scanned) (f : Scanned) →
     reclaimable_by g fs checked ++ reclaimable_by g (f ∷ []) checked ≡ reclaimable_by g (fs ++ f ∷ []) checked
 reclaimable_more None checked fs f = refl
 reclaimable_more (Some g) checked fs f =
-    sym (map-append (candidate_of checked) (filter (is_reclaimable g checked) fs) (filter (is_reclaimable g checked) (f ∷ [])))
-    ∙ ap (map (candidate_of checked)) (sym (filter-append (is_reclaimable g checked) fs (f ∷ [])))
+    reclaimable_parts g checked fs (f ∷ [])
 
 -- what is known of one more extent
 pub parted_more : (g : Option Geometry) (checked : List Checked) (starts : List ChunkAt) (fs : List Scanned) (f : Scanned) (e : ℕ) (items : List Item) (live : LiveChunks) (old new : LiveAndOrphans) →

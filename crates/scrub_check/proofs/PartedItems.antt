@@ -6,10 +6,12 @@ use Rattle.std.proofs.lemmas.List.{map-append, append-nil, length-map, get_or-ma
 use Rattle.std.proofs.lemmas.List.Elements.{filter-append, filter_map-append}
 use Rattle.std.proofs.lemmas.List.Sums.{sum_by-append, sum_by-cons, sum_by-take-le}
 use Rattle.std.proofs.lemmas.Option.{same_Some}
+use Rattle.list_facts.proofs.Counts.{sum_by-filter-le}
 use Rattle.scrub_scan.specs.declared.item.Item.{Item}
 use Rattle.scrub_scan.specs.declared.item.Item.TheVariants.{Chunk, Pad, Torn, Noise, Lost}
 use Rattle.scrub_scan.specs.Item.{start_of}
 use Rattle.scrub_check.specs.declared.lists.cursor.Cursor.{Cursor}
+use Rattle.scrub_check.specs.declared.lists.kept_chunk.KeptChunk.{KeptChunk}
 use Rattle.scrub_check.specs.declared.lists.place.Place.{Place}
 use Rattle.scrub_check.specs.declared.places.chunk_at.ChunkAt.{ChunkAt}
 use Rattle.scrub_check.specs.declared.lists.live_and_orphans.LiveChunks.{LiveChunks}
@@ -18,7 +20,6 @@ use Rattle.scrub_check.specs.Chunks.{place_of}
 use Rattle.scrub_check.specs.steps.Places.{is_place}
 use Rattle.scrub_check.specs.steps.SoundPlaces.{is_live_by, is_named_by}
 use Rattle.scrub_check.specs.steps.LiveAndOrphans.{HasPassed, live_by, orphans_by, kept_of, AreLiveBy}
-use Rattle.scrub_check.proofs.Sizes.{sum_of_kept}
 use Rattle.scrub_check.proofs.PartedPlaces.{passed_further}
 
 -- a chunk is live or an orphan, by whether it is named
@@ -71,6 +72,32 @@ other_more starts e items item old new known live bytes kept =
       kept = kept ∙ known.kept ∙ ap (map kept_of) (sym grown);
     }
 
+-- the bytes of the chunks to keep are the sizes of their items
+kept_sizes : (items : List Item) → sum_by (λ (k : KeptChunk). k.bytes) (map kept_of items) ≡ sum_by size_of items
+kept_sizes [] = refl
+kept_sizes (i ∷ is) =
+    sum_by-cons (λ (k : KeptChunk). k.bytes) (kept_of i) (map kept_of is)
+    ∙ ap (λ (n : ℕ). size_of i + n) (kept_sizes is)
+    ∙ sym (sum_by-cons size_of i is)
+
+-- so the bytes of these chunks say what the live ones take
+pub live_from_kept : (starts : List ChunkAt) (e : ℕ) (items : List Item) (live : LiveChunks) →
+    live.bytes ≡ sum_by (λ (k : KeptChunk). k.bytes) live.kept.items → live.kept.items ≡ map kept_of (live_by starts e items) →
+    AreLiveBy starts e items live
+live_from_kept starts e items live bytes kept = record {
+  sizes = bytes ∙ ap (sum_by (λ (k : KeptChunk). k.bytes)) kept ∙ kept_sizes (live_by starts e items);
+  kept = kept;
+}
+
+-- and 32 bits count them, as they count what all items take
+pub kept_fit : (starts : List ChunkAt) (e : ℕ) (items : List Item) (kept : List KeptChunk) →
+    kept ≡ map kept_of (live_by starts e items) → sum_by size_of items < 2 ^ 32 →
+    sum_by (λ (k : KeptChunk). k.bytes) kept < 2 ^ 32
+kept_fit starts e items kept are few =
+    let size : sum_by (λ (k : KeptChunk). k.bytes) kept ≡ sum_by size_of (live_by starts e items) =
+    ap (sum_by (λ (k : KeptChunk). k.bytes)) are ∙ kept_sizes (live_by starts e items) in
+    omega (arith, size, sum_by-filter-le size_of (is_live_by starts e) items, few)
+
 -- the next item's bytes fit, as those of all items do
 pub fits_next : (starts : List ChunkAt) (e : ℕ) (items : List Item) (i : ℕ) (d item : Item) (live : LiveChunks) →
     i < length items → item ≡ get_or items i d → AreLiveBy starts e (take i items) live →
@@ -84,7 +111,7 @@ fits_next starts e items i d item live inside is known few =
     sum_by-cons size_of (get_or items i d) [] in
     let all : sum_by size_of (take (i + 1) items) ≤ sum_by size_of items = sum_by-take-le size_of items (i + 1) in
     let kept : sum_by size_of (live_by starts e (take i items)) ≤ sum_by size_of (take i items) =
-    sum_of_kept size_of (is_live_by starts e) (take i items) in
+    sum_by-filter-le size_of (is_live_by starts e) (take i items) in
     let size : size_of item ≡ size_of (get_or items i d) = ap size_of is in
     omega (arith, next, both, one, all, kept, size, known.sizes, few)
 
@@ -93,12 +120,14 @@ pub record HasPassedTo (c : Cursor) (e : ℕ) (items : List Item) (i : ℕ) : Ty
   pub next : i < length items → HasPassed c e (get_or (map start_of items) i 0)
   pub end : HasPassed c (e + 1) 0
 
+-- before the first item
 pub passed_first : (c : Cursor) (e : ℕ) (items : List Item) → HasPassed c e 0 → HasPassedTo c e items 0
 passed_first c e items h = record {
   next = λ inside. passed_further c e 0 e (get_or (map start_of items) 0 0) h (omega arith) (λ same. omega arith);
   end = passed_further c e 0 (e + 1) 0 h (omega arith) (λ same. omega arith);
 }
 
+-- and behind the i-th one
 pub passed_next : (c : Cursor) (e : ℕ) (items : List Item) (i : ℕ) (d item : Item) → IsStrictlyIncreasing (map start_of items) →
     i < length items → item ≡ get_or items i d →
     HasPassed c e (start_of item) → HasPassedTo c e items (i + 1)

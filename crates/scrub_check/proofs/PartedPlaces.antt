@@ -6,11 +6,11 @@ use Rattle.std.specs.List.{count_by}
 use Rattle.std.specs.List.Sorted.{IsSorted}
 use Rattle.std.proofs.lemmas.Bool.{true≢false, cases_eq, false_from_ne_true, ltb-true}
 use Rattle.std.proofs.lemmas.List.{get_or_default}
+use Rattle.list_facts.proofs.Sorted.{rises_against}
 use Rattle.scrub_check.specs.declared.lists.cursor.Cursor.{Cursor}
 use Rattle.scrub_check.specs.declared.places.chunk_at.ChunkAt.{ChunkAt}
 use Rattle.scrub_check.specs.steps.Places.{chunk_at_cmp, is_place}
 use Rattle.scrub_check.specs.steps.LiveAndOrphans.{LiesBefore, AreBefore, IsFirstFrom, HasPassed}
-use Rattle.scrub_check.proofs.Counts.{rises_against}
 use Rattle.scrub_check.proofs.SortedPlaces.{place_total, found_counts}
 
 -- a place that is below another lies before its byte, and the other way round
@@ -43,6 +43,7 @@ before_less a b p q low inner = by (nat_cmp a b) (nat_cmp p q) refl refl
         absurd (omega (arith, gt, lt))
     by Greater o x y = let gt : b < a = ranked a b Greater x in absurd (omega (arith, gt, low))
 
+-- a place that compares as less lies before
 pub less_lies_before : (t s : ChunkAt) → is_lt (chunk_at_cmp t s) ≡ true → LiesBefore s.extent s.offset t
 less_lies_before t s less = less_before t.extent s.extent t.offset s.offset less
 

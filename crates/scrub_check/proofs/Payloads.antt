@@ -120,6 +120,7 @@ known image plan l (Some entries) NotARun n h = absurd h
 known image plan l None Read n h = absurd h
 known image plan l None (BadChunk s) n h = absurd h
 
+-- what was read of a chunk that is there is the run in it
 pub read_in : (image : Image) (plan : PlanValue) (l : Locator) (s : Status) (run : Option (List EntryValue)) (state : RunState) →
     (s ≡ Sound) ⊎ (s ≡ Hidden) → HasStatusIn image plan l s → IsStateOf image l run state → HasRunIn image plan l run state
 read_in image plan l s run state is h t = known image plan l run state (names_in image plan l s is h) t

@@ -2,10 +2,10 @@
 use Rattle.std.proofs.Common.{◌≡◌, ◌<◌, ◌≤◌, ◌+◌, ◌-◌, ℕ, List, Some, false, not, arith, ◌∙◌, ap}
 use Rattle.std.specs.List.{Contains, range_with_len}
 use Rattle.std.proofs.lemmas.List.FromFn.{get_or-range_with_len, length-range_with_len}
+use Rattle.list_facts.proofs.Elements.{Contains-filter}
 use Rattle.scrub_disk.specs.Image.{Image, unreadable_pages}
 use Rattle.scrub_super.specs.Planned.{is_in_use}
 use Rattle.scrub_super.specs.Plan.{PlanValue, pointer_of}
-use Rattle.scrub_frame.proofs.Elements.{Contains-filter}
 use Rattle.scrub_scan.specs.declared.findings.Findings.{Findings}
 use Rattle.scrub_scan.specs.Scanned.{Scanned}
 use Rattle.scrub_scan.proofs.Entries.{findings_facts}

@@ -1,11 +1,11 @@
 -- The named locators with their statuses, as they are named once more, one binding after the other.
-use Rattle.std.proofs.Common.{◌≡◌, ◌<◌, ◌≤◌, ◌+◌, ℕ, suc, List, [], ◌∷◌, ◌++◌, Option, length, take, drop, get_or, arith, refl, sym, ◌∙◌, ap, append_assoc}
+use Rattle.std.proofs.Common.{◌≡◌, ◌<◌, ◌+◌, ℕ, suc, List, [], ◌∷◌, ◌++◌, Option, length, take, drop, get_or, arith, refl, sym, ◌∙◌, ap, append_assoc}
 use Rattle.std.specs.List.{AllZip, flat_map}
 use Rattle.std.proofs.Math.Seq.{split_at}
 use Rattle.std.proofs.lemmas.List.{get_or-append-add, get_or_append_left, length-append, length-take-le, take_more}
 use Rattle.std.proofs.lemmas.Grind.{flat_map-append}
 use Rattle.std.proofs.lemmas.Slice.Zip.{AllZip-long}
-use Rattle.rayon.proofs.ListFacts.{AllZip-append}
+use Rattle.list_facts.proofs.Zips.{AllZip-append}
 use Rattle.scrub_disk.specs.Image.{Image}
 use Rattle.scrub_super.specs.Plan.{PlanValue}
 use Rattle.scrub_frame.specs.declared.locator.Locator.{Locator}
@@ -64,9 +64,11 @@ module _ (image : Image) (plan : PlanValue) (before named later : List Named) (t
 abbrev pub named_first : List Locator → List BindingValue → ℕ → List Named
 named_first runs bindings k = named_by_runs 0 runs ++ flat_map named_by_shard (take k bindings)
 
+-- what the other bindings name
 abbrev pub named_later : List BindingValue → ℕ → List Named
 named_later bindings k = flat_map named_by_shard (drop (suc k) bindings)
 
+-- the names, parted at one binding
 pub at_binding : (runs : List Locator) (bindings : List BindingValue) (k : ℕ) (b : BindingValue) → k < length bindings → b ≡ get_or bindings k b →
     named_locators runs bindings ≡ named_first runs bindings k ++ (named_by_shard b ++ named_later bindings k)
 at_binding runs bindings k b below is =

@@ -1,5 +1,6 @@
 -- Which statuses say that the chunk that a locator names is there.
-use Rattle.std.proofs.Common.{◌≡◌, ◌⊎◌, inl, inr, ℕ, Bool, true, false, List, MatchBool, MatchOption, length, ◌∙◌, ap, refl}
+use Rattle.std.proofs.Common.{ap, Bool, false, inl, inr, length, List, MatchBool, MatchOption, refl, true, ℕ, ◌∙◌, ◌≡◌, ◌⊎◌}
+use Rattle.std.proofs.lemmas.Bool.{false≢true}
 use Rattle.scrub_disk.specs.Image.{Image}
 use Rattle.scrub_frame.specs.declared.locator.Locator.{Locator}
 use Rattle.scrub_super.specs.Plan.{PlanValue, pointer_of}
@@ -8,13 +9,29 @@ use Rattle.scrub_scan.specs.Extent.{extent_of}
 use Rattle.scrub_scan.specs.steps.OneFrame.{one_frame_at}
 use Rattle.scrub_check.specs.declared.statuses.status.Status.{Status}
 use Rattle.scrub_check.specs.declared.statuses.status.Status.TheVariants.{OutOfRange, Retired, PastPointer, Unreadable, NoFrame, WrongUuid, WrongLength, WrongDigest, Hidden, Sound}
+use Rattle.scrub_check.specs.Checked.{is_sound}
 use Rattle.scrub_check.specs.Status.{NamesChunk, HasStatus, HasStatusInRetired, HasStatusIn, is_retired}
 
+-- the status for which the test holds
+pub Sound_from_is_sound : (s : Status) → is_sound s ≡ true → s ≡ Sound
+Sound_from_is_sound Sound e = refl
+Sound_from_is_sound OutOfRange e = absurd (false≢true e)
+Sound_from_is_sound Retired e = absurd (false≢true e)
+Sound_from_is_sound PastPointer e = absurd (false≢true e)
+Sound_from_is_sound Unreadable e = absurd (false≢true e)
+Sound_from_is_sound NoFrame e = absurd (false≢true e)
+Sound_from_is_sound WrongUuid e = absurd (false≢true e)
+Sound_from_is_sound WrongLength e = absurd (false≢true e)
+Sound_from_is_sound WrongDigest e = absurd (false≢true e)
+Sound_from_is_sound Hidden e = absurd (false≢true e)
+
+-- a sound or hidden locator names a chunk
 pub named : (image : Image) (w : ℕ) (l : Locator) (s : Status) → (s ≡ Sound) ⊎ (s ≡ Hidden) → HasStatus image w l s →
     NamesChunk image w l
 named image w l s (inl e) h = (rw e at h).0
 named image w l s (inr e) h = (rw e at h).0
 
+-- any other names none
 pub unnamed : (image : Image) (w : ℕ) (l : Locator) (s : Status) → ¬ (s ≡ Sound) → ¬ (s ≡ Hidden) → HasStatus image w l s →
     ¬ NamesChunk image w l
 unnamed image w l OutOfRange a b h n = h n.found.can.in_range

@@ -1,8 +1,8 @@
 -- What was read of an index run, with what became of it, says of each alone what is said of it, and nothing else.
-use Rattle.std.proofs.Common.{◌≡◌, ℕ, Bool, true, false, List, [], ◌∷◌, Option, Some, None, MatchBool, MatchOption, length, arith, refl, sym, ◌∙◌, ap, subst}
-use Rattle.std.specs.List.{AllZip, zip}
+use Rattle.std.proofs.Common.{◌≡◌, ℕ, Bool, true, false, List, Option, Some, None, MatchBool, MatchOption, refl, sym, ◌∙◌, ap, subst}
 use Rattle.std.proofs.lemmas.Option.{none-some, same_Some}
 use Rattle.std.proofs.lemmas.Slice.Zip.{AllZip-long}
+use Rattle.list_facts.proofs.Zips.{AllZip-unzip, AllZip-zip}
 use Rattle.scrub_disk.specs.Image.{Image}
 use Rattle.scrub_frame.specs.declared.locator.Locator.{Locator}
 use Rattle.scrub_super.specs.Plan.{PlanValue, pointer_of}
@@ -105,42 +105,19 @@ module _ (image : Image) (plan : PlanValue) (l : Locator) where
 
 -- ---- of lists
 
--- what is said of each place of three lists, in two parts
-parts : {A B C : Type 0} (R : A → B → C → Type 0) (S : A → B → Type 0) (T : A → C → Type 0) →
-    ((a : A) (b : B) (c : C) → R a b c → S a b × T a c) → (xs : List A) (ys : List B) (zs : List C) → length zs ≡ length ys →
-    AllZip (λ x p. R x p.0 p.1) xs (zip ys zs) → AllZip S xs ys × AllZip T xs zs
-parts R S T says [] [] [] same each = (tt, tt)
-parts R S T says [] [] (z ∷ zs) same each = absurd (omega (arith, same))
-parts R S T says [] (y ∷ ys) [] same each = absurd (omega (arith, same))
-parts R S T says [] (y ∷ ys) (z ∷ zs) same each = absurd each
-parts R S T says (x ∷ xs) [] zs same each = absurd each
-parts R S T says (x ∷ xs) (y ∷ ys) [] same each = absurd each
-parts R S T says (x ∷ xs) (y ∷ ys) (z ∷ zs) same each =
-    let first = says x y z each.0 in
-    let rest = parts R S T says xs ys zs (omega (arith, same)) each.1 in
-    ((first.0, rest.0), (first.1, rest.1))
-
-whole : {A B C : Type 0} (R : A → B → C → Type 0) (S : A → B → Type 0) (T : A → C → Type 0) →
-    ((a : A) (b : B) (c : C) → S a b → T a c → R a b c) → (xs : List A) (ys : List B) (zs : List C) →
-    AllZip S xs ys → AllZip T xs zs → AllZip (λ x p. R x p.0 p.1) xs (zip ys zs)
-whole R S T says [] [] [] s t = tt
-whole R S T says [] [] (z ∷ zs) s t = absurd t
-whole R S T says [] (y ∷ ys) zs s t = absurd s
-whole R S T says (x ∷ xs) [] zs s t = absurd s
-whole R S T says (x ∷ xs) (y ∷ ys) [] s t = absurd t
-whole R S T says (x ∷ xs) (y ∷ ys) (z ∷ zs) s t = (says x y z s.0 t.0, whole R S T says xs ys zs s.1 t.1)
-
+-- what is said of runs together is said of each list
 pub apart : (image : Image) (plan : PlanValue) (r : ReadRunsValue) → AreReadRuns image plan r → AreReadApart image plan r
 apart image plan r x =
     let both =
-    parts (HasRunIn image plan) (IsRunIn image plan) (HasRunStateIn image plan)
+    AllZip-unzip (HasRunIn image plan) (IsRunIn image plan) (HasRunStateIn image plan)
     (λ l run state h. (run_alone image plan l run state h, state_alone image plan l run state h)) plan.runs r.runs r.states x.same x.each in
     record { runs = both.0; states = both.1 }
 
+-- and the other way round
 pub read_runs_of : (image : Image) (plan : PlanValue) (r : ReadRunsValue) → AreReadApart image plan r → AreReadRuns image plan r
 read_runs_of image plan r x = record {
   same =
       AllZip-long (HasRunStateIn image plan) plan.runs r.states x.states
       ∙ sym (AllZip-long (IsRunIn image plan) plan.runs r.runs x.runs);
-  each = whole (HasRunIn image plan) (IsRunIn image plan) (HasRunStateIn image plan) (together image plan) plan.runs r.runs r.states x.runs x.states;
+  each = AllZip-zip (HasRunIn image plan) (IsRunIn image plan) (HasRunStateIn image plan) (together image plan) plan.runs r.runs r.states x.runs x.states;
 }

@@ -23,6 +23,7 @@ PartedAt pages first i = IsPartitionPoint (λ p. nat_lt p first ≡ true) (λ p.
 abbrev pub LiesBetween : List ℕ → ℕ → ℕ → Type 0
 LiesBetween pages first last = (q : ℕ) × Contains pages q × (first ≤ q) × (q ≤ last)
 
+-- if one lies between, so does the next one
 pub page_between : (pages : List ℕ) (i first last : ℕ) → IsStrictlyIncreasing pages → PartedAt pages first i →
     LiesBetween pages first last → (i < length pages) × (get_or pages i 0 ≤ last)
 page_between pages i first last rising point (q, there, low, high) =
@@ -41,6 +42,7 @@ page_between pages i first last rising point (q, there, low, high) =
       ]
     ]
 
+-- if the next one does, one lies between
 pub between_page : (pages : List ℕ) (i first last : ℕ) → PartedAt pages first i → i < length pages → get_or pages i 0 ≤ last →
     LiesBetween pages first last
 between_page pages i first last point below high = (

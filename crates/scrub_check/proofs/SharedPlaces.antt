@@ -1,17 +1,18 @@
 -- Places that several sound locators point to, found among the sorted ones.
-use Rattle.std.proofs.Common.{◌≡◌, ◌<◌, ◌≤◌, Bool, List, [], ◌∷◌, map, nat_lt, arith, refl, sym, ◌∙◌, ap, Ordering, Less}
+use Rattle.std.proofs.Common.{◌≡◌, ◌<◌, ◌≤◌, Bool, List, [], map, nat_lt, arith, refl, sym, ◌∙◌, Ordering}
 use Rattle.std.specs.Cmp.{IsTotalOrder, nat_cmp_total}
 use Rattle.std.specs.Ordering.{nat_cmp, ordering_then}
 use Rattle.std.specs.List.{All, Contains, count_by}
 use Rattle.std.specs.List.Sorted.{IsStrictlySortedBy}
 use Rattle.std.proofs.lemmas.Bool.{lt-ltb, ltb-true}
 use Rattle.std.proofs.lemmas.Cmp.{then_total, on_total}
-use Rattle.std.proofs.lemmas.List.{get_or-map, length-map}
-use Rattle.std.proofs.lemmas.List.Elements.{All-contains, All-filter, All-from_recursion, All-map, filter_passes, recursion_from_All}
+use Rattle.std.proofs.lemmas.List.Elements.{All-contains, All-filter, All-map, filter_passes}
 use Rattle.std.proofs.lemmas.List.Folds.{Any-from_list_any}
 use Rattle.std.proofs.lemmas.List.Kept.{IsStrictlySortedBy-filter}
 use Rattle.std.proofs.lemmas.Map.Views.{tells_apart}
-use Rattle.scrub_frame.proofs.Elements.{Contains-filter}
+use Rattle.list_facts.proofs.Counts.{any_counts}
+use Rattle.list_facts.proofs.Elements.{Contains-filter, Contains-map}
+use Rattle.list_facts.proofs.Sorted.{IsStrictlySortedBy-map, once_at_most}
 use Rattle.scrub_check.specs.declared.lists.place.SharedPlace.{SharedPlace}
 use Rattle.scrub_check.specs.declared.statuses.checked.Checked.{Checked}
 use Rattle.scrub_check.specs.declared.places.chunk_at.ChunkAt.{ChunkAt}
@@ -20,8 +21,6 @@ use Rattle.scrub_check.specs.Live.{sound_at}
 use Rattle.scrub_check.specs.Shared.{AreShared}
 use Rattle.scrub_check.specs.steps.Places.{chunk_at_cmp, is_place}
 use Rattle.scrub_check.specs.steps.SoundPlaces.{AreSoundPlaces, place_counted, shared_by}
-use Rattle.scrub_check.proofs.Counts.{any_counts}
-use Rattle.scrub_check.proofs.Rising.{once_at_most}
 use Rattle.scrub_check.proofs.SortedPlaces.{place_total, place_exact}
 
 -- two or more sound locators point to the place, and so many as it says
@@ -32,24 +31,9 @@ IsShared checked s = (s.count ≡ sound_at checked s.extent s.offset) × (2 ≤ 
 abbrev pub by_place : SharedPlace → SharedPlace → Ordering
 by_place a b = ordering_then (nat_cmp a.extent b.extent) (nat_cmp a.offset b.offset)
 
+-- it is a total order
 pub by_place_total : IsTotalOrder by_place
 by_place_total = then_total (on_total (λ p. p.extent) nat_cmp_total) (on_total (λ p. p.offset) nat_cmp_total)
-
--- what ascends still does once each element is mapped to one that is ordered alike
-rising_map : {X Y : Type 0} (R : X → X → Ordering) (S : Y → Y → Ordering) (f : X → Y) (xs : List X) →
-    ((x y : X) → S (f x) (f y) ≡ R x y) → IsStrictlySortedBy R xs → IsStrictlySortedBy S (map f xs)
-unfolding IsStrictlySortedBy
-rising_map R S f [] alike rising = tt
-rising_map R S f (x ∷ xs) alike rising =
-    let below : All (λ y. S (f x) (f y) ≡ Less) xs =
-    λ k d lt. alike x _ ∙ All-from_recursion (λ y. R x y ≡ Less) xs rising.0 k d lt in (
-      recursion_from_All (λ y. S (f x) y ≡ Less) (map f xs) (All-map (λ y. S (f x) y ≡ Less) f xs below),
-      rising_map R S f xs alike rising.1,
-    )
-
--- an element is among what is mapped as what it is mapped to
-mapped_there : {X Y : Type 0} (f : X → Y) (xs : List X) (x : X) → Contains xs x → Contains (map f xs) (f x)
-mapped_there f xs x (i, inside, is) = (i, omega (arith, inside, length-map xs f), get_or-map f xs i x (f x) inside ∙ ap f is)
 
 -- a place that is counted is there
 counted_there : (starts : List ChunkAt) (s : ChunkAt) → 0 < count_by (is_place s) starts → Contains starts s
@@ -65,7 +49,7 @@ pub shared_found : (checked : List Checked) (starts once : List ChunkAt) (places
 shared_found checked starts once places are distinct is = rw is (record {
   rising =
       IsStrictlySortedBy-filter by_place several (map (place_counted starts) once)
-      (rising_map chunk_at_cmp by_place (place_counted starts) once (λ s t. refl) distinct.rising);
+      (IsStrictlySortedBy-map chunk_at_cmp by_place (place_counted starts) once (λ s t. refl) distinct.rising);
   exact = λ s. (
     λ among. All-contains (IsShared checked) (shared_by starts once) s each among,
     λ shared.
@@ -100,7 +84,7 @@ shared_found checked starts once places are distinct is = rw is (record {
           offset = s.offset;
           count = so_often i;
         } in
-        rw itself at (mapped_there (place_counted starts) once start among)
+        rw itself at (Contains-map (place_counted starts) once start among)
 
 no_places : IsStrictlySortedBy by_place []
 unfolding IsStrictlySortedBy

@@ -1,8 +1,9 @@
 -- How many bytes the items of a tiling take: what was written, and those of them that pass a test no more than that.
-use Rattle.std.proofs.Common.{◌≡◌, ◌<◌, ◌≤◌, ◌+◌, ◌^◌, ℕ, Bool, true, false, cond, List, [], ◌∷◌, arith, ◌==◌, Option, Some, None, refl, ◌∙◌, ap}
-use Rattle.std.specs.List.{filter, sum_by, All, Contains}
+use Rattle.std.proofs.Common.{◌≡◌, ◌<◌, ◌+◌, ◌^◌, ℕ, List, [], ◌∷◌, arith, ◌==◌, Option, Some, None, refl, ◌∙◌, ap}
+use Rattle.std.specs.List.{sum_by, All, Contains}
 use Rattle.std.proofs.lemmas.List.Sums.{sum_by-cons}
 use Rattle.std.proofs.lemmas.List.Elements.{All-head, All-tail}
+use Rattle.list_facts.proofs.Searches.{find_passes}
 use Rattle.scrub_scan.specs.declared.item.Item.{Item}
 use Rattle.scrub_disk.specs.Image.{Image}
 use Rattle.scrub_scan.specs.declared.findings.Findings.{Findings}
@@ -16,7 +17,7 @@ use Rattle.std.proofs.lemmas.Bool.Decides.{nat_tests}
 use Rattle.std.proofs.lemmas.List.{get_or-map, length-map}
 use Rattle.scrub_scan.specs.Scanned.{Scanned}
 use Rattle.scrub_scan.specs.AllFindings.{extent_numbers, entry_of}
-use Rattle.scrub_scan.proofs.Entries.{find_passes}
+pub use Rattle.list_facts.proofs.Counts.{sum_by-filter-le as sum_of_kept}
 
 -- items that join from one place to the pointer take what lies between
 joined_sizes : (x : Extent) (a : ℕ) (items : List Item) → 0 < x.page → Joins a x.pointer items → All (IsItem x) items →
@@ -47,16 +48,6 @@ pub sizes_fit : (image : Image) (e w : ℕ) (found : Findings) (items : List Ite
 sizes_fit image e w found items pointer h shown at below =
     let sizes : sum_by size_of items ≡ w = ap (sum_by size_of) shown ∙ sizes_found image e w found h in
     omega (arith, sizes, at, below)
-
--- what passes a test sums to no more
-pub sum_of_kept : {X : Type 0} (f : X → ℕ) (p : X → Bool) (xs : List X) → sum_by f (filter p xs) ≤ sum_by f xs
-sum_of_kept f p [] = omega arith
-sum_of_kept f p (x ∷ xs) = by (p x) (sum_of_kept f p xs)
-  where
-    by : (b : Bool) → sum_by f (filter p xs) ≤ sum_by f xs →
-        sum_by f (cond b (x ∷ filter p xs) (filter p xs)) ≤ sum_by f (x ∷ xs)
-    by true less = omega (arith, sum_by-cons f x (filter p xs), sum_by-cons f x xs, less)
-    by false less = omega (arith, sum_by-cons f x xs, less)
 
 -- what wasn't scanned isn't found
 pub not_scanned : (all : List Scanned) (e : ℕ) → ¬ Contains (extent_numbers all) e → entry_of all e ≡ None

@@ -1,17 +1,19 @@
 -- Searches and counts among sorted places, and what they say of the sound locators.
-use Rattle.std.proofs.Common.{◌≡◌, ◌+◌, ◌&&◌, ◌==◌, ℕ, Bool, true, false, not, cond, List, [], ◌∷◌, length, map, arith, refl, sym, ◌∙◌, ap, inl, inr, nat_lt, Result, Ok, Err, is_ok, Ordering, Less, Equal, Greater, nat_cmp, is_eq}
+use Rattle.std.proofs.Common.{◌≡◌, ◌+◌, ◌&&◌, ◌==◌, ℕ, Bool, true, false, not, cond, List, [], ◌∷◌, length, map, arith, refl, sym, ◌∙◌, ap, inl, inr, nat_lt, Result, Ok, Err, is_ok, nat_cmp, is_eq}
 use Rattle.std.proofs.Math.Path.{ap₂}
-use Rattle.std.specs.Ordering.{ordering_then, eq_by_cmp}
+use Rattle.std.specs.Ordering.{eq_by_cmp}
 use Rattle.std.specs.Cmp.{IsTotalOrder, nat_cmp_total}
 use Rattle.std.specs.List.{filter, count_by}
 use Rattle.std.specs.List.Sorted.{IsPermutation, IsSorted, IsSearchInRange, IsBinarySearchResult}
 use Rattle.std.proofs.lemmas.Cmp.{then_total, on_total}
 use Rattle.std.proofs.lemmas.Bool.{and_parts, cases_lt}
-use Rattle.std.proofs.lemmas.Grind.{common_steps}
 use Rattle.std.proofs.lemmas.Map.Lookups.{CmpEqualImpliesEq, exact_unsigned}
 use Rattle.std.proofs.lemmas.Map.Views.{tells_apart}
 use Rattle.std.proofs.lemmas.List.Sums.{sum_by-cons}
 use Rattle.std.proofs.lemmas.List.Sorted.{sum_by-IsPermutation}
+use Rattle.list_facts.proofs.Counts.{any_at, any_counts, count_between, count_out}
+use Rattle.list_facts.proofs.Orders.{is_eq-nat_cmp, is_eq-ordering_then}
+use Rattle.list_facts.proofs.Sorted.{rises_against}
 use Rattle.scrub_check.specs.declared.lists.place.Place.{Place}
 use Rattle.scrub_check.specs.declared.statuses.checked.Checked.{Checked}
 use Rattle.scrub_check.specs.declared.places.chunk_at.ChunkAt.{ChunkAt}
@@ -21,26 +23,18 @@ use Rattle.scrub_scan.specs.Item.{start_of}
 use Rattle.scrub_check.specs.Live.{sound_at, has_sound_at, is_chunk}
 use Rattle.scrub_check.specs.steps.Places.{chunk_at_cmp, is_place}
 use Rattle.scrub_check.specs.steps.SoundPlaces.{is_sound_at, is_live, place_of_checked, sound_places, AreSoundPlaces, is_live_by, is_named_by}
-use Rattle.scrub_check.proofs.Counts.{count_out, count_between, any_counts, any_at, rises_against}
+pub use Rattle.list_facts.proofs.Orders.{is_eq-nat_cmp as same_number}
 
 -- places are in a total order
 pub place_total : IsTotalOrder chunk_at_cmp
 place_total = then_total (on_total (λ s. s.extent) nat_cmp_total) (on_total (λ s. s.offset) nat_cmp_total)
-
-pub same_number : (a b : ℕ) → is_eq (nat_cmp a b) ≡ (a == b)
-same_number a b = grind (arith, common_steps)
-
-pub both : (r q : Ordering) → is_eq (ordering_then r q) ≡ (is_eq r && is_eq q)
-both Less q = refl
-both Equal q = refl
-both Greater q = refl
 
 -- two places that the order makes equal are one
 pub place_exact : CmpEqualImpliesEq chunk_at_cmp
 place_exact a b e = λ i. record { extent = extent i; offset = offset i }
   where
     parts : (is_eq (nat_cmp a.extent b.extent) ≡ true) × (is_eq (nat_cmp a.offset b.offset) ≡ true)
-    parts = and_parts _ _ (sym (both (nat_cmp a.extent b.extent) (nat_cmp a.offset b.offset)) ∙ ap is_eq e)
+    parts = and_parts _ _ (sym (is_eq-ordering_then (nat_cmp a.extent b.extent) (nat_cmp a.offset b.offset)) ∙ ap is_eq e)
 
     extent : a.extent ≡ b.extent
     extent = tells_apart exact_unsigned a.extent b.extent parts.0
@@ -52,13 +46,13 @@ place_exact a b e = λ i. record { extent = extent i; offset = offset i }
 pub place_ties : (a b : ChunkAt) → ((a.extent == b.extent) && (a.offset == b.offset)) ≡ eq_by_cmp chunk_at_cmp a b
 place_ties a b =
     sym
-    (both (nat_cmp a.extent b.extent) (nat_cmp a.offset b.offset) ∙ ap₂ (λ x y. x && y) (same_number a.extent b.extent) (same_number a.offset b.offset))
+    (is_eq-ordering_then (nat_cmp a.extent b.extent) (nat_cmp a.offset b.offset) ∙ ap₂ (λ x y. x && y) (is_eq-nat_cmp a.extent b.extent) (is_eq-nat_cmp a.offset b.offset))
 
 named_there : (e p : ℕ) (c : Checked) →
     is_place (record { extent = e; offset = p }) (place_of_checked c) ≡ ((c.locator.extent == e) && (c.locator.offset == p))
 named_there e p c =
-    both (nat_cmp c.locator.extent e) (nat_cmp c.locator.offset p)
-    ∙ ap₂ (λ a b. a && b) (same_number c.locator.extent e) (same_number c.locator.offset p)
+    is_eq-ordering_then (nat_cmp c.locator.extent e) (nat_cmp c.locator.offset p)
+    ∙ ap₂ (λ a b. a && b) (is_eq-nat_cmp c.locator.extent e) (is_eq-nat_cmp c.locator.offset p)
 
 -- the sound ones
 abbrev pub sound_ones : List Checked → List Checked
@@ -119,6 +113,7 @@ pub live_found : (checked : List Checked) (starts : List ChunkAt) (e : ℕ) (ite
     is_live_by starts e item ≡ is_live checked e item
 live_found checked starts e item are = ap (λ b. is_chunk item && b) (found_sound checked starts e (start_of item) _ are refl)
 
+-- so are all live chunks of an extent
 pub live_sizes : (checked : List Checked) (starts : List ChunkAt) (e : ℕ) (items : List Item) → AreSoundPlaces checked starts →
     filter (is_live_by starts e) items ≡ filter (is_live checked e) items
 live_sizes checked starts e [] are = refl

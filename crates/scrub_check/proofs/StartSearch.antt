@@ -17,6 +17,7 @@ pub record LiesWithin (xs : List ℕ) (x low high : ℕ) : Type 0 where
 abbrev pub HalvesIn : ℕ → ℕ → ℕ → Type 0
 HalvesIn n steps width = (digits : ℕ) → n < 2 ^ digits → (left : ℕ) × (steps + left ≡ digits) × (width < 2 ^ left)
 
+-- if the middle is below x, x lies above it
 pub lies_above : (xs : List ℕ) (x low high middle : ℕ) → IsStrictlyIncreasing xs → LiesWithin xs x low high → middle < high →
     low ≤ middle → get_or xs middle 0 < x → LiesWithin xs x (middle + 1) high
 lies_above xs x low high middle rising h lt le less = record {
@@ -33,6 +34,7 @@ lies_above xs x low high middle rising h lt le less = record {
   above = h.above;
 }
 
+-- if it is above x, x lies below it
 pub lies_below : (xs : List ℕ) (x low high middle : ℕ) → IsStrictlyIncreasing xs → LiesWithin xs x low high → middle < high →
     low ≤ middle → x < get_or xs middle 0 → LiesWithin xs x low middle
 lies_below xs x low high middle rising h lt le more = record {
@@ -68,5 +70,6 @@ halves_more n steps width less h some half digits lt = go (h digits lt)
     go (zero, e, under) = absurd (omega (arith, some, under))
     go (suc left, e, under) = (left, omega (arith, e), omega (arith, half, under))
 
+-- so many steps are enough
 pub few_steps : (n steps width digits : ℕ) → HalvesIn n steps width → n < 2 ^ digits → steps ≤ digits
 few_steps n steps width digits h lt = let e = (h digits lt).1 in omega (arith, e)

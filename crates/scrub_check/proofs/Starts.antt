@@ -33,6 +33,7 @@ begins x items i p tiled below at =
     let inside : i < length (map start_of items) = omega (arith, below, length-map items start_of) in
     record { items = items; tiled = tiled; begins = (i, inside, get_or_default (map start_of items) i p 0 inside ∙ at) }
 
+-- a place at which an item begins is among their starts
 pub begins_among : (x : Extent) (items : List Item) (p : ℕ) → 0 < x.page → IsTiling x items → BeginsAt x p →
     Contains (map start_of items) p
 begins_among x items p pos tiled b = rw (one_tiling x b.items items pos b.tiled tiled) at b.begins

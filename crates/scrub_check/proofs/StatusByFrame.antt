@@ -1,5 +1,5 @@
 -- The status of a locator, from what was found at its place.
-use Rattle.std.proofs.Common.{◌≡◌, ◌<◌, ℕ, List, map, length, get_or, slice_index, false, Option, Some, None, IfSome, IfNone, inl, inr, arith, refl, sym, ◌∙◌, ap, subst}
+use Rattle.std.proofs.Common.{◌≡◌, ◌<◌, ℕ, List, map, length, get_or, slice_index, false, Option, Some, None, inl, inr, arith, refl, sym, ◌∙◌, ap, subst}
 use Rattle.std.specs.List.{Contains}
 use Rattle.std.proofs.lemmas.List.{get_or-map, length-map}
 use Rattle.std.proofs.lemmas.List.Elements.{All-get_or}
@@ -21,14 +21,6 @@ use Rattle.scrub_check.specs.steps.StatusByFrame.{IsOther, IsMismatch, Agrees, I
 use Rattle.scrub_check.specs.steps.Places.{IsIndexOf}
 use Rattle.scrub_check.specs.steps.Open.{IsFoundAt, IsOpen, IsSeenAt, IsStatusByItems, IsStatusByFindings}
 use Rattle.scrub_check.proofs.Starts.{begins, begins_among}
-
--- what a clause says of the value that there is
-pub at_some : {A : Type 0} (P : A → Type 0) (o : Option A) (x : A) → o ≡ Some x → IfSome o P → P x
-at_some P o x is h = rw is at h
-
--- and of there being none
-pub at_none : {A : Type 0} (P : Type 0) (o : Option A) → o ≡ None → IfNone o P → P
-at_none P o is h = rw is at h
 
 -- the frame that was found is at the locator's place
 finds : (image : Image) (w : ℕ) (l : Locator) (s : Standing) (u : List ℕ) → CanStand image w l →

@@ -1,20 +1,20 @@
 -- Each test of a locator is decided, so each locator has a status; and each index run that a plan names was read or lost.
-use Rattle.std.proofs.Common.{◌≡◌, ◌≢◌, ◌⊎◌, ◌<◌, ◌≤◌, ◌+◌, ◌-◌, ℕ, suc, Bool, true, false, List, [], ◌∷◌, map, zip, length, All, Contains, arith, refl, sym, ◌∙◌, ap, subst, Option, Some, None, MatchBool, MatchOption, inl, inr}
+use Rattle.std.proofs.Common.{◌≡◌, ◌≢◌, ◌⊎◌, ◌<◌, ◌≤◌, ◌+◌, ◌-◌, ℕ, suc, Bool, true, false, List, [], ◌∷◌, map, zip, length, Contains, arith, refl, sym, ◌∙◌, ap, subst, Option, Some, None, MatchBool, MatchOption, inl, inr}
 use Rattle.std.specs.List.{AllZip}
 use Rattle.std.proofs.lemmas.Bool.{false≢true}
 use Rattle.std.proofs.lemmas.List.Elements.{All-cons, All-nil}
 use Rattle.std.proofs.lemmas.Option.{none-some, same_Some}
 use Rattle.sha2.specs.Sha256.{sha256}
+use Rattle.list_facts.proofs.Decisions.{Decided, decided_at_most, decided_both, decided_less, decided_like, decided_none, decided_number, decided_numbers, some_below, some_element}
 use Rattle.scrub_disk.specs.Image.{Image, byte, extent_bytes}
 use Rattle.scrub_frame.specs.declared.form.Form.{Form}
 use Rattle.scrub_frame.specs.declared.locator.Locator.{Locator}
-use Rattle.scrub_frame.proofs.Decisions.{Decided, decided_like, decided_both, decided_less, decided_at_most, decided_number, decided_numbers, some_below, some_element}
 use Rattle.scrub_super.specs.Plan.{PlanValue, pointer_of}
 use Rattle.scrub_scan.specs.Extent.{Extent, extent_of, FrameAt, NoFrameAt, HasGap}
 use Rattle.scrub_scan.specs.declared.item.Item.{Item}
 use Rattle.scrub_scan.specs.Item.{start_of}
 use Rattle.scrub_scan.specs.Tiling.{IsTiling}
-use Rattle.scrub_scan.proofs.Existing.{decided_none, some_frame, some_tiling}
+use Rattle.scrub_scan.proofs.Existing.{some_frame, some_tiling}
 use Rattle.scrub_scan.proofs.Tilings.{one_tiling}
 use Rattle.scrub_run.specs.Entry.{EntryValue}
 use Rattle.scrub_run.specs.Run.{IsRun}
@@ -25,7 +25,7 @@ use Rattle.scrub_check.specs.declared.runs.RunState.TheVariants.{Read, BadChunk,
 use Rattle.scrub_check.specs.declared.statuses.checked.Checked.{Checked}
 use Rattle.scrub_check.specs.declared.statuses.status.Status.{Status}
 use Rattle.scrub_check.specs.declared.statuses.status.Status.TheVariants.{OutOfRange, Retired, PastPointer, Unreadable, NoFrame, WrongUuid, WrongLength, WrongDigest, Hidden, Sound}
-use Rattle.scrub_check.specs.Checked.{AreChecked, named_of}
+use Rattle.scrub_check.specs.Checked.{AreChecked}
 use Rattle.scrub_check.specs.Runs.{NamesChunkIn, HasRunIn, ReadRunsValue, AreReadRuns}
 use Rattle.scrub_check.specs.Status.{end_of, InRange, HasUnreadableByte, CanStand, FindsFrame, NamesChunk, BeginsAt, HasStatus, HasStatusInRetired, HasStatusIn, is_retired}
 use Rattle.scrub_check.proofs.RunStates.{HasStatusInUse, unnamed}
@@ -142,6 +142,7 @@ some_in_retired image l = by (decided_in_range image l)
     by (inl in_range) = (Retired, in_range)
     by (inr out) = (OutOfRange, out)
 
+-- a locator has a status
 pub some_in_plan : (image : Image) (plan : PlanValue) (l : Locator) → (s : Status) × HasStatusIn image plan l s
 some_in_plan image plan l = by (is_retired plan l.extent)
   where
@@ -196,6 +197,7 @@ runs_of image plan (l ∷ ls) =
     let rest = runs_of image plan ls in
     (first.0 ∷ rest.0, first.1 ∷ rest.1, ap suc rest.2, (first.2, rest.3))
 
+-- runs that a plan names are read or lost
 pub some_read_runs : (image : Image) (plan : PlanValue) → (r : ReadRunsValue) × AreReadRuns image plan r
 some_read_runs image plan =
     let all = runs_of image plan plan.runs in
@@ -203,6 +205,7 @@ some_read_runs image plan =
 
 -- ---- named locators
 
+-- named locators can be checked
 pub some_checked : (image : Image) (plan : PlanValue) (names : List Named) →
     (checked : List Checked) × AreChecked image plan names checked
 some_checked image plan [] =

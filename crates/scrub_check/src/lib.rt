@@ -11,13 +11,15 @@ pub mod statuses;
 pub use lists::broken::{broken_shards, each_scan_has_broken_shards, one_list_of_broken_shards};
 pub use lists::candidate::Candidate;
 pub use lists::chunks::{orphans, twins, twins_by_threads};
+pub use lists::extent_set::ExtentSet;
 pub use lists::kept_chunk::KeptChunk;
-pub use lists::live::live_bytes;
-pub use lists::liveness::{Liveness, liveness_by, liveness_of};
-pub use lists::locator_index::LocatorIndex;
+pub use lists::live::{is_chunk, live_bytes, size_of};
+pub use lists::liveness::{Liveness, liveness_by};
+pub use lists::locator_index::{LocatorIndex, barred_extents};
 pub use lists::place::{Place, SharedPlace};
 pub use lists::reclaiming::{
-    candidates, candidates_are_safe, each_scan_has_candidates, one_list_of_candidates,
+    candidates, candidates_are_safe, candidates_by, each_scan_has_candidates,
+    one_list_of_candidates,
 };
 pub use lists::shared_places::{each_scan_has_shared_places, one_list_of_shared_places, shared};
 pub use lists::spares::{Content, Spares};

@@ -2,8 +2,8 @@
 //! lists that follow from them.
 
 use scrub_check::{
-    Candidate, Checked, Place, Status, candidates, check_all, liveness_of, named_locators, orphans,
-    read_runs, status_of, twins,
+    Candidate, Checked, LocatorIndex, Place, Status, candidates, check_all, liveness_by,
+    named_locators, orphans, read_runs, status_of, twins,
 };
 use scrub_disk::MemDisk;
 use scrub_fakes::plan_of;
@@ -55,8 +55,9 @@ pub(crate) fn lists_of<R: Threads + Sync>(
     let plan = plan_of(alloc, disk)?;
     let all = scan_in_order(alloc, disk, &plan)?;
     let checked = checked_of(rt, alloc, disk)?;
+    let locators = LocatorIndex::of(alloc, &checked)?;
     Ok(Lists {
-        live: liveness_of(alloc, &plan, &all, &checked, false)?.live,
+        live: liveness_by(alloc, &plan, &all, &locators, false)?.live,
         orphans: orphans(alloc, &all, &checked)?,
         twins: twins(alloc, &all)?,
         candidates: candidates(alloc, &plan, &all, &checked, false)?,

@@ -169,8 +169,8 @@ fn check_places(rt: &impl Abort, places: &[Place], offsets: &[u32]) {
     }
 }
 
-/// Checks that there is one candidate: its extent, the bytes that it frees, the chunks that it keeps and where they
-/// begin.
+/// Checks that there is one candidate: its extent, the bytes that it frees, the chunks that it keeps and
+/// where they begin.
 fn check_candidate(
     rt: &impl Abort,
     candidates: &[Candidate],

@@ -1,15 +1,23 @@
 -- Why `compare` gives no answer, from what its parts give.
-use Rattle.std.proofs.Common.{ℕ, List, inl, inr}
+use Rattle.std.proofs.Common.{◌≡◌, ◌∙◌, ℕ, List, Option, inl, inr}
 use Rattle.scrub_disk.specs.declared.geometry.Geometry.{Geometry as Sizes}
+use Rattle.scrub_disk.specs.Image.{Image}
+use Rattle.scrub_map.specs.declared.block.MapBlock.{MapBlock}
 use Rattle.scrub_cli.specs.declared.process.fault.Fault.{Fault}
 use Rattle.scrub_args.specs.declared.args.CompareArgs.{CompareArgs}
 use Rattle.scrub_cli.specs.Compare.{IsCompareFault, IsEarlierLoaded}
-use Rattle.scrub_cli.specs.DiskImage.{AreReadBefore, IsLossesFault, IsNamedFault}
+use Rattle.scrub_cli.specs.DiskImage.{AreReadBefore, IsLoadedBy, IsLossesFault, IsRawFault}
 use Rattle.scrub_cli.specs.DiskGeometry.{IsGeometryFault}
 use Rattle.scrub_cli.specs.KnownFiles.{KnownMaps, KnownRaw}
 use Rattle.scrub_cli.specs.Manifest.{MayBeReset}
-use Rattle.scrub_cli.proofs.DiskAnswers.{of_losses_fault, of_named_fault}
+use Rattle.scrub_cli.proofs.DiskAnswers.{of_losses_fault, of_raw_fault}
+use Rattle.scrub_cli.proofs.Rescues.{lost_geometry}
 use Rattle.scrub_cli.proofs.ScanAnswers.{of_geometry_fault}
+
+-- an image that was loaded for a disk of some sizes has them
+pub loaded_sizes : {known : KnownRaw} {g : Sizes} {pages : List (ℕ × ℕ)} {blocks : Option (List MapBlock)} {image : Image} →
+    IsLoadedBy known g pages blocks image → image.geometry ≡ g
+loaded_sizes {blocks = blocks} {image} l = lost_geometry blocks l.before image l.rescued ∙ l.loaded.geometry
 
 module _ (known : List ℕ → KnownRaw) (maps : KnownMaps) (args : CompareArgs) where
   -- a fault of the sizes is one of `compare`
@@ -24,18 +32,17 @@ module _ (known : List ℕ → KnownRaw) (maps : KnownMaps) (args : CompareArgs)
     pub compare_losses_fault : (fault : Fault) → IsLossesFault maps args.before.scan.image g fault → IsCompareFault known maps args fault
     compare_losses_fault fault =
         of_losses_fault (IsCompareFault known maps args) maps args.before.scan.image g (λ arg is. (g, places, is))
-        (λ name is. inr (g, places, is)) (λ k is. inr (g, places, is)) tt fault
+        (λ name is. inr (g, places, is)) (λ k is. inr (g, places, is)) (λ name is. inl (inr (g, places, is))) tt fault
 
     -- one of the earlier image
     pub compare_before_fault : (fault : Fault) → AreReadBefore maps args.before.scan.image g →
-        IsNamedFault (known args.before.scan.image.name.now) args.before.scan.image.name g fault → IsCompareFault known maps args fault
+        IsRawFault (known args.before.scan.image.name.now) g fault → IsCompareFault known maps args fault
     compare_before_fault fault before =
-        of_named_fault (IsCompareFault known maps args) (known args.before.scan.image.name.now) args.before.scan.image.name g
-        (λ other same. inl (inr (g, places, (before, same)))) (λ long. inl (g, places, (before, long))) tt fault
+        of_raw_fault (IsCompareFault known maps args) (known args.before.scan.image.name.now) g
+        (λ long. inl (g, places, (before, long))) tt fault
 
     -- and one of the later image, if the earlier one was loaded
     pub compare_after_fault : (fault : Fault) → IsEarlierLoaded known maps args g →
-        IsNamedFault (known args.after.now) args.after g fault → IsCompareFault known maps args fault
+        IsRawFault (known args.after.now) g fault → IsCompareFault known maps args fault
     compare_after_fault fault earlier =
-        of_named_fault (IsCompareFault known maps args) (known args.after.now) args.after g (λ other same. inr (g, earlier, same))
-        (λ long. inr (g, earlier, long)) tt fault
+        of_raw_fault (IsCompareFault known maps args) (known args.after.now) g (λ long. inr (g, earlier, long)) tt fault

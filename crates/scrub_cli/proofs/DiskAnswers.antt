@@ -1,5 +1,5 @@
 -- Why no disk is loaded from an image file, or what is, from what the parts of `load_disk` give.
-use Rattle.std.proofs.Common.{◌≡◌, arith, ◌<◌, ◌≤◌, ℕ, Bool, List, length, Option, IfSome, MatchResult, Result, Ok, Err}
+use Rattle.std.proofs.Common.{◌≡◌, arith, ◌<◌, ◌≤◌, ℕ, Bool, List, length, Option, None, IfSome, MatchResult, Result, Ok, Err}
 use Rattle.std.specs.Borrow.{Bor}
 use Rattle.scrub_disk.specs.declared.geometry.Geometry.{Geometry as Sizes}
 use Rattle.scrub_disk.specs.declared.loading.LoadFault.{LoadFault}
@@ -10,10 +10,11 @@ use Rattle.scrub_disk.proofs.LostPages.{loaded_with_more}
 use Rattle.scrub_cli.specs.declared.process.fault.Fault.{Fault}
 use Rattle.scrub_cli.specs.declared.process.fault.Fault.TheVariants.{NotUtf8, Help, Args, Geometry, NoSizes, Extent, BadShard, Pointer, BadPage, NoMap, MapLine, NoImage, TooLong, NoShard, PayloadLost, Output, OutOfMemory}
 use Rattle.scrub_args.specs.declared.args.ImageArgs.{ImageArgs}
-use Rattle.scrub_cli.specs.DiskImage.{AreReadBefore, IsBadPageFault, IsDiskFault, IsLossesFault, IsNamedFault, NamePages}
+use Rattle.scrub_cli.specs.DiskImage.{AreReadBefore, IsBadPageFault, IsDiskFault, IsLossesFault, IsRawFault, NamePages}
 use Rattle.scrub_cli.specs.Fault.{fault_of_load}
 use Rattle.scrub_cli.specs.KnownFiles.{KnownMaps, KnownRaw}
-use Rattle.scrub_cli.specs.Rescue.{IsMapFault}
+use Rattle.scrub_cli.specs.Opened.{IsOpeningFault}
+use Rattle.scrub_cli.proofs.OpenedAnswers.{of_opening_fault}
 
 -- what holds for each fault that arguments for pages may have holds for the one that they have
 pub of_bad_page : (Holds : Fault → Type 0) (g : Sizes) (args : List (Bor (List ℕ))) →
@@ -37,98 +38,77 @@ of_bad_page Holds g args bad memory (PayloadLost number) is = absurd is
 of_bad_page Holds g args bad memory (Output written) is = absurd is
 of_bad_page Holds g args bad memory OutOfMemory is = memory
 
--- what holds for each fault that a map may have holds for the one that it has
-pub of_map_fault : (Holds : Fault → Type 0) (maps : KnownMaps) (named : Option (Bor (List ℕ))) →
-    ((name : Bor (List ℕ)) → IsMapFault maps named (NoMap name) → Holds (NoMap name)) →
-    ((k : ℕ) → IsMapFault maps named (MapLine k) → Holds (MapLine k)) → Holds OutOfMemory →
-    (fault : Fault) → IsMapFault maps named fault → Holds fault
-of_map_fault Holds maps named unopened line memory NotUtf8 is = absurd is
-of_map_fault Holds maps named unopened line memory (Help text) is = absurd is
-of_map_fault Holds maps named unopened line memory (Args text) is = absurd is
-of_map_fault Holds maps named unopened line memory (Geometry fault) is = absurd is
-of_map_fault Holds maps named unopened line memory NoSizes is = absurd is
-of_map_fault Holds maps named unopened line memory Extent is = absurd is
-of_map_fault Holds maps named unopened line memory (BadShard text) is = absurd is
-of_map_fault Holds maps named unopened line memory Pointer is = absurd is
-of_map_fault Holds maps named unopened line memory (BadPage arg) is = absurd is
-of_map_fault Holds maps named unopened line memory (NoMap name) is = unopened name is
-of_map_fault Holds maps named unopened line memory (MapLine k) is = line k is
-of_map_fault Holds maps named unopened line memory (NoImage name) is = absurd is
-of_map_fault Holds maps named unopened line memory TooLong is = absurd is
-of_map_fault Holds maps named unopened line memory NoShard is = absurd is
-of_map_fault Holds maps named unopened line memory (PayloadLost number) is = absurd is
-of_map_fault Holds maps named unopened line memory (Output written) is = absurd is
-of_map_fault Holds maps named unopened line memory OutOfMemory is = memory
-
 -- what holds for each fault of what is lost holds for the one that there is
 pub of_losses_fault : (Holds : Fault → Type 0) (maps : KnownMaps) (args : ImageArgs) (g : Sizes) →
     ((arg : Bor (List ℕ)) → IsLossesFault maps args g (BadPage arg) → Holds (BadPage arg)) →
     ((name : Bor (List ℕ)) → IsLossesFault maps args g (NoMap name) → Holds (NoMap name)) →
-    ((k : ℕ) → IsLossesFault maps args g (MapLine k) → Holds (MapLine k)) → Holds OutOfMemory →
+    ((k : ℕ) → IsLossesFault maps args g (MapLine k) → Holds (MapLine k)) →
+    ((name : Bor (List ℕ)) → IsLossesFault maps args g (NoImage name) → Holds (NoImage name)) → Holds OutOfMemory →
     (fault : Fault) → IsLossesFault maps args g fault → Holds fault
-of_losses_fault Holds maps args g bad unopened line memory NotUtf8 is = absurd is
-of_losses_fault Holds maps args g bad unopened line memory (Help text) is = absurd is
-of_losses_fault Holds maps args g bad unopened line memory (Args text) is = absurd is
-of_losses_fault Holds maps args g bad unopened line memory (Geometry fault) is = absurd is
-of_losses_fault Holds maps args g bad unopened line memory NoSizes is = absurd is
-of_losses_fault Holds maps args g bad unopened line memory Extent is = absurd is
-of_losses_fault Holds maps args g bad unopened line memory (BadShard text) is = absurd is
-of_losses_fault Holds maps args g bad unopened line memory Pointer is = absurd is
-of_losses_fault Holds maps args g bad unopened line memory (BadPage arg) is = bad arg is
-of_losses_fault Holds maps args g bad unopened line memory (NoMap name) is = unopened name is
-of_losses_fault Holds maps args g bad unopened line memory (MapLine k) is = line k is
-of_losses_fault Holds maps args g bad unopened line memory (NoImage name) is = absurd is
-of_losses_fault Holds maps args g bad unopened line memory TooLong is = absurd is
-of_losses_fault Holds maps args g bad unopened line memory NoShard is = absurd is
-of_losses_fault Holds maps args g bad unopened line memory (PayloadLost number) is = absurd is
-of_losses_fault Holds maps args g bad unopened line memory (Output written) is = absurd is
-of_losses_fault Holds maps args g bad unopened line memory OutOfMemory is = memory
+of_losses_fault Holds maps args g bad unopened line none memory NotUtf8 is = absurd is
+of_losses_fault Holds maps args g bad unopened line none memory (Help text) is = absurd is
+of_losses_fault Holds maps args g bad unopened line none memory (Args text) is = absurd is
+of_losses_fault Holds maps args g bad unopened line none memory (Geometry fault) is = absurd is
+of_losses_fault Holds maps args g bad unopened line none memory NoSizes is = absurd is
+of_losses_fault Holds maps args g bad unopened line none memory Extent is = absurd is
+of_losses_fault Holds maps args g bad unopened line none memory (BadShard text) is = absurd is
+of_losses_fault Holds maps args g bad unopened line none memory Pointer is = absurd is
+of_losses_fault Holds maps args g bad unopened line none memory (BadPage arg) is = bad arg is
+of_losses_fault Holds maps args g bad unopened line none memory (NoMap name) is = unopened name is
+of_losses_fault Holds maps args g bad unopened line none memory (MapLine k) is = line k is
+of_losses_fault Holds maps args g bad unopened line none memory (NoImage name) is = none name is
+of_losses_fault Holds maps args g bad unopened line none memory TooLong is = absurd is
+of_losses_fault Holds maps args g bad unopened line none memory NoShard is = absurd is
+of_losses_fault Holds maps args g bad unopened line none memory (PayloadLost number) is = absurd is
+of_losses_fault Holds maps args g bad unopened line none memory (Output written) is = absurd is
+of_losses_fault Holds maps args g bad unopened line none memory OutOfMemory is = memory
 
--- what holds for each fault of a named image holds for the one that it has
-pub of_named_fault : (Holds : Fault → Type 0) (known : KnownRaw) (named : Bor (List ℕ)) (g : Sizes) →
-    ((other : Bor (List ℕ)) → other ≡ named → Holds (NoImage other)) →
-    (IsNamedFault known named g TooLong → Holds TooLong) → Holds OutOfMemory →
-    (fault : Fault) → IsNamedFault known named g fault → Holds fault
-of_named_fault Holds known named g none long memory NotUtf8 is = absurd is
-of_named_fault Holds known named g none long memory (Help text) is = absurd is
-of_named_fault Holds known named g none long memory (Args text) is = absurd is
-of_named_fault Holds known named g none long memory (Geometry fault) is = absurd is
-of_named_fault Holds known named g none long memory NoSizes is = absurd is
-of_named_fault Holds known named g none long memory Extent is = absurd is
-of_named_fault Holds known named g none long memory (BadShard text) is = absurd is
-of_named_fault Holds known named g none long memory Pointer is = absurd is
-of_named_fault Holds known named g none long memory (BadPage arg) is = absurd is
-of_named_fault Holds known named g none long memory (NoMap name) is = absurd is
-of_named_fault Holds known named g none long memory (MapLine k) is = absurd is
-of_named_fault Holds known named g none long memory (NoImage name) is = none name is
-of_named_fault Holds known named g none long memory TooLong is = long is
-of_named_fault Holds known named g none long memory NoShard is = absurd is
-of_named_fault Holds known named g none long memory (PayloadLost number) is = absurd is
-of_named_fault Holds known named g none long memory (Output written) is = absurd is
-of_named_fault Holds known named g none long memory OutOfMemory is = memory
+-- what holds for each fault of loading a raw image holds for the one that it has
+pub of_raw_fault : (Holds : Fault → Type 0) (known : KnownRaw) (g : Sizes) → (IsRawFault known g TooLong → Holds TooLong) → Holds OutOfMemory →
+    (fault : Fault) → IsRawFault known g fault → Holds fault
+of_raw_fault Holds known g long memory NotUtf8 is = absurd is
+of_raw_fault Holds known g long memory (Help text) is = absurd is
+of_raw_fault Holds known g long memory (Args text) is = absurd is
+of_raw_fault Holds known g long memory (Geometry fault) is = absurd is
+of_raw_fault Holds known g long memory NoSizes is = absurd is
+of_raw_fault Holds known g long memory Extent is = absurd is
+of_raw_fault Holds known g long memory (BadShard text) is = absurd is
+of_raw_fault Holds known g long memory Pointer is = absurd is
+of_raw_fault Holds known g long memory (BadPage arg) is = absurd is
+of_raw_fault Holds known g long memory (NoMap name) is = absurd is
+of_raw_fault Holds known g long memory (MapLine k) is = absurd is
+of_raw_fault Holds known g long memory (NoImage name) is = absurd is
+of_raw_fault Holds known g long memory TooLong is = long is
+of_raw_fault Holds known g long memory NoShard is = absurd is
+of_raw_fault Holds known g long memory (PayloadLost number) is = absurd is
+of_raw_fault Holds known g long memory (Output written) is = absurd is
+of_raw_fault Holds known g long memory OutOfMemory is = memory
 
 -- an argument that names no page is a fault of what is lost
 pub bad_page_fault : (maps : KnownMaps) (args : ImageArgs) (g : Sizes) (fault : Fault) →
     IsBadPageFault g args.bad_pages.items fault → IsLossesFault maps args g fault
 bad_page_fault maps args g fault = of_bad_page (IsLossesFault maps args g) g args.bad_pages.items (λ arg is. is) tt fault
 
--- a map that isn't read is one
-pub map_fault : (maps : KnownMaps) (args : ImageArgs) (g : Sizes) (pages : List (ℕ × ℕ)) (fault : Fault) →
-    NamePages g args.bad_pages.items pages → IsMapFault maps args.map fault → IsLossesFault maps args g fault
-map_fault maps args g pages fault named =
-    of_map_fault (IsLossesFault maps args g) maps args.map (λ name why. (pages, named, why)) (λ k why. (pages, named, why)) tt fault
+-- so is that the map or the image isn't opened
+pub opening_fault : (maps : KnownMaps) (args : ImageArgs) (g : Sizes) (pages : List (ℕ × ℕ)) (fault : Fault) →
+    (args.sizes ≡ None → ⊥) →
+    NamePages g args.bad_pages.items pages → IsOpeningFault maps args.map args.name fault → IsLossesFault maps args g fault
+opening_fault maps args g pages fault given named =
+    of_opening_fault (IsLossesFault maps args g) maps args.map args.name (λ name why. (given, (pages, named, why)))
+    (λ k why. (given, (pages, named, why)))
+    (λ image why. (given, record { pages = pages; named = named; blocks = why.0; mapped = why.1 }, why.2)) tt fault
 
 -- each of them is a fault of loading
 pub losses_fault : (known : KnownRaw) (maps : KnownMaps) (args : ImageArgs) (g : Sizes) (fault : Fault) →
     IsLossesFault maps args g fault → IsDiskFault known maps args g fault
 losses_fault known maps args g fault =
-    of_losses_fault (IsDiskFault known maps args g) maps args g (λ arg is. is) (λ name is. is) (λ k is. is) tt fault
+    of_losses_fault (IsDiskFault known maps args g) maps args g (λ arg is. is) (λ name is. is) (λ k is. is) (λ name is. is) tt fault
 
 -- so is a fault of the image
-pub named_fault : (known : KnownRaw) (maps : KnownMaps) (args : ImageArgs) (g : Sizes) (fault : Fault) → AreReadBefore maps args g →
-    IsNamedFault known args.name g fault → IsDiskFault known maps args g fault
-named_fault known maps args g fault before =
-    of_named_fault (IsDiskFault known maps args g) known args.name g (λ other same. (before, same)) (λ long. (before, long)) tt fault
+pub raw_fault : (known : KnownRaw) (maps : KnownMaps) (args : ImageArgs) (g : Sizes) (fault : Fault) → AreReadBefore maps args g →
+    IsRawFault known g fault → IsDiskFault known maps args g fault
+raw_fault known maps args g fault before =
+    of_raw_fault (IsDiskFault known maps args g) known g (λ long. (before, long)) tt fault
 
 -- what holds for each fault that loading may have holds for the one that it has
 pub of_disk_fault : (Holds : Fault → Type 0) (known : KnownRaw) (maps : KnownMaps) (args : ImageArgs) (g : Sizes) →
@@ -156,12 +136,12 @@ of_disk_fault Holds known maps args g bad unopened line none long memory (Payloa
 of_disk_fault Holds known maps args g bad unopened line none long memory (Output written) is = absurd is
 of_disk_fault Holds known maps args g bad unopened line none long memory OutOfMemory is = memory
 
--- a fault of loading the bytes is one of the named image
-pub load_fault : (known : KnownRaw) (was : Option (List ℕ)) (named : Bor (List ℕ)) (g : Sizes) (fault : LoadFault) →
+-- a fault of loading the bytes is one of the raw image
+pub load_fault : (known : KnownRaw) (was : Option (List ℕ)) (g : Sizes) (fault : LoadFault) →
     was ≡ known.bytes → (fault ≡ too_long → IfSome was (λ bytes. disk_bytes g < length bytes)) →
-    IsNamedFault known named g (fault_of_load fault)
-load_fault known was named g no_memory_to_load same longer = tt
-load_fault known was named g too_long same longer = rw same at (longer (λ i. too_long))
+    IsRawFault known g (fault_of_load fault)
+load_fault known was g no_memory_to_load same longer = tt
+load_fault known was g too_long same longer = rw same at (longer (λ i. too_long))
 
 -- no more reads of all readers fail than may fail of the image
 pub loaded_as_known : (known : KnownRaw) (was : Option (List ℕ)) (fails : ℕ → ℕ → Bool) (g : Sizes) (pages : List (ℕ × ℕ)) (image : Image)

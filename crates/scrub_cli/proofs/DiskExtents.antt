@@ -137,16 +137,12 @@ loses_pages_in all lost blocks e before image size pages count same size_is page
 pub superblocks_behind : {whole image : Image} {text : List ℕ} {outcome : Outcome} → SameExtent 0 whole image →
     AreSuperblocksListed image text outcome → AreSuperblocksListed whole text outcome
 superblocks_behind same l = record {
-  lines = record {
-    pages = l.lines.pages;
-    are = same_superblock_pages same l.lines.are;
-    text_is = l.lines.text_is;
-  };
-  is_clean = l.is_clean;
-  clean = record {
-    pages = l.clean.pages;
-    are = same_superblock_pages same l.clean.are;
-    verdict = l.clean.verdict;
+  clean = l.clean;
+  listing = record {
+    pages = l.listing.pages;
+    are = same_superblock_pages same l.listing.are;
+    text_is = l.listing.text_is;
+    verdict = l.listing.verdict;
   };
   ended = l.ended;
 }

@@ -1,13 +1,10 @@
--- The sizes that are found, and why none are, from what the parts give.
-use Rattle.std.proofs.Common.{◌≡◌, ◌≤◌, ℕ, Bool, List, Option, Result, Ok, Err, IfOk}
-use Rattle.std.specs.Borrow.{Bor}
+-- The sizes that are found, from what the parts give.
+use Rattle.std.proofs.Common.{◌≡◌, ◌≤◌, ℕ, Bool, List, Option, None, Some, Result, Ok, Err, IfOk, IfSome, MatchOption}
 use Rattle.scrub_disk.specs.declared.geometry.Geometry.{Geometry as Sizes}
 use Rattle.scrub_listings.specs.Sizes.{AreSizesOf}
-use Rattle.scrub_cli.specs.declared.process.fault.Fault.{Fault}
-use Rattle.scrub_cli.specs.declared.process.fault.Fault.TheVariants.{NotUtf8, Help, Args, Geometry, NoSizes, Extent, BadShard, Pointer, BadPage, NoMap, MapLine, NoImage, TooLong, NoShard, PayloadLost, Output, OutOfMemory}
-use Rattle.scrub_cli.specs.DiskGeometry.{AreSizesRead, IsFoundFault}
-use Rattle.scrub_cli.specs.KnownFiles.{KnownMaps, KnownRaw}
-use Rattle.scrub_cli.specs.Rescue.{IsMapFault}
+use Rattle.scrub_map.specs.declared.map.RescueMap.{RescueMap}
+use Rattle.scrub_cli.specs.DiskGeometry.{AreFoundBy, AreSizesRead}
+use Rattle.scrub_cli.specs.KnownFiles.{KnownRaw}
 
 pub sizes_read : {E : Type 0} (bytes : Option (List ℕ)) (fails : ℕ → ℕ → Bool) (most : ℕ) (lacking : List ℕ) (failures : ℕ) (r : Result (Option Sizes) E) →
     failures ≤ most → IfOk r (AreSizesOf bytes lacking fails failures) →
@@ -25,23 +22,9 @@ read_as_known known bytes fails most lacking found same may bound read = record 
   sizes = rw (← same, ← may) read.sizes;
 }
 
--- a fault of the map is one of the sizes
-pub map_fault_found : (known : KnownRaw) (maps : KnownMaps) (named : Option (Bor (List ℕ))) (name : Bor (List ℕ)) (fault : Fault) →
-    IsMapFault maps named fault → IsFoundFault known maps named name fault
-map_fault_found known maps named name NotUtf8 is = absurd is
-map_fault_found known maps named name (Help text) is = absurd is
-map_fault_found known maps named name (Args text) is = absurd is
-map_fault_found known maps named name (Geometry fault) is = absurd is
-map_fault_found known maps named name NoSizes is = absurd is
-map_fault_found known maps named name Extent is = absurd is
-map_fault_found known maps named name (BadShard text) is = absurd is
-map_fault_found known maps named name Pointer is = absurd is
-map_fault_found known maps named name (BadPage arg) is = absurd is
-map_fault_found known maps named name (NoMap map) is = is
-map_fault_found known maps named name (MapLine k) is = is
-map_fault_found known maps named name (NoImage image) is = absurd is
-map_fault_found known maps named name TooLong is = absurd is
-map_fault_found known maps named name NoShard is = absurd is
-map_fault_found known maps named name (PayloadLost number) is = absurd is
-map_fault_found known maps named name (Output written) is = absurd is
-map_fault_found known maps named name OutOfMemory is = tt
+-- if the sizes are left out, those that were found with a map that was read before are found with the same map now
+pub found_again : {O Given : Type 0} (known : KnownRaw) (g : Sizes) (opened : Option O) (map_of : O → Option RescueMap) (map : Option RescueMap) →
+    MatchOption opened (Given → ⊥) (λ o. AreFoundBy known (map_of o) g) → IfSome opened (λ o. map ≡ map_of o) → Given →
+    AreFoundBy known map g
+found_again known g None map_of map found same left = absurd (found left)
+found_again known g (Some o) map_of map found same left = λ blocks keeps. found blocks (rw same at keeps)

@@ -1,46 +1,56 @@
--- What is answered without sizes is answered with those that the records have.
-use Rattle.std.proofs.Common.{◌≡◌, ◌⊎◌, inl, inr, ℕ, Bool, List, Option, Some, MatchOption, subst}
+-- What is answered without sizes is answered with those that are found.
+use Rattle.std.proofs.Common.{◌≡◌, ◌⊎◌, inl, inr, refl, sym, subst, ℕ, List, Option, None, Some, MatchOption}
+use Rattle.std.proofs.lemmas.Option.{none-some}
 use Rattle.scrub_disk.specs.declared.geometry.Geometry.{Geometry as Sizes}
 use Rattle.scrub_disk.specs.Faults.{HasSizes}
 use Rattle.scrub_disk.specs.Image.{Image}
-use Rattle.scrub_run.specs.declared.shard_id.ShardId.{ShardId}
-use Rattle.scrub_shard.specs.declared.shard.ShardAnswer.{ShardAnswer}
-use Rattle.scrub_listings.proofs.SizesLists.{one_size_lem}
-use Rattle.scrub_args.specs.declared.args.Wanted.{Wanted}
-use Rattle.scrub_cli.specs.declared.process.fault.Fault.{Fault}
-use Rattle.scrub_cli.specs.declared.process.fault.Fault.TheVariants.{NotUtf8, Help, Args, Geometry, NoSizes, Extent, BadShard, Pointer, BadPage, NoMap, MapLine, NoImage, TooLong, NoShard, PayloadLost, Output, OutOfMemory}
-use Rattle.scrub_cli.specs.declared.process.outcome.Outcome.{Outcome}
 use Rattle.scrub_args.specs.declared.args.GivenSizes.{GivenSizes}
 use Rattle.scrub_args.specs.declared.args.ImageArgs.{ImageArgs}
 use Rattle.scrub_args.specs.declared.args.ItemsArgs.{ItemsArgs}
+use Rattle.scrub_args.specs.declared.args.Request.{Request}
+use Rattle.scrub_args.specs.declared.args.Request.TheVariants.{Demo, Items, Disk, Manifest, Compare, Shard, Superblocks, Sizes as sizes_of_image}
 use Rattle.scrub_args.specs.declared.args.ShardArgs.{ShardArgs}
+use Rattle.scrub_shard.specs.declared.shard.ShardAnswer.{ShardAnswer}
+use Rattle.scrub_cli.specs.declared.process.fault.Fault.{Fault}
+use Rattle.scrub_cli.specs.declared.process.fault.Fault.TheVariants.{NotUtf8, Help, Args, Geometry, NoSizes, Extent, BadShard, Pointer, BadPage, NoMap, MapLine, NoImage, TooLong, NoShard, PayloadLost, Output, OutOfMemory}
+use Rattle.scrub_cli.specs.declared.process.outcome.Outcome.{Outcome}
+use Rattle.scrub_cli.specs.Answer.{IsAnswerOf, IsFaultOf}
+use Rattle.scrub_cli.specs.DiskGeometry.{AreSizesFound, IsGeometryFault, IsGeometryOf}
 use Rattle.scrub_cli.specs.DiskImage.{AreReadBefore, IsDiskFault, IsLoadedDisk}
-use Rattle.scrub_cli.specs.DiskGeometry.{AreSizesFound, IsGeometryFault, IsGeometryOf, MayBeLeftOut, with_sizes}
-use Rattle.scrub_cli.specs.Items.{AreInDisk, IsItemsAnswer, IsItemsFault, IsPlacedFault}
-use Rattle.scrub_cli.specs.KnownFiles.{KnownMaps, KnownRaw, known_bytes}
-use Rattle.scrub_cli.specs.Scan.{IsDiskOf, IsLoadFault, IsScanAnswer, IsScanFault}
-use Rattle.scrub_cli.specs.Shard.{IsFaultAfterId, IsNamed, IsShardFault, IsShardLost, IsShardRead, IsShardWritten}
-use Rattle.scrub_cli.specs.Superblock.{IsSuperblocksAnswer}
+use Rattle.scrub_cli.specs.Items.{AreInDisk, IsItemsFault, IsPlacedFault}
+use Rattle.scrub_cli.specs.KnownFiles.{KnownMaps, KnownRaw}
+use Rattle.scrub_cli.specs.LeftOut.{AreFoundFor, FindsSizes, IsFindingFault, LeavesOut, request_with, with_sizes}
+use Rattle.scrub_cli.specs.Scan.{IsDiskOf, IsLoadFault, IsScanFault}
+use Rattle.scrub_cli.specs.Shard.{IsFaultAfterId, IsNamed, IsShardFault, IsShardLost, IsShardRead}
 use Rattle.scrub_cli.proofs.DiskAnswers.{of_disk_fault}
 
 -- ---- the sizes, and the disk
 
--- the sizes that were found are those that are given
-geometry_with : (bytes : List ℕ) (fails : ℕ → ℕ → Bool) (most : ℕ) (maps : KnownMaps) (args : ImageArgs) (g : Sizes) (s : GivenSizes) (h : Sizes) →
-    MayBeLeftOut bytes fails most maps args g s → IsGeometryOf (known_bytes bytes fails most) maps args h →
-    IsGeometryOf (known_bytes bytes fails most) maps (with_sizes args s) h
-geometry_with bytes fails most maps args g s h may sizes =
-    subst (λ (k : Sizes). HasSizes k s.page s.pages s.extents) same may.given
-  where
-    found : AreSizesFound (known_bytes bytes fails most) maps args.map (Some h)
-    found = subst
-        (λ (o : Option GivenSizes). MatchOption o (AreSizesFound (known_bytes bytes fails most) maps args.map (Some h)) (λ t. HasSizes h t.page t.pages t.extents))
-        may.left_out sizes
+abbrev given : Sizes → GivenSizes
+given g = record { page = g.page; pages = g.pages; extents = g.extents }
 
-    same : g ≡ h
-    same =
-        one_size_lem bytes may.found.lacking found.lacking fails fails may.found.read.failures found.read.failures g h may.found.read.sizes
-        found.read.sizes
+has_given : (g : Sizes) → HasSizes g g.page g.pages g.extents
+has_given g = record { page = refl; pages = refl; extents = refl }
+
+-- the sizes of arguments that leave them out are found
+found_for : (known : List ℕ → KnownRaw) (maps : KnownMaps) (args : ImageArgs) (g : Sizes) → args.sizes ≡ None →
+    IsGeometryOf (known args.name.now) maps args g → AreFoundFor known maps args (given g)
+found_for known maps args g out sizes = record {
+  geometry = g;
+  given = has_given g;
+  found =
+      subst
+      (λ (o : Option GivenSizes). MatchOption o (AreSizesFound (known args.name.now) maps args.map (Some g)) (λ t. HasSizes g t.page t.pages t.extents))
+      out sizes;
+}
+
+-- memory may run out while sizes are found
+memory_fault : (known : KnownRaw) (maps : KnownMaps) (args : ImageArgs) → IsGeometryFault known maps args OutOfMemory
+memory_fault known maps args = by args.sizes
+  where
+    by : (o : Option GivenSizes) → MatchOption o (Unit {0}) (λ s. Unit {0})
+    by None = tt
+    by (Some s) = tt
 
 -- the disk is loaded by the other arguments alone
 loaded_with : (known : KnownRaw) (maps : KnownMaps) (args : ImageArgs) (s : GivenSizes) (g : Sizes) (image : Image) →
@@ -53,6 +63,7 @@ loaded_with known maps args s g image x = record {
   before = x.before;
   loaded = x.loaded;
   rescued = x.rescued;
+  sizes = λ left. absurd (none-some s (sym left));
 }
 
 before_with : (maps : KnownMaps) (args : ImageArgs) (s : GivenSizes) (g : Sizes) → AreReadBefore maps args g → AreReadBefore maps (with_sizes args s) g
@@ -61,180 +72,203 @@ before_with maps args s g x = record { pages = x.pages; named = x.named; blocks 
 disk_fault_with : (known : KnownRaw) (maps : KnownMaps) (args : ImageArgs) (s : GivenSizes) (g : Sizes) (fault : Fault) →
     IsDiskFault known maps args g fault → IsDiskFault known maps (with_sizes args s) g fault
 disk_fault_with known maps args s g fault =
-    of_disk_fault (λ (f : Fault). IsDiskFault known maps (with_sizes args s) g f) known maps args g (λ arg is. is) (λ name is. is)
-    (λ k is. is) (λ name is. (before_with maps args s g is.0, is.1)) (λ is. (before_with maps args s g is.0, is.1)) tt fault
+    of_disk_fault (λ (f : Fault). IsDiskFault known maps (with_sizes args s) g f) known maps args g (λ arg is. is) (λ name is. (given_now, is.1))
+    (λ k is. (given_now, is.1)) (λ name is. (given_now, before_with maps args s g is.1, is.2))
+    (λ is. (before_with maps args s g is.0, is.1)) tt fault
+  where
+    given_now : Some s ≡ None → ⊥
+    given_now e = none-some s (sym e)
 
 -- ---- a whole disk
 
-module _ (bytes : List ℕ) (fails : ℕ → ℕ → Bool) (most : ℕ) (maps : KnownMaps) (args : ImageArgs) (g : Sizes) (s : GivenSizes) where
-  disk_with : (image : Image) → MayBeLeftOut bytes fails most maps args g s → IsDiskOf (known_bytes bytes fails most) maps args image →
-      IsDiskOf (known_bytes bytes fails most) maps (with_sizes args s) image
-  disk_with image may x = record {
+module _ (known : List ℕ → KnownRaw) (maps : KnownMaps) (args : ImageArgs) (out : args.sizes ≡ None) where
+  disk_with : (image : Image) (x : IsDiskOf (known args.name.now) maps args image) →
+      IsDiskOf (known args.name.now) maps (with_sizes args (given x.geometry)) image
+  disk_with image x = record {
     geometry = x.geometry;
-    sizes = geometry_with bytes fails most maps args g s x.geometry may x.sizes;
-    loaded = loaded_with (known_bytes bytes fails most) maps args s x.geometry image x.loaded;
+    sizes = has_given x.geometry;
+    loaded = loaded_with (known args.name.now) maps args (given x.geometry) x.geometry image x.loaded;
   }
-
-  load_fault_with : (fault : Fault) → MayBeLeftOut bytes fails most maps args g s → IsLoadFault (known_bytes bytes fails most) maps args fault →
-      IsLoadFault (known_bytes bytes fails most) maps (with_sizes args s) fault
-  load_fault_with fault may (h, sizes, why) =
-      (h, geometry_with bytes fails most maps args g s h may sizes, disk_fault_with (known_bytes bytes fails most) maps args s h fault why)
-
-  pub scan_with : (wanted : Wanted) (text : List ℕ) (outcome : Outcome) → MayBeLeftOut bytes fails most maps args g s →
-      IsScanAnswer wanted (known_bytes bytes fails most) maps args text outcome →
-      IsScanAnswer wanted (known_bytes bytes fails most) maps (with_sizes args s) text outcome
-  scan_with wanted text outcome may x = record { image = x.image; disk = disk_with x.image may x.disk; answered = x.answered }
-
-  pub superblocks_with : (text : List ℕ) (outcome : Outcome) → MayBeLeftOut bytes fails most maps args g s →
-      IsSuperblocksAnswer (known_bytes bytes fails most) maps args text outcome →
-      IsSuperblocksAnswer (known_bytes bytes fails most) maps (with_sizes args s) text outcome
-  superblocks_with text outcome may x = record { image = x.image; disk = disk_with x.image may x.disk; answered = x.answered }
 
   abbrev OrWith : Fault → Type 0
   OrWith fault =
-      IsGeometryFault (known_bytes bytes fails most) maps args fault ⊎ IsScanFault (known_bytes bytes fails most) maps (with_sizes args s) fault
+      IsGeometryFault (known args.name.now) maps args fault
+      ⊎ ((s : GivenSizes) × AreFoundFor known maps args s × IsScanFault (known args.name.now) maps (with_sizes args s) fault)
 
-  pub scan_fault_with : (fault : Fault) → MayBeLeftOut bytes fails most maps args g s → IsScanFault (known_bytes bytes fails most) maps args fault → OrWith fault
-  scan_fault_with NotUtf8 may is = inr (load_fault_with NotUtf8 may is)
-  scan_fault_with (Help text) may is = inr (load_fault_with (Help text) may is)
-  scan_fault_with (Args text) may is = inr (load_fault_with (Args text) may is)
-  scan_fault_with (Geometry limit) may is = inl is
-  scan_fault_with NoSizes may is = inl is
-  scan_fault_with Extent may is = inr (load_fault_with Extent may is)
-  scan_fault_with (BadShard text) may is = inr (load_fault_with (BadShard text) may is)
-  scan_fault_with Pointer may is = inr (load_fault_with Pointer may is)
-  scan_fault_with (BadPage arg) may is = inr (load_fault_with (BadPage arg) may is)
-  scan_fault_with (NoMap name) may (inl is) = inl is
-  scan_fault_with (NoMap name) may (inr is) = inr (inr (load_fault_with (NoMap name) may is))
-  scan_fault_with (MapLine k) may (inl is) = inl is
-  scan_fault_with (MapLine k) may (inr is) = inr (inr (load_fault_with (MapLine k) may is))
-  scan_fault_with (NoImage name) may (inl is) = inl is
-  scan_fault_with (NoImage name) may (inr is) = inr (inr (load_fault_with (NoImage name) may is))
-  scan_fault_with TooLong may is = inr (load_fault_with TooLong may is)
-  scan_fault_with NoShard may is = inr (load_fault_with NoShard may is)
-  scan_fault_with (PayloadLost number) may is = inr (load_fault_with (PayloadLost number) may is)
-  scan_fault_with (Output written) may is = inr (load_fault_with (Output written) may is)
-  scan_fault_with OutOfMemory may is = inr tt
+  load_fault_with : (fault : Fault) → (x : IsLoadFault (known args.name.now) maps args fault) →
+      IsLoadFault (known args.name.now) maps (with_sizes args (given x.0)) fault
+  load_fault_with fault x = (x.0, has_given x.0, disk_fault_with (known args.name.now) maps args (given x.0) x.0 fault x.2)
+
+  scan_fault_with : (fault : Fault) → IsScanFault (known args.name.now) maps args fault → OrWith fault
+  scan_fault_with NotUtf8 is = inr (given is.0, found_for known maps args is.0 out is.1, load_fault_with NotUtf8 is)
+  scan_fault_with (Help text) is = inr (given is.0, found_for known maps args is.0 out is.1, load_fault_with (Help text) is)
+  scan_fault_with (Args text) is = inr (given is.0, found_for known maps args is.0 out is.1, load_fault_with (Args text) is)
+  scan_fault_with (Geometry limit) is = inl is
+  scan_fault_with NoSizes is = inl is
+  scan_fault_with Extent is = inr (given is.0, found_for known maps args is.0 out is.1, load_fault_with Extent is)
+  scan_fault_with (BadShard text) is = inr (given is.0, found_for known maps args is.0 out is.1, load_fault_with (BadShard text) is)
+  scan_fault_with Pointer is = inr (given is.0, found_for known maps args is.0 out is.1, load_fault_with Pointer is)
+  scan_fault_with (BadPage arg) is = inr (given is.0, found_for known maps args is.0 out is.1, load_fault_with (BadPage arg) is)
+  scan_fault_with (NoMap name) (inl is) = inl is
+  scan_fault_with (NoMap name) (inr is) = inr (given is.0, found_for known maps args is.0 out is.1, inr (load_fault_with (NoMap name) is))
+  scan_fault_with (MapLine k) (inl is) = inl is
+  scan_fault_with (MapLine k) (inr is) = inr (given is.0, found_for known maps args is.0 out is.1, inr (load_fault_with (MapLine k) is))
+  scan_fault_with (NoImage name) (inl is) = inl is
+  scan_fault_with (NoImage name) (inr is) = inr (given is.0, found_for known maps args is.0 out is.1, inr (load_fault_with (NoImage name) is))
+  scan_fault_with TooLong is = inr (given is.0, found_for known maps args is.0 out is.1, load_fault_with TooLong is)
+  scan_fault_with NoShard is = inr (given is.0, found_for known maps args is.0 out is.1, load_fault_with NoShard is)
+  scan_fault_with (PayloadLost number) is = inr (given is.0, found_for known maps args is.0 out is.1, load_fault_with (PayloadLost number) is)
+  scan_fault_with (Output written) is = inr (given is.0, found_for known maps args is.0 out is.1, load_fault_with (Output written) is)
+  scan_fault_with OutOfMemory is = inl (memory_fault (known args.name.now) maps args)
 
 -- ---- one extent
 
-module _ (bytes : List ℕ) (fails : ℕ → ℕ → Bool) (most : ℕ) (maps : KnownMaps) (args : ItemsArgs) (g : Sizes) (s : GivenSizes) where
-  abbrev items_args : ItemsArgs
-  items_args = record args { image = with_sizes args.image s }
+module _ (known : List ℕ → KnownRaw) (maps : KnownMaps) (args : ItemsArgs) (out : args.image.sizes ≡ None) where
+  abbrev items_with : GivenSizes → ItemsArgs
+  items_with s = record args { image = with_sizes args.image s }
 
-  places_with : (h : Sizes) → MayBeLeftOut bytes fails most maps args.image g s → AreInDisk (known_bytes bytes fails most) maps args h →
-      AreInDisk (known_bytes bytes fails most) maps items_args h
-  places_with h may x = record {
-    sizes = geometry_with bytes fails most maps args.image g s h may x.sizes;
-    in_disk = x.in_disk;
-    in_extent = x.in_extent;
-  }
+  places_with : (h : Sizes) → AreInDisk (known args.image.name.now) maps args h →
+      AreInDisk (known args.image.name.now) maps (items_with (given h)) h
+  places_with h x = record { sizes = has_given h; in_disk = x.in_disk; in_extent = x.in_extent }
 
-  pub items_with : (text : List ℕ) (outcome : Outcome) → MayBeLeftOut bytes fails most maps args.image g s →
-      IsItemsAnswer (known_bytes bytes fails most) maps args text outcome → IsItemsAnswer (known_bytes bytes fails most) maps items_args text outcome
-  items_with text outcome may x = record {
-    geometry = x.geometry;
-    places = places_with x.geometry may x.places;
-    image = x.image;
-    loaded = loaded_with (known_bytes bytes fails most) maps args.image s x.geometry x.image x.loaded;
-    listed = x.listed;
-  }
-
-  placed_fault_with : (fault : Fault) → MayBeLeftOut bytes fails most maps args.image g s → IsPlacedFault (known_bytes bytes fails most) maps args fault →
-      IsPlacedFault (known_bytes bytes fails most) maps items_args fault
-  placed_fault_with fault may (h, places, why) =
-      (h, places_with h may places, disk_fault_with (known_bytes bytes fails most) maps args.image s h fault why)
+  placed_fault_with : (fault : Fault) → (x : IsPlacedFault (known args.image.name.now) maps args fault) →
+      IsPlacedFault (known args.image.name.now) maps (items_with (given x.0)) fault
+  placed_fault_with fault x =
+      (x.0, places_with x.0 x.1, disk_fault_with (known args.image.name.now) maps args.image (given x.0) x.0 fault x.2)
 
   abbrev ItemsOrWith : Fault → Type 0
   ItemsOrWith fault =
-      IsGeometryFault (known_bytes bytes fails most) maps args.image fault ⊎ IsItemsFault (known_bytes bytes fails most) maps items_args fault
+      IsGeometryFault (known args.image.name.now) maps args.image fault
+      ⊎ ((s : GivenSizes) × AreFoundFor known maps args.image s × IsItemsFault (known args.image.name.now) maps (items_with s) fault)
 
-  pub items_fault_with : (fault : Fault) → MayBeLeftOut bytes fails most maps args.image g s → IsItemsFault (known_bytes bytes fails most) maps args fault →
-      ItemsOrWith fault
-  items_fault_with NotUtf8 may is = inr (placed_fault_with NotUtf8 may is)
-  items_fault_with (Help text) may is = inr (placed_fault_with (Help text) may is)
-  items_fault_with (Args text) may is = inr (placed_fault_with (Args text) may is)
-  items_fault_with (Geometry limit) may is = inl is
-  items_fault_with NoSizes may is = inl is
-  items_fault_with Extent may (h, sizes, out) = inr (h, geometry_with bytes fails most maps args.image g s h may sizes, out)
-  items_fault_with (BadShard text) may is = inr (placed_fault_with (BadShard text) may is)
-  items_fault_with Pointer may (h, sizes, within, out) =
-      inr (h, geometry_with bytes fails most maps args.image g s h may sizes, within, out)
-  items_fault_with (BadPage arg) may is = inr (placed_fault_with (BadPage arg) may is)
-  items_fault_with (NoMap name) may (inl is) = inl is
-  items_fault_with (NoMap name) may (inr is) = inr (inr (placed_fault_with (NoMap name) may is))
-  items_fault_with (MapLine k) may (inl is) = inl is
-  items_fault_with (MapLine k) may (inr is) = inr (inr (placed_fault_with (MapLine k) may is))
-  items_fault_with (NoImage name) may (inl is) = inl is
-  items_fault_with (NoImage name) may (inr is) = inr (inr (placed_fault_with (NoImage name) may is))
-  items_fault_with TooLong may is = inr (placed_fault_with TooLong may is)
-  items_fault_with NoShard may is = inr (placed_fault_with NoShard may is)
-  items_fault_with (PayloadLost number) may is = inr (placed_fault_with (PayloadLost number) may is)
-  items_fault_with (Output written) may is = inr (placed_fault_with (Output written) may is)
-  items_fault_with OutOfMemory may is = inr tt
+  items_fault_with : (fault : Fault) → IsItemsFault (known args.image.name.now) maps args fault → ItemsOrWith fault
+  items_fault_with NotUtf8 is = inr (given is.0, found_for known maps args.image is.0 out is.1.sizes, placed_fault_with NotUtf8 is)
+  items_fault_with (Help text) is = inr (given is.0, found_for known maps args.image is.0 out is.1.sizes, placed_fault_with (Help text) is)
+  items_fault_with (Args text) is = inr (given is.0, found_for known maps args.image is.0 out is.1.sizes, placed_fault_with (Args text) is)
+  items_fault_with (Geometry limit) is = inl is
+  items_fault_with NoSizes is = inl is
+  items_fault_with Extent is = inr (given is.0, found_for known maps args.image is.0 out is.1, (is.0, has_given is.0, is.2))
+  items_fault_with (BadShard text) is = inr (given is.0, found_for known maps args.image is.0 out is.1.sizes, placed_fault_with (BadShard text) is)
+  items_fault_with Pointer is = inr (given is.0, found_for known maps args.image is.0 out is.1, (is.0, has_given is.0, is.2, is.3))
+  items_fault_with (BadPage arg) is = inr (given is.0, found_for known maps args.image is.0 out is.1.sizes, placed_fault_with (BadPage arg) is)
+  items_fault_with (NoMap name) (inl is) = inl is
+  items_fault_with (NoMap name) (inr is) = inr (given is.0, found_for known maps args.image is.0 out is.1.sizes, inr (placed_fault_with (NoMap name) is))
+  items_fault_with (MapLine k) (inl is) = inl is
+  items_fault_with (MapLine k) (inr is) = inr (given is.0, found_for known maps args.image is.0 out is.1.sizes, inr (placed_fault_with (MapLine k) is))
+  items_fault_with (NoImage name) (inl is) = inl is
+  items_fault_with (NoImage name) (inr is) = inr (given is.0, found_for known maps args.image is.0 out is.1.sizes, inr (placed_fault_with (NoImage name) is))
+  items_fault_with TooLong is = inr (given is.0, found_for known maps args.image is.0 out is.1.sizes, placed_fault_with TooLong is)
+  items_fault_with NoShard is = inr (given is.0, found_for known maps args.image is.0 out is.1.sizes, placed_fault_with NoShard is)
+  items_fault_with (PayloadLost number) is = inr (given is.0, found_for known maps args.image is.0 out is.1.sizes, placed_fault_with (PayloadLost number) is)
+  items_fault_with (Output written) is = inr (given is.0, found_for known maps args.image is.0 out is.1.sizes, placed_fault_with (Output written) is)
+  items_fault_with OutOfMemory is = inl (memory_fault (known args.image.name.now) maps args.image)
 
 -- ---- one shard
 
-module _ (bytes : List ℕ) (fails : ℕ → ℕ → Bool) (most : ℕ) (maps : KnownMaps) (args : ShardArgs) (g : Sizes) (s : GivenSizes) where
-  abbrev shard_args : ShardArgs
-  shard_args = record args { scan = record args.scan { image = with_sizes args.scan.image s } }
+module _ (known : List ℕ → KnownRaw) (maps : KnownMaps) (args : ShardArgs) (out : args.scan.image.sizes ≡ None) where
+  abbrev shard_with : GivenSizes → ShardArgs
+  shard_with s = record args { scan = record args.scan { image = with_sizes args.scan.image s } }
 
-  named_with : (h : Sizes) (id : ShardId) → MayBeLeftOut bytes fails most maps args.scan.image g s →
-      IsNamed (known_bytes bytes fails most) maps args h id → IsNamed (known_bytes bytes fails most) maps shard_args h id
-  named_with h id may x = record { sizes = geometry_with bytes fails most maps args.scan.image g s h may x.sizes; id_is = x.id_is }
-
-  read_with : (image : Image) (answer : ShardAnswer) → MayBeLeftOut bytes fails most maps args.scan.image g s →
-      IsShardRead (known_bytes bytes fails most) maps args image answer → IsShardRead (known_bytes bytes fails most) maps shard_args image answer
-  read_with image answer may x = record {
+  read_with : {image : Image} {answer : ShardAnswer} (x : IsShardRead (known args.scan.image.name.now) maps args image answer) →
+      IsShardRead (known args.scan.image.name.now) maps (shard_with (given x.geometry)) image answer
+  read_with {image} x = record {
     geometry = x.geometry;
     id = x.id;
-    named = named_with x.geometry x.id may x.named;
-    loaded = loaded_with (known_bytes bytes fails most) maps args.scan.image s x.geometry image x.loaded;
+    named = record { sizes = has_given x.geometry; id_is = x.named.id_is };
+    loaded = loaded_with (known args.scan.image.name.now) maps args.scan.image (given x.geometry) x.geometry image x.loaded;
     answered = x.answered;
   }
 
-  pub shard_with : (text : List ℕ) (outcome : Outcome) → MayBeLeftOut bytes fails most maps args.scan.image g s →
-      IsShardWritten (known_bytes bytes fails most) maps args text outcome → IsShardWritten (known_bytes bytes fails most) maps shard_args text outcome
-  shard_with text outcome may x = record {
-    image = x.image;
-    answer = x.answer;
-    is_read = read_with x.image x.answer may x.is_read;
-    written = x.written;
-  }
+  lost_with : (fault : Fault) → (x : IsShardLost (known args.scan.image.name.now) maps args fault) →
+      IsShardLost (known args.scan.image.name.now) maps (shard_with (given x.is_read.geometry)) fault
+  lost_with fault x = record { image = x.image; answer = x.answer; is_read = read_with x.is_read; why = x.why }
 
-  lost_with : (fault : Fault) → MayBeLeftOut bytes fails most maps args.scan.image g s → IsShardLost (known_bytes bytes fails most) maps args fault →
-      IsShardLost (known_bytes bytes fails most) maps shard_args fault
-  lost_with fault may x = record { image = x.image; answer = x.answer; is_read = read_with x.image x.answer may x.is_read; why = x.why }
-
-  id_fault_with : (fault : Fault) → MayBeLeftOut bytes fails most maps args.scan.image g s → IsFaultAfterId (known_bytes bytes fails most) maps args fault →
-      IsFaultAfterId (known_bytes bytes fails most) maps shard_args fault
-  id_fault_with fault may (h, id, named, why) =
-      (h, id, named_with h id may named, disk_fault_with (known_bytes bytes fails most) maps args.scan.image s h fault why)
+  id_fault_with : (fault : Fault) → (x : IsFaultAfterId (known args.scan.image.name.now) maps args fault) →
+      IsFaultAfterId (known args.scan.image.name.now) maps (shard_with (given x.0)) fault
+  id_fault_with fault x = (
+    x.0,
+    x.1,
+    record { sizes = has_given x.0; id_is = x.2.id_is },
+    disk_fault_with (known args.scan.image.name.now) maps args.scan.image (given x.0) x.0 fault x.3,
+  )
 
   abbrev ShardOrWith : Fault → Type 0
   ShardOrWith fault =
-      IsGeometryFault (known_bytes bytes fails most) maps args.scan.image fault ⊎ IsShardFault (known_bytes bytes fails most) maps shard_args fault
+      IsGeometryFault (known args.scan.image.name.now) maps args.scan.image fault
+      ⊎ ((s : GivenSizes) × AreFoundFor known maps args.scan.image s × IsShardFault (known args.scan.image.name.now) maps (shard_with s) fault)
 
-  pub shard_fault_with : (fault : Fault) → MayBeLeftOut bytes fails most maps args.scan.image g s → IsShardFault (known_bytes bytes fails most) maps args fault →
-      ShardOrWith fault
-  shard_fault_with NotUtf8 may is = inr (id_fault_with NotUtf8 may is)
-  shard_fault_with (Help text) may is = inr (id_fault_with (Help text) may is)
-  shard_fault_with (Args text) may is = inr (id_fault_with (Args text) may is)
-  shard_fault_with (Geometry limit) may is = inl is
-  shard_fault_with NoSizes may is = inl is
-  shard_fault_with Extent may is = inr (id_fault_with Extent may is)
-  shard_fault_with (BadShard text) may (h, sizes, same, none) =
-      inr (h, geometry_with bytes fails most maps args.scan.image g s h may sizes, same, none)
-  shard_fault_with Pointer may is = inr (id_fault_with Pointer may is)
-  shard_fault_with (BadPage arg) may is = inr (id_fault_with (BadPage arg) may is)
-  shard_fault_with (NoMap name) may (inl is) = inl is
-  shard_fault_with (NoMap name) may (inr is) = inr (inr (id_fault_with (NoMap name) may is))
-  shard_fault_with (MapLine k) may (inl is) = inl is
-  shard_fault_with (MapLine k) may (inr is) = inr (inr (id_fault_with (MapLine k) may is))
-  shard_fault_with (NoImage name) may (inl is) = inl is
-  shard_fault_with (NoImage name) may (inr is) = inr (inr (id_fault_with (NoImage name) may is))
-  shard_fault_with TooLong may is = inr (id_fault_with TooLong may is)
-  shard_fault_with NoShard may is = inr (lost_with NoShard may is)
-  shard_fault_with (PayloadLost number) may is = inr (lost_with (PayloadLost number) may is)
-  shard_fault_with (Output written) may is = inr (id_fault_with (Output written) may is)
-  shard_fault_with OutOfMemory may is = inr tt
+  shard_fault_with : (fault : Fault) → IsShardFault (known args.scan.image.name.now) maps args fault → ShardOrWith fault
+  shard_fault_with NotUtf8 is = inr (given is.0, found_for known maps args.scan.image is.0 out is.2.sizes, id_fault_with NotUtf8 is)
+  shard_fault_with (Help text) is = inr (given is.0, found_for known maps args.scan.image is.0 out is.2.sizes, id_fault_with (Help text) is)
+  shard_fault_with (Args text) is = inr (given is.0, found_for known maps args.scan.image is.0 out is.2.sizes, id_fault_with (Args text) is)
+  shard_fault_with (Geometry limit) is = inl is
+  shard_fault_with NoSizes is = inl is
+  shard_fault_with Extent is = inr (given is.0, found_for known maps args.scan.image is.0 out is.2.sizes, id_fault_with Extent is)
+  shard_fault_with (BadShard text) is =
+      inr (given is.0, found_for known maps args.scan.image is.0 out is.1, (is.0, has_given is.0, is.2, is.3))
+  shard_fault_with Pointer is = inr (given is.0, found_for known maps args.scan.image is.0 out is.2.sizes, id_fault_with Pointer is)
+  shard_fault_with (BadPage arg) is = inr (given is.0, found_for known maps args.scan.image is.0 out is.2.sizes, id_fault_with (BadPage arg) is)
+  shard_fault_with (NoMap name) (inl is) = inl is
+  shard_fault_with (NoMap name) (inr is) = inr (given is.0, found_for known maps args.scan.image is.0 out is.2.sizes, inr (id_fault_with (NoMap name) is))
+  shard_fault_with (MapLine k) (inl is) = inl is
+  shard_fault_with (MapLine k) (inr is) = inr (given is.0, found_for known maps args.scan.image is.0 out is.2.sizes, inr (id_fault_with (MapLine k) is))
+  shard_fault_with (NoImage name) (inl is) = inl is
+  shard_fault_with (NoImage name) (inr is) = inr (given is.0, found_for known maps args.scan.image is.0 out is.2.sizes, inr (id_fault_with (NoImage name) is))
+  shard_fault_with TooLong is = inr (given is.0, found_for known maps args.scan.image is.0 out is.2.sizes, id_fault_with TooLong is)
+  shard_fault_with NoShard is =
+      inr (given is.is_read.geometry, found_for known maps args.scan.image is.is_read.geometry out is.is_read.named.sizes, lost_with NoShard is)
+  shard_fault_with (PayloadLost number) is =
+      inr (given is.is_read.geometry, found_for known maps args.scan.image is.is_read.geometry out is.is_read.named.sizes, lost_with (PayloadLost number) is)
+  shard_fault_with (Output written) is = inr (given is.0, found_for known maps args.scan.image is.0 out is.2.sizes, id_fault_with (Output written) is)
+  shard_fault_with OutOfMemory is = inl (memory_fault (known args.scan.image.name.now) maps args.scan.image)
+
+-- ---- each request
+
+-- an answer without sizes is one with sizes that are found
+pub answer_left_out : (known : List ℕ → KnownRaw) (maps : KnownMaps) (request : Request) (text : List ℕ) (outcome : Outcome) →
+    IsAnswerOf known maps request text outcome → LeavesOut request →
+    (s : GivenSizes) × FindsSizes known maps request s × IsAnswerOf known maps (request_with request s) text outcome
+answer_left_out known maps Demo text outcome x out = absurd out
+answer_left_out known maps (Items args) text outcome x out = (
+  given x.geometry,
+  found_for known maps args.image x.geometry out x.places.sizes,
+  record {
+    geometry = x.geometry;
+    places = places_with known maps args out x.geometry x.places;
+    image = x.image;
+    loaded = loaded_with (known args.image.name.now) maps args.image (given x.geometry) x.geometry x.image x.loaded;
+    listed = x.listed;
+  },
+)
+answer_left_out known maps (Disk wanted args) text outcome x out = (
+  given x.disk.geometry,
+  found_for known maps args.image x.disk.geometry out x.disk.sizes,
+  record { image = x.image; disk = disk_with known maps args.image out x.image x.disk; answered = x.answered },
+)
+answer_left_out known maps (Manifest args) text outcome x out = absurd out
+answer_left_out known maps (Compare args) text outcome x out = absurd out
+answer_left_out known maps (Shard args) text outcome x out = (
+  given x.is_read.geometry,
+  found_for known maps args.scan.image x.is_read.geometry out x.is_read.named.sizes,
+  record { image = x.image; answer = x.answer; is_read = read_with known maps args out x.is_read; written = x.written },
+)
+answer_left_out known maps (Superblocks args) text outcome x out = (
+  given x.disk.geometry,
+  found_for known maps args x.disk.geometry out x.disk.sizes,
+  record { image = x.image; disk = disk_with known maps args out x.image x.disk; answered = x.answered },
+)
+answer_left_out known maps (sizes_of_image args) text outcome x out = absurd out
+
+-- a fault without sizes is one of finding them, or one with sizes that are found
+pub fault_left_out : (known : List ℕ → KnownRaw) (maps : KnownMaps) (request : Request) (fault : Fault) →
+    IsFaultOf known maps request fault → LeavesOut request →
+    IsFindingFault known maps request fault
+    ⊎ ((s : GivenSizes) × FindsSizes known maps request s × IsFaultOf known maps (request_with request s) fault)
+fault_left_out known maps Demo fault is out = absurd out
+fault_left_out known maps (Items args) fault is out = items_fault_with known maps args out fault is
+fault_left_out known maps (Disk wanted args) fault is out = scan_fault_with known maps args.image out fault is
+fault_left_out known maps (Manifest args) fault is out = absurd out
+fault_left_out known maps (Compare args) fault is out = absurd out
+fault_left_out known maps (Shard args) fault is out = shard_fault_with known maps args out fault is
+fault_left_out known maps (Superblocks args) fault is out = scan_fault_with known maps args out fault is
+fault_left_out known maps (sizes_of_image args) fault is out = absurd out

@@ -1,5 +1,5 @@
 -- Pages that are lost because a map lacks a byte of them.
-use Rattle.std.proofs.Common.{◌≡◌, ◌<◌, ◌*◌, ℕ, List, [], Bool, true, false, Option, None, Some, length, get_or, arith, refl}
+use Rattle.std.proofs.Common.{◌≡◌, ◌<◌, ◌*◌, ℕ, List, [], Bool, true, false, Option, None, Some, length, get_or, arith, ap, refl}
 use Rattle.std.proofs.lemmas.Nat.{row_fits_turned}
 use Rattle.scrub_disk.specs.Image.{Image}
 use Rattle.scrub_disk.specs.BytesAndMarks.{page_number}
@@ -40,6 +40,12 @@ pub loses_by_map : (map : RescueMap) (before image : Image) →
     (blocks : Option (List MapBlock)) → KeepsMap (Some map) blocks → LosesByMap blocks before image
 loses_by_map map before image loses None keeps = absurd keeps
 loses_by_map map before image loses (Some blocks) keeps = loses blocks keeps
+
+-- an image without the pages that a map lacks has the same sizes
+pub lost_geometry : (blocks : Option (List MapBlock)) (before image : Image) → LosesByMap blocks before image →
+    image.geometry ≡ before.geometry
+lost_geometry None before image same = ap (λ i. i.geometry) same
+lost_geometry (Some blocks) before image loses = loses.geometry
 
 -- a map keeps some blocks
 pub some_blocks : (map : RescueMap) (blocks : Option (List MapBlock)) → KeepsMap (Some map) blocks →

@@ -5,8 +5,8 @@ use Rattle.scrub_disk.specs.declared.geometry.Geometry.{Geometry as Sizes}
 use Rattle.scrub_disk.specs.Image.{Image, disk_bytes}
 use Rattle.scrub_map.specs.declared.block.MapBlock.{MapBlock}
 use Rattle.scrub_pool.specs.Takings.{TakingsValue}
-use Rattle.scrub_report.specs.Answer.{AreTakingsBy}
-use Rattle.scrub_compare.specs.Compare.{IsComparison, IsSafety}
+use Rattle.scrub_found.specs.Takings.{AreTakingsBy}
+use Rattle.scrub_compare.specs.Compare.{IsComparison}
 use Rattle.scrub_args.specs.declared.args.CompareArgs.{CompareArgs}
 use Rattle.scrub_args.specs.declared.args.ImageArgs.{ImageArgs}
 use Rattle.scrub_cli.specs.declared.process.fault.Fault.{Fault}
@@ -35,10 +35,9 @@ pub record AreImagesOf (known : List ℕ → KnownRaw) (maps : KnownMaps) (args 
 
 -- the text is the comparison of two images, and the outcome says whether it is safe
 pub record IsCompared (resets : List ℕ) (before after : Image) (text : List ℕ) (outcome : Outcome) : Type 0 where
-  pub text_is : IsComparison resets before after text
-  pub is_safe : Bool
-  pub verdict : IsSafety resets before after is_safe
-  pub ended : outcome ≡ outcome_of is_safe
+  pub safe : Bool
+  pub comparison : IsComparison resets before after text safe
+  pub ended : outcome ≡ outcome_of safe
 
 -- the answer of `compare`: the comparison of two images that were loaded so, with its outcome
 pub record IsCompareAnswer (known : List ℕ → KnownRaw) (maps : KnownMaps) (args : CompareArgs) (text : List ℕ) (outcome : Outcome) : Type 0 where

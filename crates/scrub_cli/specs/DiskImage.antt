@@ -1,6 +1,6 @@
 -- The disk that the arguments name: the pages that they give as unreadable, the image that is loaded, without what its map
 -- lacks, and why none is.
-use Rattle.std.specs.Prelude.{◌≡◌, ◌<◌, ℕ, List, length, take, slice_index_or, Option, IfSome}
+use Rattle.std.specs.Prelude.{◌≡◌, ◌<◌, ℕ, List, length, take, slice_index_or, Option, None, Some, IfSome}
 use Rattle.std.specs.Borrow.{Bor}
 use Rattle.std.specs.List.{AllZip}
 use Rattle.scrub_disk.specs.declared.geometry.Geometry.{Geometry as Sizes}
@@ -10,6 +10,7 @@ use Rattle.scrub_map.specs.declared.block.MapBlock.{MapBlock}
 use Rattle.scrub_cli.specs.declared.process.fault.Fault.{Fault}
 use Rattle.scrub_cli.specs.declared.process.fault.Fault.TheVariants.{BadPage, NoMap, MapLine, NoImage, TooLong, OutOfMemory}
 use Rattle.scrub_args.specs.declared.args.ImageArgs.{ImageArgs}
+use Rattle.scrub_cli.specs.DiskGeometry.{AreSizesWithout}
 use Rattle.scrub_cli.specs.KnownFiles.{KnownMaps, KnownRaw}
 use Rattle.scrub_args.specs.Pair.{IsPair}
 use Rattle.scrub_cli.specs.Rescue.{AreBlocksOf, IsMapFault, IsMapNamed, LosesByMap}
@@ -41,7 +42,8 @@ IsBadPageFault g args OutOfMemory = Unit {0}
 IsBadPageFault g args fault = ⊥
 
 -- an image of these sizes, loaded from this raw image, with the pages unreadable that the arguments name and, if a map is
--- named, those with a byte that it lacks; which reads and how many of them may have failed is known, not which did
+-- named, those with a byte that it lacks; which reads and how many of them may have failed is known, not which did. Sizes that are
+-- left out are found in this raw image, with the same map
 pub record IsLoadedDisk (known : KnownRaw) (maps : KnownMaps) (args : ImageArgs) (g : Sizes) (image : Image) : Type 0 where
   pub unreadable : List (ℕ × ℕ)
   pub named : NamePages g args.bad_pages.items unreadable
@@ -50,6 +52,7 @@ pub record IsLoadedDisk (known : KnownRaw) (maps : KnownMaps) (args : ImageArgs)
   pub before : Image
   pub loaded : IsLoadedWith known.bytes known.fails known.most_failures g unreadable before
   pub rescued : LosesByMap blocks before image
+  pub sizes : args.sizes ≡ None → AreSizesWithout known blocks (Some g)
 
 -- the arguments name pages, and their map was read, if one is named
 pub record AreReadBefore (maps : KnownMaps) (args : ImageArgs) (g : Sizes) : Type 0 where
@@ -64,11 +67,11 @@ IsMapFaultBehind maps args g fault =
     (pages : List (ℕ × ℕ)) × NamePages g args.bad_pages.items pages × IsMapFault maps args.map fault
 
 -- why no disk of these sizes is loaded: a page argument, then the map, then the image, each only if nothing before it
--- failed; or memory ran out, anywhere
+-- failed; or memory ran out, anywhere. If the sizes are left out, map and image are open by then
 abbrev pub IsDiskFault : KnownRaw → KnownMaps → ImageArgs → Sizes → Fault → Type 0
-IsDiskFault known maps args g (NoMap name) = IsMapFaultBehind maps args g (NoMap name)
-IsDiskFault known maps args g (MapLine k) = IsMapFaultBehind maps args g (MapLine k)
-IsDiskFault known maps args g (NoImage name) = AreReadBefore maps args g × (name ≡ args.name)
+IsDiskFault known maps args g (NoMap name) = ¬ (args.sizes ≡ None) × IsMapFaultBehind maps args g (NoMap name)
+IsDiskFault known maps args g (MapLine k) = ¬ (args.sizes ≡ None) × IsMapFaultBehind maps args g (MapLine k)
+IsDiskFault known maps args g (NoImage name) = ¬ (args.sizes ≡ None) × AreReadBefore maps args g × (name ≡ args.name)
 IsDiskFault known maps args g TooLong = AreReadBefore maps args g × IfSome known.bytes (λ bytes. disk_bytes g < length bytes)
 IsDiskFault known maps args g fault = IsBadPageFault g args.bad_pages.items fault
 
@@ -85,15 +88,15 @@ pub record IsLoadedBy (known : KnownRaw) (g : Sizes) (pages : List (ℕ × ℕ))
   pub loaded : IsLoadedWith known.bytes known.fails known.most_failures g pages before
   pub rescued : LosesByMap blocks before image
 
--- why nothing is known of what is lost: a page argument, then the map; or memory ran out
+-- why what is lost isn't known, or the image isn't opened: a page argument, then the map, then the image; or memory ran out
 abbrev pub IsLossesFault : KnownMaps → ImageArgs → Sizes → Fault → Type 0
-IsLossesFault maps args g (NoMap name) = IsMapFaultBehind maps args g (NoMap name)
-IsLossesFault maps args g (MapLine k) = IsMapFaultBehind maps args g (MapLine k)
+IsLossesFault maps args g (NoMap name) = ¬ (args.sizes ≡ None) × IsMapFaultBehind maps args g (NoMap name)
+IsLossesFault maps args g (MapLine k) = ¬ (args.sizes ≡ None) × IsMapFaultBehind maps args g (MapLine k)
+IsLossesFault maps args g (NoImage name) = ¬ (args.sizes ≡ None) × AreReadBefore maps args g × (name ≡ args.name)
 IsLossesFault maps args g fault = IsBadPageFault g args.bad_pages.items fault
 
--- why the image of this name isn't loaded: it can't be opened, or it is too long; or memory ran out
-abbrev pub IsNamedFault : KnownRaw → Bor (List ℕ) → Sizes → Fault → Type 0
-IsNamedFault known name g (NoImage other) = other ≡ name
-IsNamedFault known name g TooLong = IfSome known.bytes (λ bytes. disk_bytes g < length bytes)
-IsNamedFault known name g OutOfMemory = Unit {0}
-IsNamedFault known name g fault = ⊥
+-- why a raw image of which this is known isn't loaded: it is too long, or memory ran out
+abbrev pub IsRawFault : KnownRaw → Sizes → Fault → Type 0
+IsRawFault known g TooLong = IfSome known.bytes (λ bytes. disk_bytes g < length bytes)
+IsRawFault known g OutOfMemory = Unit {0}
+IsRawFault known g fault = ⊥

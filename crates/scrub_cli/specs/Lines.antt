@@ -1,7 +1,7 @@
 -- The text of a list of items, and the outcome of the items.
 use Rattle.std.specs.Prelude.{◌≡◌, ℕ, List, [], ◌∷◌, ◌++◌}
 use Rattle.std.specs.List.{list_all}
-use Rattle.scrub_report.specs.Scrubbed.{is_clean_item}
+use Rattle.scrub_found.specs.Scrubbed.{is_clean_item}
 use Rattle.scrub_scan.specs.declared.item.Item.{Item}
 use Rattle.scrub_scan.specs.Extent.{Extent}
 use Rattle.scrub_scan.specs.Line.{line_of}

@@ -4,8 +4,8 @@ use Rattle.std.specs.List.{list_all}
 use Rattle.scrub_disk.specs.declared.geometry.Geometry.{Geometry as Sizes}
 use Rattle.scrub_disk.specs.Image.{Image}
 use Rattle.scrub_pool.specs.Takings.{TakingsValue}
-use Rattle.scrub_report.specs.Answer.{AreTakingsBy}
-use Rattle.scrub_listings.specs.Manifest.{IsManifestBut, IsWholeBut}
+use Rattle.scrub_found.specs.Takings.{AreTakingsBy}
+use Rattle.scrub_listings.specs.Manifest.{IsManifestBut}
 use Rattle.scrub_cli.specs.declared.process.fault.Fault.{Fault}
 use Rattle.scrub_cli.specs.declared.process.fault.Fault.TheVariants.{Geometry, NoSizes, Extent, NoMap, MapLine, NoImage, OutOfMemory}
 use Rattle.scrub_cli.specs.declared.process.outcome.Outcome.{Outcome}
@@ -15,16 +15,11 @@ use Rattle.scrub_cli.specs.DiskGeometry.{IsGeometryFault, IsGeometryOf}
 use Rattle.scrub_cli.specs.KnownFiles.{KnownMaps, KnownRaw}
 use Rattle.scrub_cli.specs.Outcome.{outcome_of}
 
--- the outcome of a manifest: whether nothing is missing of what is found in the image, as if these extents had been reset
-pub record IsOutcomeOfManifest (resets : List ℕ) (image : Image) (outcome : Outcome) : Type 0 where
-  pub is_whole : Bool
-  pub verdict : IsWholeBut resets image is_whole
-  pub ended : outcome ≡ outcome_of is_whole
-
--- the manifest of an image, as if these extents had been reset, with its outcome
+-- the manifest of an image, as if these extents had been reset, and the outcome says whether nothing is missing
 pub record IsManifestListed (resets : List ℕ) (image : Image) (text : List ℕ) (outcome : Outcome) : Type 0 where
-  pub text_is : IsManifestBut resets image text
-  pub ended : IsOutcomeOfManifest resets image outcome
+  pub whole : Bool
+  pub manifest : IsManifestBut resets image text whole
+  pub ended : outcome ≡ outcome_of whole
 
 -- an extent that can be reset: any but extent 0, which has the superblocks
 abbrev pub may_be_reset : Sizes → ℕ → Bool

@@ -4,7 +4,7 @@ use Rattle.std.specs.Fmt.{decimal}
 use Rattle.std.specs.List.{flat_map}
 use Rattle.hex.specs.Hex.{encode_lower}
 use Rattle.scrub_scan.specs.Line.{spaced}
-use Rattle.scrub_report.specs.Texts.{state_text}
+use Rattle.scrub_found.specs.Texts.{state_text}
 use Rattle.scrub_listings.specs.Manifest.{two_digits}
 use Rattle.scrub_shard.specs.declared.archiving.Remark.{Remark}
 use Rattle.scrub_shard.specs.declared.archiving.Remark.TheVariants.{NoSuperblock, RunLost, ShardLost, ShardDoubtful}

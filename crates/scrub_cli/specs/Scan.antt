@@ -3,12 +3,12 @@ use Rattle.std.specs.Prelude.{◌≡◌, ◌⊎◌, ℕ, List, Bool, Option}
 use Rattle.scrub_disk.specs.declared.geometry.Geometry.{Geometry as Sizes}
 use Rattle.scrub_disk.specs.Image.{Image}
 use Rattle.scrub_pool.specs.Takings.{TakingsValue}
-use Rattle.scrub_report.specs.Answer.{AnswerValue, AreTakingsBy, IsScrubAnswer}
-use Rattle.scrub_report.specs.Report.{IsReport}
-use Rattle.scrub_listings.specs.Locators.{AreLocatorLines}
-use Rattle.scrub_listings.specs.Summary.{IsSoundImage, IsSummary}
+use Rattle.scrub_report.specs.Answer.{AnswerValue, IsScrubAnswer}
+use Rattle.scrub_found.specs.Takings.{AreTakingsBy}
+use Rattle.scrub_listings.specs.Locators.{IsLocatorListing}
+use Rattle.scrub_listings.specs.Summary.{IsSummary}
 use Rattle.scrub_reclaim.specs.Doubts.{Acceptance}
-use Rattle.scrub_reclaim.specs.Reclaimable.{AreReclaimLines, IsClear}
+use Rattle.scrub_reclaim.specs.Reclaimable.{AreReclaimLines}
 use Rattle.scrub_shard.specs.Archive.{IsArchive}
 use Rattle.scrub_shard.specs.declared.archiving.Remark.{Remark}
 use Rattle.scrub_args.specs.declared.args.Wanted.{Wanted}
@@ -23,66 +23,25 @@ use Rattle.scrub_cli.specs.KnownFiles.{KnownMaps, KnownRaw}
 use Rattle.scrub_cli.specs.DiskGeometry.{IsGeometryFault, IsGeometryOf}
 use Rattle.scrub_cli.specs.Outcome.{IsOutcomeWith, outcome_of}
 use Rattle.scrub_cli.specs.Remarks.{remark_lines}
-use Rattle.scrub_report.specs.Scrubbed.{IsCleanImage}
-
--- the outcome of an image: whether it is clean
-pub record IsOutcomeOfImage (image : Image) (outcome : Outcome) : Type 0 where
-  pub is_clean : Bool
-  pub verdict : IsCleanImage image is_clean
-  pub ended : outcome ≡ outcome_of is_clean
-
--- the outcome of a summary: whether the verdict on the image is that it is sound
-pub record IsOutcomeOfSummary (last : Option ℕ) (image : Image) (outcome : Outcome) : Type 0 where
-  pub is_sound : Bool
-  pub verdict : IsSoundImage last image is_sound
-  pub ended : outcome ≡ outcome_of is_sound
-
--- the outcome of the doubts of an image: whether each is accepted
-pub record IsOutcomeOfDoubts (image : Image) (accepted : Acceptance) (outcome : Outcome) : Type 0 where
-  pub is_clear : Bool
-  pub verdict : IsClear image accepted is_clear
-  pub ended : outcome ≡ outcome_of is_clear
-
--- the text is the archive of all shards of an image
-pub record IsArchiveText (image : Image) (text : List ℕ) : Type 0 where
-  pub remarks : List Remark
-  pub archive : IsArchive image text remarks
-
--- the outcome of all shards of an image: the lines of what is said beside the archive
-pub record IsOutcomeOfShards (image : Image) (outcome : Outcome) : Type 0 where
-  pub tar : List ℕ
-  pub remarks : List Remark
-  pub archive : IsArchive image tar remarks
-  pub ended : IsOutcomeWith (remark_lines remarks) outcome
 
 -- the lines of doubts that are accepted, and the generation of the last superblock, if it is given
 abbrev pub acceptance : List (List ℕ) → Option ℕ → Acceptance
 acceptance lines last = record { lines = lines; last = last }
 
--- the text is what is wanted of the image: its report, its index, the lines of its named locators, the archive of its shards, its
--- summary, or the lines of what may be reclaimed
-abbrev pub Tells : Wanted → Image → List ℕ → Type 0
-Tells Report image text = IsReport image text
-Tells Index image text = (a : AnswerValue) × IsScrubAnswer image a × (text ≡ a.index)
-Tells Locators image text = AreLocatorLines image text
-Tells Shards image text = IsArchiveText image text
-Tells (Summary last) image text = IsSummary last image text
-Tells (Reclaimable lines last) image text = AreReclaimLines image (acceptance lines last) text
-
--- the outcome is that of the image, for the archive that of its shards, for a summary that of its verdict, or for what may be
--- reclaimed that of its doubts
-abbrev pub IsOutcomeOf : Wanted → Image → Outcome → Type 0
-IsOutcomeOf Report image outcome = IsOutcomeOfImage image outcome
-IsOutcomeOf Index image outcome = IsOutcomeOfImage image outcome
-IsOutcomeOf Locators image outcome = IsOutcomeOfImage image outcome
-IsOutcomeOf Shards image outcome = IsOutcomeOfShards image outcome
-IsOutcomeOf (Summary last) image outcome = IsOutcomeOfSummary last image outcome
-IsOutcomeOf (Reclaimable lines last) image outcome = IsOutcomeOfDoubts image (acceptance lines last) outcome
-
--- the text is what is wanted of an image, with its outcome
-pub record IsDiskAnswer (wanted : Wanted) (image : Image) (text : List ℕ) (outcome : Outcome) : Type 0 where
-  pub tells : Tells wanted image text
-  pub ended : IsOutcomeOf wanted image outcome
+-- the text is what is wanted of the image, with the outcome: its report or its index, and whether it is clean; the lines of its
+-- named locators; the archive of its shards, with the lines of what is said beside it; its summary; or the lines of what may be
+-- reclaimed
+abbrev pub IsDiskAnswer : Wanted → Image → List ℕ → Outcome → Type 0
+IsDiskAnswer Report image text outcome =
+    (a : AnswerValue) × IsScrubAnswer image a × (text ≡ a.report) × (outcome ≡ outcome_of a.is_clean)
+IsDiskAnswer Index image text outcome =
+    (a : AnswerValue) × IsScrubAnswer image a × (text ≡ a.index) × (outcome ≡ outcome_of a.is_clean)
+IsDiskAnswer Locators image text outcome = (clean : Bool) × IsLocatorListing image text clean × (outcome ≡ outcome_of clean)
+IsDiskAnswer Shards image text outcome =
+    (remarks : List Remark) × IsArchive image text remarks × IsOutcomeWith (remark_lines remarks) outcome
+IsDiskAnswer (Summary last) image text outcome = (sound : Bool) × IsSummary last image text sound × (outcome ≡ outcome_of sound)
+IsDiskAnswer (Reclaimable lines last) image text outcome =
+    (clear : Bool) × AreReclaimLines image (acceptance lines last) text clear × (outcome ≡ outcome_of clear)
 
 -- an image of the sizes that are given or found, loaded from this raw image
 pub record IsDiskOf (known : KnownRaw) (maps : KnownMaps) (args : ImageArgs) (image : Image) : Type 0 where

@@ -3,7 +3,7 @@ use Rattle.std.specs.Prelude.{◌≡◌, ◌⊎◌, ℕ, List}
 use Rattle.scrub_disk.specs.declared.geometry.Geometry.{Geometry as Sizes}
 use Rattle.scrub_disk.specs.Image.{Image}
 use Rattle.scrub_pool.specs.Takings.{TakingsValue}
-use Rattle.scrub_report.specs.Answer.{AreTakingsBy}
+use Rattle.scrub_found.specs.Takings.{AreTakingsBy}
 use Rattle.scrub_run.specs.declared.shard_id.ShardId.{ShardId}
 use Rattle.scrub_shard.specs.Shard.{IsShardAnswer}
 use Rattle.scrub_shard.specs.declared.shard.ShardAnswer.{ShardAnswer}

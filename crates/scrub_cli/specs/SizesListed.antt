@@ -4,12 +4,12 @@ use Rattle.scrub_map.specs.declared.block.MapBlock.{MapBlock}
 use Rattle.scrub_map.specs.Rescued.{AreFirstLacking}
 use Rattle.scrub_listings.specs.Sizes.{IsSizesListingOf}
 use Rattle.scrub_cli.specs.declared.process.fault.Fault.{Fault}
-use Rattle.scrub_cli.specs.declared.process.fault.Fault.TheVariants.{NoMap, MapLine, NoImage, OutOfMemory}
 use Rattle.scrub_cli.specs.declared.process.outcome.Outcome.{Outcome}
 use Rattle.scrub_args.specs.declared.args.SizesArgs.{SizesArgs}
 use Rattle.scrub_cli.specs.KnownFiles.{KnownMaps, KnownRaw}
+use Rattle.scrub_cli.specs.Opened.{IsOpeningFault}
 use Rattle.scrub_cli.specs.Outcome.{outcome_of}
-use Rattle.scrub_cli.specs.Rescue.{AreBlocksOf, IsMapFault}
+use Rattle.scrub_cli.specs.Rescue.{AreBlocksOf}
 
 -- the places of the first bytes that the map lacks in the 131,072 blocks of 512 bytes below byte 67,108,864, each counted
 -- from its block's start, and no places without a map
@@ -34,12 +34,6 @@ pub record IsSizesAnswer (known : KnownRaw) (maps : KnownMaps) (args : SizesArgs
   pub lacks : AreLackingBy blocks lacking
   pub listed : AreSizesListed known lacking text outcome
 
--- why `sizes` gives no listing: a fault of the map, an image that can't be opened (only if the map was read), or memory
--- ran out; no image is too long
+-- why `sizes` gives no listing: the map and the image aren't opened, or memory ran out; no image is too long
 abbrev pub IsSizesFault : KnownMaps → SizesArgs → Fault → Type 0
-IsSizesFault maps args (NoMap name) = IsMapFault maps args.map (NoMap name)
-IsSizesFault maps args (MapLine k) = IsMapFault maps args.map (MapLine k)
-IsSizesFault maps args (NoImage name) =
-    (blocks : Option (List MapBlock)) × AreBlocksOf maps args.map blocks × (name ≡ args.name)
-IsSizesFault maps args OutOfMemory = Unit {0}
-IsSizesFault maps args fault = ⊥
+IsSizesFault maps args fault = IsOpeningFault maps args.map args.name fault

@@ -1,7 +1,7 @@
 -- What the command `superblocks` answers for an image file.
 use Rattle.std.specs.Prelude.{◌≡◌, ℕ, List, Bool}
 use Rattle.scrub_disk.specs.Image.{Image}
-use Rattle.scrub_listings.specs.Superblocks.{AreSuperblockLines, AreCleanSuperblocks}
+use Rattle.scrub_listings.specs.Superblocks.{IsSuperblockListing}
 use Rattle.scrub_cli.specs.declared.process.outcome.Outcome.{Outcome}
 use Rattle.scrub_args.specs.declared.args.ImageArgs.{ImageArgs}
 use Rattle.scrub_cli.specs.KnownFiles.{KnownMaps, KnownRaw}
@@ -10,10 +10,9 @@ use Rattle.scrub_cli.specs.Scan.{IsDiskOf}
 
 -- the lines of the superblocks of an image, and whether they are in good order
 pub record AreSuperblocksListed (image : Image) (text : List ℕ) (outcome : Outcome) : Type 0 where
-  pub lines : AreSuperblockLines image text
-  pub is_clean : Bool
-  pub clean : AreCleanSuperblocks image is_clean
-  pub ended : outcome ≡ outcome_of is_clean
+  pub clean : Bool
+  pub listing : IsSuperblockListing image text clean
+  pub ended : outcome ≡ outcome_of clean
 
 -- the answer of `superblocks`, for an image of the sizes that are given or found, loaded from this raw image
 pub record IsSuperblocksAnswer (known : KnownRaw) (maps : KnownMaps) (args : ImageArgs) (text : List ℕ)

@@ -1,5 +1,6 @@
-//! The commands, with the answer of each, and what they share: `disk_image` loads the disk in an image file,
-//! `disk_extent` one extent of it, `rescue` reads the map of a rescue, and `answer` makes the answers.
+//! The commands, with the answer of each, and what they share: `opened` opens the map and the image that the
+//! arguments name, `geometry` finds the sizes, `disk_image` loads the disk, `disk_extent` one extent of it,
+//! `rescue` reads the map of a rescue, and `answer` makes the answers.
 
 pub(crate) mod answer;
 pub(crate) mod compare;
@@ -8,8 +9,8 @@ pub(crate) mod disk_extent;
 pub(crate) mod disk_image;
 pub(crate) mod geometry;
 pub(crate) mod items;
-pub(crate) mod left_out;
 pub(crate) mod manifest;
+pub(crate) mod opened;
 pub(crate) mod rescue;
 pub(crate) mod scan;
 pub(crate) mod shard;

@@ -22,10 +22,10 @@ use Rattle.scrub_check.specs.Checked.{is_dangling, is_hidden, is_owned_by, is_so
 use Rattle.scrub_check.specs.ChunkForms.{form_at}
 use Rattle.scrub_check.specs.Runs.{ReadRunsValue}
 use Rattle.scrub_check.specs.Spares.{frames, spares_of}
-use Rattle.scrub_report.specs.Resets.{IsScrubbedBut}
-use Rattle.scrub_report.specs.Scrubbed.{Scrubbed, IsScrubbed}
-use Rattle.scrub_report.proofs.OneReport.{one_scrub}
-use Rattle.scrub_listings.specs.Manifest.{IsManifest, form_text, hidden_runs, is_of_read_run, is_of_shard, looked_for, lost_runs, manifest_text, numbered_text, of_shards}
+use Rattle.scrub_found.specs.Resets.{IsScrubbedBut}
+use Rattle.scrub_found.specs.Scrubbed.{Scrubbed, IsScrubbed}
+use Rattle.scrub_found.proofs.OneScrub.{one_scrub}
+use Rattle.scrub_listings.specs.Manifest.{IsManifest, is_whole, form_text, hidden_runs, is_of_read_run, is_of_shard, looked_for, lost_runs, manifest_text, numbered_text, of_shards}
 use Rattle.scrub_reclaim.specs.Reset.{IsForeseen, NameTheSame}
 use Rattle.scrub_reclaim.proofs.CarriedNames.{named_alike}
 use Rattle.scrub_reclaim.proofs.Reset.{IsScannedBy, IsTheSame, alike_items, among_cases, as_foreseen, carries, kept_pointer, no_items, one_plan_in, reset_of, same_numbers, scanned_by, scans_alike, zero_pointer}
@@ -196,12 +196,13 @@ module _ (resets : List ℕ) (image : Image) (kept_there rest : Scrubbed) (x : I
 
 -- ---- two steps
 
-pub nothing_lost_in_two : (resets others : List ℕ) (before after later other : Image) (a b : List ℕ) → IsSafe resets before after →
-    IsSafe others after later → IsForeseen others later other → IsManifest before a → IsManifest other b → IsSameButMore a b
-nothing_lost_in_two resets others before after later other a b s t f x y =
+pub nothing_lost_in_two : (resets others : List ℕ) (before after later other : Image) (a b : List ℕ) (v w : Bool) → IsSafe resets before after →
+    IsSafe others after later → IsForeseen others later other → IsManifest before a v → IsManifest other b w → IsSameButMore a b
+nothing_lost_in_two resets others before after later other a b v w s t f x y =
     subst (λ (u : List ℕ). IsSameButMore u b) (ap manifest_text (one_scrub before c.found x.found s.safe.are.found x.scrubbed) ∙ sym x.text_is)
     (subst (λ (u : List ℕ). IsSameButMore (manifest_text c.found) u)
-    (as_foreseen others later other (manifest_text d.kept) b f (record { found = d.kept; scrubbed = t.safe.are.kept; text_is = refl }) y)
+    (as_foreseen others later other (manifest_text d.kept) b (is_whole d.kept) w f
+    (record { found = d.kept; scrubbed = t.safe.are.kept; text_is = refl; verdict = refl }) y).0
     (kept_text [] others before later c.found d.kept s.safe.are.found t.safe.are.kept (kept_more c.found c.rest d.kept (kept_more c.found c.kept c.rest first middle) last)))
   where
     c : Compared
@@ -214,7 +215,7 @@ nothing_lost_in_two resets others before after later other a b s t f x y =
     first = kept resets before after c s.safe.are (no_line resets c (sym s.safe.verdict))
 
     middle : AreKept c.kept c.rest
-    middle = without_resets resets after c.kept c.rest s.safe.are.kept s.safe.are.rest (none_points resets before after c.rest s.safe s.safe.are.rest) first.has_now first.read_now
+    middle = without_resets resets after c.kept c.rest s.safe.are.kept s.safe.are.rest (none_points resets before after s.text c.rest s.safe s.safe.are.rest) first.has_now first.read_now
 
     last : AreKept c.rest d.kept
     last =

@@ -19,9 +19,9 @@ use Rattle.scrub_scan.specs.Scanned.{Scanned}
 use Rattle.scrub_scan.specs.Tiling.{IsTiling, Joins}
 use Rattle.scrub_scan.proofs.Tilings.{one_tiling}
 use Rattle.scrub_check.specs.Live.{is_chunk}
-use Rattle.scrub_report.specs.Scrubbed.{Scrubbed, IsScrubbed, is_clean_extent, is_clean_item}
-use Rattle.scrub_report.proofs.OneReport.{one_scrub}
-use Rattle.scrub_report.proofs.ResetPlans.{plan_before}
+use Rattle.scrub_found.specs.Scrubbed.{Scrubbed, IsScrubbed, is_clean_extent, is_clean_item}
+use Rattle.scrub_found.proofs.OneScrub.{one_scrub}
+use Rattle.scrub_found.proofs.ResetPlans.{plan_before}
 use Rattle.scrub_listings.proofs.AllPass.{all_pass}
 use Rattle.scrub_reclaim.specs.Room.{IsRoom, has_room, is_zero_to, may_grow, place_in, room_fits, room_in}
 use Rattle.scrub_reclaim.proofs.NextPlaces.{Grown, grown}
@@ -44,7 +44,7 @@ use Rattle.scrub_scan.specs.Findings.{IsFindings}
 use Rattle.scrub_frame.proofs.Elements.{Contains-behind, Contains-cases}
 use Rattle.scrub_check.specs.Candidates.{has_sound_alone}
 use Rattle.scrub_frame.proofs.Filtered.{filtered_has}
-use Rattle.scrub_report.proofs.OneReader.{one_plan, one_scanned}
+use Rattle.scrub_found.proofs.OneReader.{one_plan, one_scanned}
 use Rattle.scrub_reclaim.specs.Reset.{IsPlanIn}
 use Rattle.scrub_reclaim.specs.Room.{next_place}
 use Rattle.scrub_reclaim.proofs.CopiedExtents.{zero_there}

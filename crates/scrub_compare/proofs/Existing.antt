@@ -13,9 +13,9 @@ use Rattle.scrub_merge.specs.Binding.{BindingValue}
 use Rattle.scrub_merge.specs.steps.Cursors.{id_cmp}
 use Rattle.scrub_merge.proofs.Identifiers.{id_cmp_exact, id_cmp_total}
 use Rattle.scrub_merge.proofs.SortedOnce.{sorted_once}
-use Rattle.scrub_report.specs.Scrubbed.{Scrubbed}
-use Rattle.scrub_report.proofs.Existing.{some_scrub}
-use Rattle.scrub_compare.specs.Compare.{AreBoundIds, AreCompared, Compared, IsComparison, IsSafety, comparison_text, is_safe}
+use Rattle.scrub_found.specs.Scrubbed.{Scrubbed}
+use Rattle.scrub_found.proofs.Existing.{some_scrub}
+use Rattle.scrub_compare.specs.Compare.{AreBoundIds, AreCompared, Compared, IsComparison, comparison_text, is_safe}
 use Rattle.scrub_compare.specs.Written.{AreFirstWritten, IsChanged, IsLeastNumber, IsWrittenIn, IsWrittenInRecords, IsZeroNow, MayChangeInRecords, MayChangeInRoom, pointer_in, room_at}
 use Rattle.scrub_compare.proofs.BoundIds.{bound_found}
 use Rattle.scrub_compare.proofs.ChangedBytes.{none_past}
@@ -146,12 +146,11 @@ some_compared resets before after =
       },
     )
 
-pub some_comparison : (resets : List ℕ) (before after : Image) → (text : List ℕ) × IsComparison resets before after text
+pub some_comparison : (resets : List ℕ) (before after : Image) →
+    (text : List ℕ) × (safe : Bool) × IsComparison resets before after text safe
 some_comparison resets before after =
-    let c = some_compared resets before after in
-    (comparison_text resets c.0, record { compared = c.0; are = c.1; text_is = refl })
-
-pub some_safety : (resets : List ℕ) (before after : Image) → (safe : Bool) × IsSafety resets before after safe
-some_safety resets before after =
-    let c = some_compared resets before after in
-    (is_safe resets c.0, record { compared = c.0; are = c.1; verdict = refl })
+    let c = some_compared resets before after in (
+      comparison_text resets c.0,
+      is_safe resets c.0,
+      record { compared = c.0; are = c.1; text_is = refl; verdict = refl },
+    )

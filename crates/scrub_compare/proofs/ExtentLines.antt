@@ -7,7 +7,7 @@ use Rattle.std.proofs.lemmas.List.{length_push}
 use Rattle.std.proofs.lemmas.Option.{none-some, same_Some}
 use Rattle.scrub_disk.specs.Image.{Image}
 use Rattle.scrub_super.specs.Plan.{PlanValue, pointer_of}
-use Rattle.scrub_report.specs.Scrubbed.{Scrubbed}
+use Rattle.scrub_found.specs.Scrubbed.{Scrubbed}
 use Rattle.scrub_compare.specs.Written.{AreFirstWritten, IsLeastNumber, IsWrittenIn, pointer_in, room_at}
 use Rattle.scrub_compare.specs.Compare.{extent_lines, lines_in}
 

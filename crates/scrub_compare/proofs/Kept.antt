@@ -15,7 +15,7 @@ use Rattle.scrub_check.specs.ChunkForms.{form_at}
 use Rattle.scrub_check.specs.Spares.{spares_of}
 use Rattle.scrub_listings.specs.Manifest.{after_status_in, form_text, looked_for, numbered_line, numbered_text, spare_text}
 use Rattle.scrub_reclaim.specs.Copy.{IsSameOrSpared}
-use Rattle.scrub_report.specs.Scrubbed.{Scrubbed}
+use Rattle.scrub_found.specs.Scrubbed.{Scrubbed}
 use Rattle.scrub_compare.specs.Compare.{RowValue, are_alike, change, has_lost_spares, has_no_less, lost_line, new_line, numbered, row_in, row_line, shard_change, spare_word}
 use Rattle.scrub_compare.proofs.OwnedBy.{some_checked}
 use Rattle.scrub_compare.proofs.Safe.{all_none, some_text}

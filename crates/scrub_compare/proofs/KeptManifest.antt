@@ -22,11 +22,11 @@ use Rattle.scrub_frame.proofs.Elements.{Contains-behind, Contains-cases}
 use Rattle.scrub_check.specs.declared.statuses.checked.Checked.{Checked}
 use Rattle.scrub_check.specs.Checked.{named_of}
 use Rattle.scrub_check.specs.Named.{named_by_shard}
-use Rattle.scrub_report.specs.Resets.{IsScrubbedBut}
-use Rattle.scrub_report.specs.Scrubbed.{Scrubbed}
-use Rattle.scrub_report.proofs.OneReport.{one_scrub}
-use Rattle.scrub_report.proofs.ResetPlans.{plan_before}
-use Rattle.scrub_listings.specs.Manifest.{IsManifest, after_status_in, hidden_runs, lost_runs, manifest_text, numbered_line, of_shards, retired_line, runs_line, shard_lines, text_by, total_line}
+use Rattle.scrub_found.specs.Resets.{IsScrubbedBut}
+use Rattle.scrub_found.specs.Scrubbed.{Scrubbed}
+use Rattle.scrub_found.proofs.OneScrub.{one_scrub}
+use Rattle.scrub_found.proofs.ResetPlans.{plan_before}
+use Rattle.scrub_listings.specs.Manifest.{IsManifest, after_status_in, hidden_runs, is_whole, lost_runs, manifest_text, numbered_line, of_shards, retired_line, runs_line, shard_lines, text_by, total_line}
 use Rattle.scrub_listings.proofs.ShardLines.{along_runs, shards_part}
 use Rattle.scrub_reclaim.specs.Copy.{IsSameOrSpared}
 use Rattle.scrub_reclaim.specs.Reset.{IsForeseen}
@@ -297,11 +297,12 @@ module _ (resets : List ℕ) (before after : Image) (c : Compared) (are : AreCom
       among : (id : ShardId) → HasBinding c.found.bindings id → Contains c.ids id
       among id bound = (are.ids.exact id).1 (inl bound)
 
-pub nothing_lost : (resets : List ℕ) (before after other : Image) (a b : List ℕ) → IsSafe resets before after → IsForeseen resets after other →
-    IsManifest before a → IsManifest other b → IsSameButMore a b
-nothing_lost resets before after other a b s f x y =
+pub nothing_lost : (resets : List ℕ) (before after other : Image) (a b : List ℕ) (v w : Bool) → IsSafe resets before after → IsForeseen resets after other →
+    IsManifest before a v → IsManifest other b w → IsSameButMore a b
+nothing_lost resets before after other a b v w s f x y =
     subst (λ (t : List ℕ). IsSameButMore t b) (ap manifest_text (one_scrub before s.safe.compared.found x.found s.safe.are.found x.scrubbed) ∙ sym x.text_is)
     (subst (λ (t : List ℕ). IsSameButMore (manifest_text s.safe.compared.found) t)
-    (as_foreseen resets after other (manifest_text s.safe.compared.kept) b f (record { found = s.safe.compared.kept; scrubbed = s.safe.are.kept; text_is = refl }) y)
+    (as_foreseen resets after other (manifest_text s.safe.compared.kept) b (is_whole s.safe.compared.kept) w f
+    (record { found = s.safe.compared.kept; scrubbed = s.safe.are.kept; text_is = refl; verdict = refl }) y).0
     (kept_text [] resets before after s.safe.compared.found s.safe.compared.kept s.safe.are.found s.safe.are.kept
     (kept resets before after s.safe.compared s.safe.are (no_line resets s.safe.compared (sym s.safe.verdict)))))

@@ -3,10 +3,10 @@ use Rattle.std.proofs.Common.{◌≡◌, ◌+◌, [], ◌∷◌, ℕ, zero, suc,
 use Rattle.std.specs.List.{slice_get}
 use Rattle.scrub_disk.specs.Image.{Image}
 use Rattle.scrub_super.proofs.PageLaws.{one_list_of_pages}
-use Rattle.scrub_report.specs.Scrubbed.{Scrubbed}
-use Rattle.scrub_report.proofs.OneReport.{one_scrub, one_scrub_but}
+use Rattle.scrub_found.specs.Scrubbed.{Scrubbed}
+use Rattle.scrub_found.proofs.OneScrub.{one_scrub, one_scrub_but}
 use Rattle.scrub_compare.specs.Written.{AreFirstWritten, IsWrittenIn, IsWrittenInRecords, pointer_in, room_at}
-use Rattle.scrub_compare.specs.Compare.{AreBoundIds, AreCompared, Compared, IsComparison, IsSafety, comparison_text, is_safe}
+use Rattle.scrub_compare.specs.Compare.{AreBoundIds, AreCompared, Compared, IsComparison, comparison_text, is_safe}
 use Rattle.scrub_compare.proofs.BoundIds.{one_list_of_ids}
 use Rattle.scrub_compare.proofs.Least.{one_least}
 
@@ -64,9 +64,8 @@ module _ (resets : List ℕ) (before after : Image) where
           (subst (λ (f : Scrubbed). AreBoundIds f.bindings c.kept.bindings c.ids) found x.ids))
           y.ids
 
-  pub one_comparison_lem : (a b : List ℕ) → IsComparison resets before after a → IsComparison resets before after b → a ≡ b
-  one_comparison_lem a b x y =
-      x.text_is ∙ ap (comparison_text resets) (one_compared x.compared y.compared x.are y.are) ∙ sym y.text_is
-
-  pub one_safety : (a b : Bool) → IsSafety resets before after a → IsSafety resets before after b → a ≡ b
-  one_safety a b x y = x.verdict ∙ ap (is_safe resets) (one_compared x.compared y.compared x.are y.are) ∙ sym y.verdict
+  pub one_comparison_lem : (a b : List ℕ) (v w : Bool) → IsComparison resets before after a v →
+      IsComparison resets before after b w → (a ≡ b) × (v ≡ w)
+  one_comparison_lem a b v w x y =
+      let same = one_compared x.compared y.compared x.are y.are in
+      (x.text_is ∙ ap (comparison_text resets) same ∙ sym y.text_is, x.verdict ∙ ap (is_safe resets) same ∙ sym y.verdict)

@@ -11,8 +11,8 @@ use Rattle.scrub_super.specs.Plan.{pointer_of}
 use Rattle.scrub_scan.specs.Scanned.{Scanned}
 use Rattle.scrub_scan.specs.AllFindings.{entry_of}
 use Rattle.scrub_scan.proofs.Entries.{find_passes}
-use Rattle.scrub_report.specs.Scrubbed.{Scrubbed, IsScrubbed}
-use Rattle.scrub_report.proofs.OneReport.{one_scrub}
+use Rattle.scrub_found.specs.Scrubbed.{Scrubbed, IsScrubbed}
+use Rattle.scrub_found.proofs.OneScrub.{one_scrub}
 use Rattle.scrub_reclaim.specs.Reset.{IsPlanIn}
 use Rattle.scrub_reclaim.specs.Room.{has_room, place_in}
 use Rattle.scrub_reclaim.proofs.NextPlaces.{place_above}

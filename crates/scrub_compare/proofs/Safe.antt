@@ -7,15 +7,15 @@ use Rattle.std.proofs.lemmas.List.{length-append}
 use Rattle.std.proofs.lemmas.Option.{none-some, same_Some}
 use Rattle.std.proofs.lemmas.List.Elements.{All-cons}
 use Rattle.scrub_disk.specs.Image.{Image}
-use Rattle.scrub_report.specs.Scrubbed.{Scrubbed, IsScrubbed}
-use Rattle.scrub_report.proofs.OneReport.{one_scrub}
+use Rattle.scrub_found.specs.Scrubbed.{Scrubbed, IsScrubbed}
+use Rattle.scrub_found.proofs.OneScrub.{one_scrub}
 use Rattle.scrub_check.specs.declared.statuses.checked.Checked.{Checked}
 use Rattle.scrub_reclaim.proofs.Reset.{among_cases}
 use Rattle.std.specs.Str.{bytes_eq}
 use Rattle.std.proofs.lemmas.Slice.Eq.{bytes_eq-Decides}
 use Rattle.scrub_listings.specs.Locators.{locator_line}
 use Rattle.scrub_listings.specs.Manifest.{hidden_runs, lost_runs, of_shards, retired_line}
-use Rattle.scrub_compare.specs.Compare.{Compared, IsSafety, changes, doubts_of_both, extent_lines, generation_line, generations_in, is_reset, is_safe, is_safe_by, lines_in, lost_line, manifest_changes, named_line, named_lines, new_line, retired_change, row_in, runs_change, shard_changes, written_line}
+use Rattle.scrub_compare.specs.Compare.{Compared, IsComparison, changes, doubts_of_both, extent_lines, generation_line, generations_in, is_reset, is_safe, is_safe_by, lines_in, lost_line, manifest_changes, named_line, named_lines, new_line, retired_change, row_in, runs_change, shard_changes, written_line}
 use Rattle.scrub_compare.specs.Laws.{NonePointsInto}
 
 -- ---- nothing
@@ -115,9 +115,9 @@ unnamed resets c none there =
       | inr (other, apart) ↦ apart there
     ]
 
-pub none_points : (resets : List ℕ) (before after : Image) (rest : Scrubbed) → IsSafety resets before after true → IsScrubbed after rest →
-    NonePointsInto resets rest.checked
-none_points resets before after rest s y =
+pub none_points : (resets : List ℕ) (before after : Image) (text : List ℕ) (rest : Scrubbed) →
+    IsComparison resets before after text true → IsScrubbed after rest → NonePointsInto resets rest.checked
+none_points resets before after text rest s y =
     subst (λ (r : Scrubbed). NonePointsInto resets r.checked) (one_scrub after s.compared.rest rest s.are.rest y)
     (λ i d below. unnamed resets (get_or s.compared.rest.checked i d)
     (all_none (named_line resets) s.compared.rest.checked (no_line resets s.compared (sym s.verdict)).named i d below))

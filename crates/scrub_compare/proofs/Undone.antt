@@ -23,8 +23,8 @@ use Rattle.scrub_check.specs.ChunkForms.{form_at}
 use Rattle.scrub_check.specs.Runs.{NamesChunkIn}
 use Rattle.scrub_check.specs.Spares.{spares_by}
 use Rattle.scrub_check.specs.Status.{BeginsAt, CanStand, FindsFrame, HasStatus, HasStatusIn, HasStatusInRetired, HasUnreadableByte, InRange, NamesChunk, end_of, is_retired}
-use Rattle.scrub_report.specs.Scrubbed.{Scrubbed, IsScrubbed}
-use Rattle.scrub_report.proofs.OneReader.{same_plan}
+use Rattle.scrub_found.specs.Scrubbed.{Scrubbed, IsScrubbed}
+use Rattle.scrub_found.proofs.OneReader.{same_plan}
 use Rattle.scrub_listings.specs.Manifest.{IsManifest, manifest_text}
 use Rattle.scrub_reclaim.specs.Reset.{IsPlanIn, NameTheSame}
 use Rattle.scrub_reclaim.proofs.CarriedNames.{Carries, named_alike}
@@ -251,9 +251,9 @@ module _ (before after undone : Image) (found rest : Scrubbed) (x : IsScrubbed b
       same_after found.all rest.all (get_or found.checked i d) (λ sound. form (get_or found.checked i d).locator)
       (ap (λ (ss : List Standing). length (spares_by ss (get_or found.checked i d)) == 0) (same_frames found.all rest.all scans)))
 
-pub can_be_undone : (resets : List ℕ) (before after undone : Image) (a b : List ℕ) → IsSafe resets before after → IsUndone before after undone →
-    IsManifest before a → IsManifest undone b → a ≡ b
-can_be_undone resets before after undone a b s u x y =
+pub can_be_undone : (resets : List ℕ) (before after undone : Image) (a b : List ℕ) (v w : Bool) → IsSafe resets before after → IsUndone before after undone →
+    IsManifest before a v → IsManifest undone b w → a ≡ b
+can_be_undone resets before after undone a b v w s u x y =
     x.text_is
     ∙ sym (undone_text before after undone x.found y.found x.scrubbed y.scrubbed (keeps_bytes resets before after x.found s x.scrubbed) s.sizes u)
     ∙ sym y.text_is

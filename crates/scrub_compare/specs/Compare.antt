@@ -19,8 +19,8 @@ use Rattle.scrub_check.specs.declared.statuses.checked.Checked.{Checked}
 use Rattle.scrub_check.specs.Checked.{is_dangling, is_owned_by, is_sound}
 use Rattle.scrub_check.specs.ChunkForms.{form_at}
 use Rattle.scrub_check.specs.Spares.{spares_of}
-use Rattle.scrub_report.specs.Resets.{IsScrubbedBut}
-use Rattle.scrub_report.specs.Scrubbed.{Scrubbed, IsScrubbed}
+use Rattle.scrub_found.specs.Resets.{IsScrubbedBut}
+use Rattle.scrub_found.specs.Scrubbed.{Scrubbed, IsScrubbed}
 use Rattle.scrub_listings.specs.Locators.{locator_line}
 use Rattle.scrub_listings.specs.Manifest.{form_text, hidden_runs, looked_for, lost_runs, numbered_text, of_shards, retired_line, runs_line}
 use Rattle.scrub_reclaim.specs.declared.doubts.Doubt.{Doubt}
@@ -295,14 +295,9 @@ comparison_text resets c = whole_text (doubts_of_both c) (changes resets c) (gen
 abbrev pub is_safe : List ℕ → Compared → Bool
 is_safe resets c = is_safe_by (doubts_of_both c) (changes resets c) (generations_in c)
 
--- the text is that of what is found in two images, with these extents to be reset
-pub record IsComparison (resets : List ℕ) (before after : Image) (text : List ℕ) : Type 0 where
+-- the text is that of what is found in two images, with these extents to be reset, and the truth value says whether it is safe
+pub record IsComparison (resets : List ℕ) (before after : Image) (text : List ℕ) (safe : Bool) : Type 0 where
   pub compared : Compared
   pub are : AreCompared resets before after compared
   pub text_is : text ≡ comparison_text resets compared
-
--- the truth value says whether it is safe
-pub record IsSafety (resets : List ℕ) (before after : Image) (safe : Bool) : Type 0 where
-  pub compared : Compared
-  pub are : AreCompared resets before after compared
   pub verdict : safe ≡ is_safe resets compared

@@ -7,17 +7,18 @@ use Rattle.scrub_scan.specs.declared.item.Item.{Item}
 use Rattle.scrub_scan.specs.Scanned.{Scanned}
 use Rattle.scrub_check.specs.declared.statuses.checked.Checked.{Checked}
 use Rattle.scrub_check.specs.Live.{is_chunk}
-use Rattle.scrub_report.specs.Scrubbed.{Scrubbed}
+use Rattle.scrub_found.specs.Scrubbed.{Scrubbed}
 use Rattle.scrub_listings.specs.Manifest.{retired_line, runs_line, total_line}
 use Rattle.scrub_reclaim.specs.Copy.{IsSameOrSpared}
 use Rattle.scrub_reclaim.specs.Reset.{IsPlanIn}
 use Rattle.scrub_compare.specs.Written.{pointer_in}
-use Rattle.scrub_compare.specs.Compare.{IsSafety}
+use Rattle.scrub_compare.specs.Compare.{IsComparison}
 
 -- it is safe what was written between two images of the same sizes, with these extents to be reset
 pub record IsSafe (resets : List ℕ) (before after : Image) : Type 0 where
   pub sizes : after.geometry ≡ before.geometry
-  pub safe : IsSafety resets before after true
+  pub text : List ℕ
+  pub safe : IsComparison resets before after text true
 
 -- no named locator points into one of these extents
 abbrev pub NonePointsInto : List ℕ → List Checked → Type 0

@@ -9,7 +9,7 @@ use Rattle.scrub_super.specs.Plan.{PlanValue, pointer_of}
 use Rattle.scrub_scan.specs.AllFindings.{entry_of}
 use Rattle.scrub_scan.specs.Scanned.{Scanned}
 use Rattle.scrub_check.specs.declared.statuses.checked.Checked.{Checked}
-use Rattle.scrub_report.specs.Scrubbed.{Scrubbed}
+use Rattle.scrub_found.specs.Scrubbed.{Scrubbed}
 use Rattle.scrub_reclaim.specs.Room.{has_room, place_in}
 
 -- ---- what may change

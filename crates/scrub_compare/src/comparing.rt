@@ -6,10 +6,10 @@ ghost use Rattle.std.specs.Prelude.{nat_lt, string_bytes, if◌then◌else◌};
 ghost use Rattle.std.specs.List.Sorted.{IsStrictlyIncreasing};
 ghost use Rattle.scrub_disk.specs.Image.{Image};
 ghost use Rattle.scrub_super.specs.Pages.{AreSuperblockPages};
-ghost use Rattle.scrub_report.specs.Answer.{AreTakingsBy};
-ghost use Rattle.scrub_report.specs.Parts.{ArePartsBut, ArePartsOf, found_in};
+ghost use Rattle.scrub_found.specs.Takings.{AreTakingsBy};
+ghost use Rattle.scrub_found.specs.Judged.{AreJudgedBut, Beside, IsFound, found_in};
 ghost use Rattle.scrub_compare.specs.Written.{AreFirstWritten, IsLeastNumber, IsWrittenInRecords};
-ghost use Rattle.scrub_compare.specs.Compare.{IsComparison, IsSafety, both_of, extent_lines, firm_lines};
+ghost use Rattle.scrub_compare.specs.Compare.{IsComparison, both_of, extent_lines, firm_lines};
 ghost use Rattle.scrub_compare.specs.Compare.{generation_line, generation_of, is_safe_by, named_lines};
 ghost use Rattle.scrub_compare.specs.Compare.{safe_line, whole_text, unsafe_line, written_line};
 
@@ -19,12 +19,9 @@ use crate::manifests::append_manifest_changes;
 use crate::named::append_named;
 use crate::records::first_in_records;
 use scrub_disk::{OutOfMemory, PageSource};
+use scrub_found::{Judged, ScrubFault, judged_of, scan_chosen};
 use scrub_listings::Listing;
 use scrub_pool::{Gate, Takings};
-use scrub_report::ScrubFault;
-use scrub_report::parts::Parts;
-use scrub_report::scanning::{scan_chosen, scan_with_resets};
-use scrub_report::scrubbing::parts_of;
 use scrub_super::{Chosen, SuperblockPage, choose, choose_with_pages};
 use std::alloc::Global;
 use std::fmt::Write;
@@ -33,62 +30,62 @@ use std::thread::Threads;
 
 /// What is found on a disk, what the pages of its extent 0 are, and which extents the caller and each worker
 /// took.
-fn parts_with_pages<'d, D: PageSource, G: Gate, R: Threads + Wait + Sync>(
+fn judged_with_pages<'d, D: PageSource, G: Gate, R: Threads + Wait + Sync>(
     rt: &R,
     alloc: Global,
     disk: &'d D,
     workers: u32,
     gate: &G,
-) -> Result<(Parts<'d, D>, Vec<SuperblockPage>, Takings), ScrubFault>
+) -> Result<(Judged<'d, D>, Vec<SuperblockPage>, Takings), ScrubFault>
     requires { workers ≤ 64 }
-    ensures parts { IfOk result (λ r. ArePartsOf (D.image disk.now) r.0) }
+    ensures judged { IfOk result (λ r. AreJudgedBut [] (D.image disk.now) r.0) }
     ensures pages { IfOk result (λ r. AreSuperblockPages (D.image disk.now) r.1.items) }
     ensures takings { IfOk result (λ r. AreTakingsBy (D.image disk.now) workers r.2) }
 {
     let (chosen, pages) = choose_with_pages(alloc, disk)?;
-    let (scan, takings) = scan_chosen(rt, alloc, disk, chosen, workers, gate)?;
-    let parts = parts_of(rt, alloc, scan, &[])?;
-    Ok((parts, pages, takings))
+    let (scan, takings) = scan_chosen(rt, alloc, disk, chosen, workers, gate, &[])?;
+    let judged = judged_of(rt, alloc, scan)?;
+    Ok((judged, pages, takings))
 }
 
-/// What is found on a disk as if these extents, which rise, had been reset; `rest` is what is found without
-/// resets.
-fn kept_parts<'d, D: PageSource, G: Gate, R: Threads + Wait + Sync>(
+/// What is found on a disk as if these extents, which are ascending, had been reset; `rest` is what is found
+/// without resets.
+fn judged_after<'d, D: PageSource, G: Gate, R: Threads + Wait + Sync>(
     rt: &R,
     alloc: Global,
     disk: &'d D,
-    rest: Parts<'d, D>,
+    rest: Judged<'d, D>,
     workers: u32,
     gate: &G,
     resets: &[u32],
-) -> Result<Parts<'d, D>, ScrubFault>
+) -> Result<Judged<'d, D>, ScrubFault>
     requires workers { workers ≤ 64 }
     requires rising { IsStrictlyIncreasing resets.now }
-    requires rest { ArePartsOf (D.image disk.now) rest }
-    ensures { IfOk result (ArePartsBut resets.now (D.image disk.now)) }
+    requires rest { AreJudgedBut [] (D.image disk.now) rest }
+    ensures { IfOk result (AreJudgedBut resets.now (D.image disk.now)) }
 {
     if resets.is_empty() {
         return Ok(rest);
     }
     drop(rest);
     let chosen = choose(alloc, disk)?;
-    let (scan, _takings) = scan_with_resets(rt, alloc, disk, chosen, workers, gate, resets)?;
-    let kept = parts_of(rt, alloc, scan, resets)?;
+    let (scan, _takings) = scan_chosen(rt, alloc, disk, chosen, workers, gate, resets)?;
+    let kept = judged_of(rt, alloc, scan)?;
     Ok(kept)
 }
 
 /// The lines of the doubts of both images that can't be accepted.
 fn doubts_of_both<D: PageSource, E: PageSource>(
     alloc: Global,
-    found: &Parts<'_, D>,
-    rest: &Parts<'_, E>,
+    found: &Judged<'_, D>,
+    rest: &Judged<'_, E>,
     pages: &[SuperblockPage],
     pages_now: &[SuperblockPage],
 ) -> Result<String, OutOfMemory>
-    ensures { (image other : Image) (p : ArePartsOf image found.now) (q : ArePartsOf other rest.now) →
+    ensures { (image other : Image) (b c : Beside) → IsFound image found.now b → IsFound other rest.now c →
         IfOk result (λ text. string_bytes text ≡
-        firm_lines (codes "before") pages.now (found_in found.now p.read) ++
-        firm_lines (codes "after") pages_now.now (found_in rest.now q.read)) }
+        firm_lines (codes "before") pages.now (found_in found.now b) ++
+        firm_lines (codes "after") pages_now.now (found_in rest.now c)) }
 {
     let mut text = String::new(alloc);
     append_firm(alloc, &mut text, "before", pages, found)?;
@@ -102,29 +99,28 @@ fn lines_of_extents<D: PageSource, E: PageSource>(
     before: &D,
     after: &E,
     resets: &[u32],
-    found: &Parts<'_, D>,
-    rest: &Parts<'_, E>,
+    found: &Judged<'_, D>,
+    rest: &Judged<'_, E>,
     pages_now: &[SuperblockPage],
 ) -> Result<String, OutOfMemory>
     requires sizes { (E.image after.now).geometry ≡ (D.image before.now).geometry }
     requires rising { IsStrictlyIncreasing resets.now }
-    requires found { ArePartsOf (D.image before.now) found.now }
-    requires rest { ArePartsOf (E.image after.now) rest.now }
+    requires found { AreJudgedBut [] (D.image before.now) found.now }
+    requires rest { AreJudgedBut [] (E.image after.now) rest.now }
     requires held { AreSuperblockPages (E.image after.now) pages_now.now }
-    ensures { (p : ArePartsOf (D.image before.now) found.now) (q : ArePartsOf (E.image after.now) rest.now) →
-        IfOk result (λ text. (first : Option ℕ) ×
+    ensures { (b c : Beside) → IfOk result (λ text. (first : Option ℕ) ×
         IsLeastNumber (IsWrittenInRecords (D.image before.now) (E.image after.now)) first ×
         (firsts : List (Option ℕ)) ×
-        AreFirstWritten (D.image before.now) (E.image after.now) (found_in found.now p.read)
-        (found_in rest.now q.read) firsts × (string_bytes text ≡ written_line 0 first ++
-        extent_lines resets.now (found_in found.now p.read) (found_in rest.now q.read) firsts ++
-        named_lines resets.now rest.now.judged.checked.items)) }
+        AreFirstWritten (D.image before.now) (E.image after.now) (found_in found.now b)
+        (found_in rest.now c) firsts × (string_bytes text ≡ written_line 0 first ++
+        extent_lines resets.now (found_in found.now b) (found_in rest.now c) firsts ++
+        named_lines resets.now rest.now.checked.items)) }
 {
     let mut text = String::new(alloc);
     let first = first_in_records(alloc, before, after, pages_now)?;
     append_written(&mut text, 0, first)?;
     append_extents(alloc, &mut text, before, after, resets, found, rest)?;
-    append_named(alloc, &mut text, resets, &rest.judged.checked)?;
+    append_named(alloc, &mut text, resets, &rest.checked)?;
     Ok(text)
 }
 
@@ -240,20 +236,18 @@ pub fn compare<D: PageSource, E: PageSource, G: Gate, R: Threads + Wait + Sync>(
     requires workers { workers ≤ 64 }
     requires sizes { (E.image after.now).geometry ≡ (D.image before.now).geometry }
     requires rising { IsStrictlyIncreasing resets.now }
-    ensures text { IfOk result (λ r.
-        IsComparison resets.now (D.image before.now) (E.image after.now) r.0.text.items) }
-    ensures safe { IfOk result (λ r.
-        IsSafety resets.now (D.image before.now) (E.image after.now) r.0.is_clean) }
+    ensures comparison { IfOk result (λ r.
+        IsComparison resets.now (D.image before.now) (E.image after.now) r.0.text.items r.0.is_clean) }
     ensures takings { IfOk result (λ r. AreTakingsBy (D.image before.now) workers r.1) }
     ensures takings_now { IfOk result (λ r. AreTakingsBy (E.image after.now) workers r.2) }
 {
-    let (found, pages, takings) = parts_with_pages(rt, alloc, before, workers, gate)?;
-    let (rest, pages_now, takings_now) = parts_with_pages(rt, alloc, after, workers, gate)?;
-    let (chosen, chosen_now) = (&found.judged.scan.chosen, &rest.judged.scan.chosen);
+    let (found, pages, takings) = judged_with_pages(rt, alloc, before, workers, gate)?;
+    let (rest, pages_now, takings_now) = judged_with_pages(rt, alloc, after, workers, gate)?;
+    let (chosen, chosen_now) = (&found.scan.chosen, &rest.scan.chosen);
     let generations = both_of(generation_of(chosen), generation_of(chosen_now));
     let doubts = doubts_of_both(alloc, &found, &rest, &pages, &pages_now)?;
     let mut others = lines_of_extents(alloc, before, after, resets, &found, &rest, &pages_now)?;
-    let kept = kept_parts(rt, alloc, after, rest, workers, gate, resets)?;
+    let kept = judged_after(rt, alloc, after, rest, workers, gate, resets)?;
     append_manifest_changes(alloc, &mut others, &found, &kept)?;
     let listing = listing_by(doubts, &others, generations)?;
     Ok((listing, takings, takings_now))
@@ -262,15 +256,13 @@ pub fn compare<D: PageSource, E: PageSource, G: Gate, R: Threads + Wait + Sync>(
 /// A law: for each list of extents to be reset, two images have at most one text of such lines, and at most
 /// one verdict whether it is safe.
 pub fn one_comparison()
-    ensures text { (resets : List ℕ) (before after : Image) (a b : List ℕ) →
-        IsComparison resets before after a → IsComparison resets before after b → a ≡ b }
-    ensures safe { (resets : List ℕ) (before after : Image) (a b : Bool) →
-        IsSafety resets before after a → IsSafety resets before after b → a ≡ b }
+    ensures { (resets : List ℕ) (before after : Image) (a b : List ℕ) (v w : Bool) →
+        IsComparison resets before after a v → IsComparison resets before after b w → (a ≡ b) × (v ≡ w) }
 {}
 
 /// A law: each two images have a text of such lines, for each list of extents to be reset, and a verdict
 /// whether it is safe. With `one_comparison`, they have exactly one of each.
 pub fn each_pair_has_a_comparison()
-    ensures text { (resets : List ℕ) (before after : Image) → (text : List ℕ) × IsComparison resets before after text }
-    ensures safe { (resets : List ℕ) (before after : Image) → (safe : Bool) × IsSafety resets before after safe }
+    ensures { (resets : List ℕ) (before after : Image) →
+        (text : List ℕ) × (safe : Bool) × IsComparison resets before after text safe }
 {}

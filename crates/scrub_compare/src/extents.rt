@@ -1,12 +1,11 @@
 //! The lines of extents from 1 on: write pointers that may not follow the earlier ones, and bytes that
 //! changed and may not have.
 
-ghost use Rattle.std.specs.Prelude.{◌≡◌, ◌++◌, ◌<◌, ◌≤◌, ℕ, List, Option, OnOk, string_bytes};
-ghost use Rattle.std.specs.Ordering.{nat_cmp};
-ghost use Rattle.std.specs.List.Sorted.{IsSorted, IsStrictlyIncreasing};
+ghost use Rattle.std.specs.Prelude.{◌≡◌, ◌++◌, ◌<◌, ◌≤◌, ℕ, [], List, Option, OnOk, string_bytes};
+ghost use Rattle.std.specs.List.Sorted.{IsStrictlyIncreasing};
 ghost use Rattle.scrub_check.specs.declared.statuses.checked.Checked.{Checked};
 ghost use Rattle.scrub_check.specs.steps.LocatorIndex.{AreBarredExtents};
-ghost use Rattle.scrub_report.specs.Parts.{ArePartsOf, found_in};
+ghost use Rattle.scrub_found.specs.Judged.{AreJudgedBut, Beside, found_in};
 ghost use Rattle.scrub_compare.specs.Written.{AreFirstWritten, IsLeastNumber, IsWrittenIn, pointer_in};
 ghost use Rattle.scrub_compare.specs.Written.{room_of_extent};
 ghost use Rattle.scrub_compare.specs.Compare.{extent_lines, is_reset, lines_of_extent, may_follow};
@@ -14,9 +13,9 @@ ghost use Rattle.scrub_compare.specs.Compare.{pointer_line, written_line};
 
 use crate::bytes::first_written;
 use crate::rooms::room_of_extent;
+use scrub_check::{ExtentSet, barred_extents};
 use scrub_disk::{OutOfMemory, PageSource};
-use scrub_reclaim::room::{sorted, unsound_extents};
-use scrub_report::parts::{Judged, Parts};
+use scrub_found::Judged;
 use scrub_super::Plan;
 use std::alloc::Global;
 use std::fmt::Write;
@@ -91,8 +90,8 @@ fn append_lines(
     append_written(text, extent, first)
 }
 
-/// Compares an extent from 1 on in two images, and appends its lines. `unsound` has the sorted numbers of the
-/// extents into which an unsound locator of the earlier image points.
+/// Compares an extent from 1 on in two images, and appends its lines. `barred` has the extents into which an
+/// unsound locator of the earlier image points.
 fn append_extent<D: PageSource, E: PageSource>(
     alloc: Global,
     text: &mut String,
@@ -101,17 +100,16 @@ fn append_extent<D: PageSource, E: PageSource>(
     resets: &[u32],
     found: &Judged<'_, D>,
     plan: &Plan,
-    unsound: &[u32],
+    barred: &ExtentSet,
     extent: u32,
 ) -> Result<(), OutOfMemory>
     requires sizes { (E.image after.now).geometry ≡ (D.image before.now).geometry }
     requires old_sizes { found.now.scan.plan.geometry ≡ (D.image before.now).geometry }
     requires new_sizes { plan.now.geometry ≡ (D.image before.now).geometry }
     requires rising { IsStrictlyIncreasing resets.now }
-    requires sorted { IsSorted nat_cmp unsound.now }
     requires from_one { 1 ≤ extent }
     requires in_extents { extent < (D.image before.now).geometry.extents }
-    ensures { (checked : List Checked) → AreBarredExtents checked unsound.now →
+    ensures { (checked : List Checked) → AreBarredExtents checked barred.now →
         OnOk result ((first : Option ℕ) ×
         IsLeastNumber (IsWrittenIn (D.image before.now) (E.image after.now)
         (room_of_extent found.now.scan.plan.geometry found.now.scan.all.extents checked extent)
@@ -121,7 +119,7 @@ fn append_extent<D: PageSource, E: PageSource>(
         (pointer_in found.now.scan.plan extent) (pointer_in plan.now extent) first)) }
 {
     let scan = &found.scan;
-    let room = room_of_extent(scan.plan.geometry(), &scan.all, unsound, extent);
+    let room = room_of_extent(scan.plan.geometry(), &scan.all, barred, extent);
     let (old, new) = (scan.plan.pointer(extent), plan.pointer(extent));
     let first = first_written(alloc, before, after, extent, room, new)?;
     append_lines(text, resets, room, extent, old, new, first)
@@ -134,26 +132,24 @@ pub(crate) fn append_extents<D: PageSource, E: PageSource>(
     before: &D,
     after: &E,
     resets: &[u32],
-    found: &Parts<'_, D>,
-    rest: &Parts<'_, E>,
+    found: &Judged<'_, D>,
+    rest: &Judged<'_, E>,
 ) -> Result<(), OutOfMemory>
     requires sizes { (E.image after.now).geometry ≡ (D.image before.now).geometry }
     requires rising { IsStrictlyIncreasing resets.now }
-    requires found { ArePartsOf (D.image before.now) found.now }
-    requires rest { ArePartsOf (E.image after.now) rest.now }
-    ensures { (p : ArePartsOf (D.image before.now) found.now) (q : ArePartsOf (E.image after.now) rest.now) →
-        OnOk result ((firsts : List (Option ℕ)) ×
-        AreFirstWritten (D.image before.now) (E.image after.now) (found_in found.now p.read)
-        (found_in rest.now q.read) firsts ×
+    requires found { AreJudgedBut [] (D.image before.now) found.now }
+    requires rest { AreJudgedBut [] (E.image after.now) rest.now }
+    ensures { (b c : Beside) → OnOk result ((firsts : List (Option ℕ)) ×
+        AreFirstWritten (D.image before.now) (E.image after.now) (found_in found.now b)
+        (found_in rest.now c) firsts ×
         (string_bytes text.new ≡ string_bytes text.old ++
-        extent_lines resets.now (found_in found.now p.read) (found_in rest.now q.read) firsts)) }
+        extent_lines resets.now (found_in found.now b) (found_in rest.now c) firsts)) }
 {
-    let judged = &found.judged;
-    let unsound = sorted(unsound_extents(alloc, &judged.checked)?)?;
-    let plan = &rest.judged.scan.plan;
+    let barred = barred_extents(alloc, &found.checked)?;
+    let plan = &rest.scan.plan;
     for extent in 1..before.geometry().extents() {
         append_extent(
-            alloc, text, before, after, resets, judged, plan, &unsound, extent,
+            alloc, text, before, after, resets, found, plan, &barred, extent,
         )?;
     }
     Ok(())

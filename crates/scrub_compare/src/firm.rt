@@ -2,15 +2,15 @@
 
 ghost use Rattle.std.specs.Prelude.{◌≡◌, ◌++◌, IfOk, OnOk, string_bytes};
 ghost use Rattle.std.specs.List.{flat_map};
-ghost use Rattle.scrub_report.specs.Parts.{ArePartsOf, found_in, run_states};
 ghost use Rattle.scrub_disk.specs.Image.{Image};
+ghost use Rattle.scrub_found.specs.Judged.{Beside, IsFound, found_in, run_states};
 ghost use Rattle.scrub_reclaim.specs.Doubts.{choice_doubts, page_doubts, run_doubts, superblock_lost};
 ghost use Rattle.scrub_compare.specs.Compare.{firm_line, firm_lines};
 
 use scrub_disk::{OutOfMemory, PageSource};
+use scrub_found::Judged;
 use scrub_reclaim::doubting::{PageDoubt, choice_doubts, lost_runs, page_doubts};
 use scrub_reclaim::doubts::{Doubt, append_doubt_text};
-use scrub_report::parts::{Judged, Parts};
 use scrub_super::SuperblockPage;
 use std::alloc::Global;
 use std::fmt::Write;
@@ -66,12 +66,12 @@ pub(crate) fn append_firm<D: PageSource>(
     text: &mut String,
     image: &str,
     pages: &[SuperblockPage],
-    parts: &Parts<'_, D>,
+    judged: &Judged<'_, D>,
 ) -> Result<(), OutOfMemory>
-    ensures { (other : Image) (p : ArePartsOf other parts.now) →
+    ensures { (other : Image) (b : Beside) → IsFound other judged.now b →
         OnOk result (string_bytes text.new ≡ string_bytes text.old ++
-        firm_lines image.now pages.now (found_in parts.now p.read)) }
+        firm_lines image.now pages.now (found_in judged.now b)) }
 {
-    let doubts = firm_doubts(alloc, pages, &parts.judged)?;
+    let doubts = firm_doubts(alloc, pages, judged)?;
     append_doubts(alloc, text, image, &doubts)
 }

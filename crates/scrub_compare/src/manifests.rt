@@ -8,7 +8,7 @@ ghost use Rattle.scrub_run.specs.declared.shard_id.ShardId.{ShardId};
 ghost use Rattle.scrub_merge.specs.Binding.{BindingValue};
 ghost use Rattle.scrub_check.specs.Checked.{is_hidden};
 ghost use Rattle.scrub_check.specs.Spares.{spares_of};
-ghost use Rattle.scrub_report.specs.Parts.{ArePartsBut, found_in};
+ghost use Rattle.scrub_found.specs.Judged.{AreJudgedBut, AreRowsOf, Beside, found_in};
 ghost use Rattle.scrub_listings.specs.Manifest.{of_shards};
 ghost use Rattle.scrub_listings.specs.steps.Manifest.{is_of_read_row};
 ghost use Rattle.scrub_compare.specs.Compare.{AreBoundIds, manifest_changes, retired_change, row_by};
@@ -19,8 +19,8 @@ use crate::ids::bound_ids;
 use crate::rows::{Side, append_shards};
 use scrub_check::{Checked, Spares};
 use scrub_disk::{OutOfMemory, PageSource};
+use scrub_found::Judged;
 use scrub_listings::manifest::{append_retired, append_runs, hidden_runs, lost_runs};
-use scrub_report::parts::{Judged, Parts};
 use scrub_run::ShardId;
 use std::alloc::Global;
 use std::fmt::Write;
@@ -126,21 +126,20 @@ fn append_shard_changes<D: PageSource, E: PageSource>(
 pub(crate) fn append_manifest_changes<D: PageSource, E: PageSource>(
     alloc: Global,
     text: &mut String,
-    old: &Parts<'_, D>,
-    new: &Parts<'_, E>,
+    old: &Judged<'_, D>,
+    new: &Judged<'_, E>,
 ) -> Result<(), OutOfMemory>
-    requires old { (resets : List ℕ) × (image : Image) × ArePartsBut resets image old.now }
-    requires new { (resets : List ℕ) × (image : Image) × ArePartsBut resets image new.now }
-    ensures { (resets others : List ℕ) (image other : Image) (p : ArePartsBut resets image old.now)
-        (q : ArePartsBut others other new.now) → OnOk result ((ids : List ShardId) ×
+    requires old { (resets : List ℕ) × (image : Image) × AreJudgedBut resets image old.now }
+    requires new { (resets : List ℕ) × (image : Image) × AreJudgedBut resets image new.now }
+    ensures { (b c : Beside) → AreRowsOf old.now.scan.plan.runs b.read old.now.runs.items →
+        AreRowsOf new.now.scan.plan.runs c.read new.now.runs.items → OnOk result ((ids : List ShardId) ×
         AreBoundIds old.now.map new.now.map ids ×
         (string_bytes text.new ≡ string_bytes text.old ++
-        manifest_changes (found_in old.now p.read) (found_in new.now q.read) ids)) }
+        manifest_changes (found_in old.now b) (found_in new.now c) ids)) }
 {
-    let (judged, judged_now) = (&old.judged, &new.judged);
-    let (plan, plan_now) = (&judged.scan.plan, &judged_now.scan.plan);
+    let (plan, plan_now) = (&old.scan.plan, &new.scan.plan);
     let ids = bound_ids(alloc, old.map.bindings(), new.map.bindings())?;
     append_retired_change(text, plan.retired(), plan_now.retired())?;
-    append_runs_change(text, run_counts(judged), run_counts(judged_now))?;
-    append_shard_changes(alloc, text, judged, judged_now, &ids)
+    append_runs_change(text, run_counts(old), run_counts(new))?;
+    append_shard_changes(alloc, text, old, new, &ids)
 }

@@ -2,7 +2,7 @@
 
 ghost use Rattle.std.specs.Prelude.{List, ℕ};
 ghost use Rattle.scrub_disk.specs.Image.{HasWholePages, Image};
-ghost use Rattle.scrub_report.specs.Scrubbed.{Scrubbed, IsScrubbed};
+ghost use Rattle.scrub_found.specs.Scrubbed.{Scrubbed, IsScrubbed};
 ghost use Rattle.scrub_compare.specs.Laws.{IsSafe, KeepsBytes, KeepsChunks};
 
 /// A law: where it is safe what was written between two images, nothing was overwritten. Each byte below the

@@ -2,7 +2,7 @@
 
 ghost use Rattle.std.specs.Prelude.{List, ℕ};
 ghost use Rattle.scrub_disk.specs.Image.{Image};
-ghost use Rattle.scrub_report.specs.Scrubbed.{Scrubbed, IsScrubbed};
+ghost use Rattle.scrub_found.specs.Scrubbed.{Scrubbed, IsScrubbed};
 ghost use Rattle.scrub_compare.specs.Laws.{IsSafe, NonePointsInto};
 
 /// A law: where it is safe what was written between two images, no named locator of the later one points into

@@ -1,14 +1,13 @@
 //! Where the extents of a disk have room.
 
 ghost use Rattle.std.specs.Prelude.{◌≡◌, List, None, Some, if◌then◌else◌};
-ghost use Rattle.std.specs.Ordering.{nat_cmp};
-ghost use Rattle.std.specs.List.Sorted.{IsSorted};
 ghost use Rattle.scrub_scan.specs.Scanned.{scanned};
 ghost use Rattle.scrub_check.specs.declared.statuses.checked.Checked.{Checked};
 ghost use Rattle.scrub_check.specs.steps.LocatorIndex.{AreBarredExtents};
 ghost use Rattle.scrub_reclaim.specs.Room.{place_in, room_fits};
 ghost use Rattle.scrub_compare.specs.Written.{room_of_extent, room_of};
 
+use scrub_check::ExtentSet;
 use scrub_disk::{Geometry, PageSource};
 use scrub_frame::Form;
 use scrub_reclaim::room::{is_zero_to, may_grow, next_place};
@@ -27,18 +26,16 @@ fn fitting_place<D: PageSource>(geometry: Geometry, found: &ExtentResult<'_, D>)
     Some(place)
 }
 
-/// Where a scanned extent has room. `unsound` has the sorted numbers of the extents into which an unsound
-/// locator points.
+/// Where a scanned extent has room. `barred` has the extents into which an unsound locator points.
 fn room_of<D: PageSource>(
     geometry: Geometry,
-    unsound: &[u32],
+    barred: &ExtentSet,
     found: &ExtentResult<'_, D>,
 ) -> Option<u64>
-    requires { IsSorted nat_cmp unsound.now }
-    ensures { (checked : List Checked) → AreBarredExtents checked unsound.now →
+    ensures { (checked : List Checked) → AreBarredExtents checked barred.now →
         result ≡ room_of geometry checked (scanned found.now) }
 {
-    if !may_grow(unsound, found) {
+    if !may_grow(barred, found) {
         return None;
     }
     fitting_place(geometry, found)
@@ -48,15 +45,14 @@ fn room_of<D: PageSource>(
 pub(crate) fn room_of_extent<D: PageSource>(
     geometry: Geometry,
     all: &AllFindings<'_, D>,
-    unsound: &[u32],
+    barred: &ExtentSet,
     extent: u32,
 ) -> Option<u64>
-    requires { IsSorted nat_cmp unsound.now }
-    ensures { (checked : List Checked) → AreBarredExtents checked unsound.now →
+    ensures { (checked : List Checked) → AreBarredExtents checked barred.now →
         result ≡ room_of_extent geometry all.now.extents checked extent }
 {
     match all.result_of(extent) {
-        Some(found) => room_of(geometry, unsound, found),
+        Some(found) => room_of(geometry, barred, found),
         None => None,
     }
 }

@@ -1,6 +1,6 @@
 //! What was written between two images can be undone: a law alone, without code.
 
-ghost use Rattle.std.specs.Prelude.{◌≡◌, List, ℕ};
+ghost use Rattle.std.specs.Prelude.{◌≡◌, Bool, List, ℕ};
 ghost use Rattle.scrub_disk.specs.Image.{Image};
 ghost use Rattle.scrub_listings.specs.Manifest.{IsManifest};
 ghost use Rattle.scrub_compare.specs.Laws.{IsSafe, IsUndone};
@@ -9,6 +9,7 @@ ghost use Rattle.scrub_compare.specs.Laws.{IsSafe, IsUndone};
 /// that names the index runs, the retired extents and the write pointers of the earlier one, the manifest is
 /// the earlier one, to the byte.
 pub fn it_can_be_undone()
-    ensures { (resets : List ℕ) (before after undone : Image) (a b : List ℕ) → IsSafe resets before after →
-        IsUndone before after undone → IsManifest before a → IsManifest undone b → a ≡ b }
+    ensures { (resets : List ℕ) (before after undone : Image) (a b : List ℕ) (v w : Bool) →
+        IsSafe resets before after → IsUndone before after undone → IsManifest before a v →
+        IsManifest undone b w → a ≡ b }
 {}

@@ -1,16 +1,17 @@
 -- The image of the whole disk behind one extent that was loaded alone: in each other extent a page is unreadable if it is
 -- named or cut, and has the raw bytes of its place if it isn't.
-use Rattle.std.proofs.Common.{◌≡◌, ◌<◌, ◌≤◌, ◌+◌, ◌-◌, ◌*◌, ◌/◌, ℕ, Bool, IsTrue, true, false, cond, List, [], ◌∷◌, length, get_or, arith, refl, sym, ◌∙◌, ap, inl, inr, ◌⊎◌, Option, Some, None, IfSome, slice_get, nat_eq, nat_lt}
+use Rattle.std.proofs.Common.{◌≡◌, ◌<◌, ◌≤◌, ◌+◌, ◌-◌, ◌*◌, ◌/◌, ℕ, Bool, IsTrue, true, false, cond, List, [], length, get_or, arith, refl, sym, ◌∙◌, ap, inl, inr, ◌⊎◌, Option, Some, None, IfSome, slice_get, nat_eq, nat_lt}
 use Rattle.std.specs.List.{between, Contains}
 use Rattle.std.specs.Bool.{OnFalse}
 use Rattle.std.proofs.Math.Path.{ap₂}
-use Rattle.std.proofs.lemmas.Bool.{cases_eq, eq-eqb, ltb-true, ltb-false}
+use Rattle.std.proofs.lemmas.Bool.{eq-eqb, ltb-true, ltb-false}
 use Rattle.std.proofs.lemmas.Bool.Decides.{eqb_tells}
 use Rattle.std.proofs.lemmas.Nat.{div-mul-add}
 use Rattle.std.proofs.lemmas.Option.{none-some, slice_get-get_or}
 use Rattle.std.proofs.lemmas.List.{get_or_default}
 use Rattle.std.proofs.lemmas.List.Edits.{length-between, get_or-between}
-use Rattle.std.proofs.lemmas.List.Elements.{Contains-append_cases, Contains-append_right, Contains-get_or, Contains-push_cases}
+use Rattle.std.proofs.lemmas.List.Elements.{Contains-get_or}
+use Rattle.list_facts.proofs.Decisions.{Decided, decided_both, decided_contains, decided_like, decided_number}
 use Rattle.scrub_disk.specs.declared.geometry.Geometry.{Geometry}
 use Rattle.scrub_disk.specs.declared.one_extent.OneExtent.{OneExtent}
 use Rattle.scrub_disk.specs.Image.{Image, HasWholePages, disk_bytes}
@@ -23,26 +24,12 @@ use Rattle.scrub_disk.proofs.LostPages.{loaded_with, marked_at, uncut}
 
 -- whether a page is named
 pub named_decided : (named : List (ℕ × ℕ)) (e q : ℕ) → Contains named (e, q) ⊎ (¬ Contains named (e, q))
-named_decided [] e q = inr (λ there. omega (arith, there.1))
-named_decided (at ∷ named) e q = elim (named_decided named e q) [
-  | inl there ↦ inl (Contains-append_right (at ∷ []) named (e, q) there)
-  | inr nowhere ↦ elim (cases_eq at.0 e) [
-    | inr ne ↦ inr (λ there. elim (behind_first there) [ inl first ↦ ne (ap (λ x. x.0) first) | inr more ↦ nowhere more ])
-    | inl same ↦ elim (cases_eq at.1 q) [
-      | inr ne ↦ inr (λ there. elim (behind_first there) [ inl first ↦ ne (ap (λ x. x.1) first) | inr more ↦ nowhere more ])
-      | inl own ↦ inl (0, omega arith, ap₂ (λ (f r : ℕ). let x : ℕ × ℕ = (f, r) in x) same own)
-    ]
-  ]
-]
+named_decided named e q = decided_contains same named (e, q)
   where
-    behind_first : Contains (at ∷ named) (e, q) → (at ≡ (e, q)) ⊎ Contains named (e, q)
-    behind_first there = elim (Contains-append_cases (at ∷ []) named (e, q) there) [
-      | inl first ↦ elim (Contains-push_cases [] at (e, q) first) [
-        | inl none ↦ absurd (omega (arith, none.1))
-        | inr is ↦ inl is
-      ]
-      | inr more ↦ inr more
-    ]
+    same : (a b : ℕ × ℕ) → Decided (a ≡ b)
+    same a b =
+        decided_like (decided_both (decided_number a.0 b.0) (decided_number a.1 b.1))
+        (λ h. ap₂ (λ (f r : ℕ). let x : ℕ × ℕ = (f, r) in x) h.0 h.1) (λ h. (ap (λ x. x.0) h, ap (λ x. x.1) h))
 
 -- the page that raw bytes have at its place: None if they end before it does, or if they aren't known
 abbrev pub raw_page : Option (List ℕ) → Geometry → ℕ → ℕ → Option (List ℕ)
@@ -55,10 +42,12 @@ abbrev pub page_unless : {P : Type 0} → P ⊎ (¬ P) → Option (List ℕ) →
 page_unless (inl is) page = None
 page_unless (inr is_not) page = page
 
+-- there is none if it holds
 pub none_if : {P : Type 0} (decided : P ⊎ (¬ P)) (page : Option (List ℕ)) → P → page_unless decided page ≡ None
 none_if (inl is) page p = refl
 none_if (inr is_not) page p = absurd (is_not p)
 
+-- and the page if it doesn't
 pub page_if_not : {P : Type 0} (decided : P ⊎ (¬ P)) (page : Option (List ℕ)) → (¬ P) → page_unless decided page ≡ page
 page_if_not (inl is) page p = absurd (p is)
 page_if_not (inr is_not) page p = refl
@@ -209,6 +198,7 @@ pub record IsAloneRead (g : Geometry) (x : ℕ) (text : List ℕ) (unreadable : 
   pub marks : length unreadable ≡ g.pages
   pub same : image ≡ alone g x text unreadable
 
+-- what was read of one extent, as its image has it
 pub read_alone : (disk : OneExtent) (g : Geometry) (x : ℕ) → disk.geometry ≡ g → disk.extent ≡ x →
     IsAloneRead g x disk.bytes.items disk.unreadable.items (image_of disk)
 read_alone disk g x sizes own = record {

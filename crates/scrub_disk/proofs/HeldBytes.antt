@@ -18,8 +18,8 @@ use Rattle.scrub_disk.specs.steps.WholePages.{page_room}
 use Rattle.scrub_disk.proofs.Writes.{put_within, put_outside, length-put}
 
 -- the place of byte i of extent e among all bytes, for P bytes a page and N pages an extent
-pub place : (P N e i : ℕ) → (e * N + i / P) * P + i % P ≡ e * (P * N) + i
-place P N e i = omega (arith, div-add-mod' i P)
+pub byte_place_of_page : (P N e i : ℕ) → (e * N + i / P) * P + i % P ≡ e * (P * N) + i
+byte_place_of_page P N e i = omega (arith, div-add-mod' i P)
 
 -- the page of byte i is among all pages
 pub page_within : (P N E e i : ℕ) → 0 < P → e < E → i < P * N → (e * N + i / P) * P + P ≤ P * N * E
@@ -45,7 +45,7 @@ byte-held g bytes unreadable e i l he hi =
     omega (arith, page_within g.page g.pages g.extents e i pos he hi, l) in
     let at : slice_get (between ((e * g.pages + i / g.page) * g.page) ((e * g.pages + i / g.page) * g.page + g.page) bytes) (i % g.page) ≡ Some (get_or bytes (e * (g.page * g.pages) + i) 0) =
     in_page bytes (e * g.pages + i / g.page) g.page (i % g.page) (mod-lt i pos) w
-    ∙ ap (λ n. Some (get_or bytes n 0)) (place g.page g.pages e i) in
+    ∙ ap (λ n. Some (get_or bytes n 0)) (byte_place_of_page g.page g.pages e i) in
     let here : nat_lt i (g.page * g.pages) ≡ true = lt-ltb i (g.page * g.pages) hi in
     ap
     (λ t. cond t (byte_of_page (get_or unreadable (e * g.pages + i / g.page) false) ((e * g.pages + i / g.page) * g.page)) None)

@@ -158,23 +158,6 @@ more_blocks g stride first count next n both blocks more all marks marked every 
         ∙ get_or-append_right (map (block_text g.page) blocks) (map (block_text g.page) more) (length blocks) k []
         (length-map blocks (block_text g.page)) above
 
--- no block yet
-pub no_block : (g : Geometry) (stride first : ℕ) (blocks : List Block) (marks : List Bool) → blocks ≡ [] → marks ≡ [] →
-    AreBlocks g stride first 0 blocks marks
-no_block g stride first blocks marks none unmarked =
-    rw (none, unmarked) (record {
-      number = refl;
-      sizes = λ k hk. absurd (omega (arith, hk));
-      stored = All-nil (HasPages g.page);
-      whole = empty;
-      each_page = omega arith;
-    })
-  where
-    empty : 0 ≡ g.page * (first_page g stride (first + 0) - first_page g stride first)
-    empty =
-        let zero_pages : first_page g stride (first + 0) - first_page g stride first ≡ 0 = omega arith in
-        sym (ap (λ m. g.page * m) zero_pages ∙ omega arith)
-
 -- one block
 pub one_block : (g : Geometry) (stride number first count : ℕ) (block : Block) (blocks : List Block) (marks : List Bool) →
     first ≡ first_page g stride number → count ≡ min stride (g.pages * g.extents - first) → blocks ≡ block ∷ [] → HasPages g.page block →

@@ -1,17 +1,21 @@
 -- Lemmas on the bytes and marks of a disk, and on raw bytes that are read into it.
-pub mod Writes
+
+-- images: their bytes, and what two of them share
 pub mod HeldBytes
+pub mod LostPages
+pub mod SameExtents
+pub mod BehindExtent
+-- raw bytes that are read into lists and images
 pub mod RawBytes
 pub mod RawImages
 pub mod ReadAhead
-pub mod AllZero
-pub mod Texts
-pub mod StoredPages
-pub mod PartsRead
-pub mod JoinedBlocks
-pub mod LostPages
-pub mod BehindExtent
-pub mod SameExtents
 pub mod PagesRead
-pub mod Filters
+pub mod PartsRead
+pub mod Writes
+-- blocks of pages, of which zeros aren't stored
+pub mod AllZero
+pub mod StoredPages
+pub mod JoinedBlocks
+pub mod Texts
+-- what `list_facts` has, for crates that import it from here
 pub mod Zips

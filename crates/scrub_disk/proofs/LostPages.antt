@@ -212,7 +212,7 @@ loses_read g (Some known) fails failures bytes marks image is lm holds r =
     (rw is at holds))
 
 -- a byte that was found after the last page
-pub longer : (raw was : Option (List ℕ)) (end size : ℕ) (there : Bool) → was ≡ raw → end ≡ size → there ≡ true →
+pub byte_at_end_is_too_long : (raw was : Option (List ℕ)) (end size : ℕ) (there : Bool) → was ≡ raw → end ≡ size → there ≡ true →
     IfSome was (λ known. OnTrue there (end < length known)) → IfSome raw (λ known. size < length known)
-longer None was end size there same at found short = tt
-longer (Some known) was end size there same at found short = rw (at, found) at (rw same at short)
+byte_at_end_is_too_long None was end size there same at found short = tt
+byte_at_end_is_too_long (Some known) was end size there same at found short = rw (at, found) at (rw same at short)

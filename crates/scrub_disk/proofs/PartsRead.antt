@@ -1,5 +1,5 @@
 -- The shares of a disk that readers read, put together.
-use Rattle.std.proofs.Common.{◌≡◌, ◌<◌, ◌≤◌, ◌+◌, ◌-◌, ◌*◌, ◌/◌, ◌%◌, ℕ, Bool, true, false, List, [], ◌∷◌, ◌++◌, ◌⊎◌, length, length-append, get_or, slice_get, arith, refl, sym, ◌∙◌, ap, inl, inr, Option, Some, None, IfSome, All, sum_by, Contains}
+use Rattle.std.proofs.Common.{◌≡◌, ◌<◌, ◌+◌, ◌-◌, ◌*◌, ◌/◌, ◌%◌, ℕ, Bool, true, false, List, [], ◌∷◌, ◌++◌, ◌⊎◌, length, length-append, get_or, slice_get, arith, refl, sym, ◌∙◌, ap, inl, inr, Option, Some, None, IfSome, All, sum_by, Contains}
 use Rattle.scrub_disk.specs.Raw.{MayFailIn}
 use Rattle.std.proofs.lemmas.Nat.{div_below, div-mul-add, div-add-mod'}
 use Rattle.std.proofs.Math.Nat.{mod-lt}
@@ -11,21 +11,6 @@ use Rattle.scrub_disk.specs.declared.blocks.Block.{Block}
 use Rattle.scrub_disk.specs.Stored.{block_text}
 use Rattle.scrub_disk.specs.steps.Added.{AddsPages}
 use Rattle.scrub_disk.specs.steps.Ahead.{HoldsFrom, IsReadPart, IsReadFrom, MarksFrom}
-
--- what was read with few failures was read with at most more of them
-pub read_from_more : (known : Option (List ℕ)) (fails : ℕ → ℕ → Bool) (first first' page few many : ℕ) (bytes : List ℕ) (marks : List Bool) →
-    first ≡ first' → few ≤ many → IsReadFrom known fails first page few bytes marks →
-    IsReadFrom known fails first' page many bytes marks
-read_from_more None fails first first' page few many bytes marks is le r = tt
-read_from_more (Some text) fails first first' page few many bytes marks is le r = rw (sym is) (record {
-  held = r.held;
-  lost = record {
-    failed = r.lost.failed;
-    few = omega (arith, r.lost.few, le);
-    each = r.lost.each;
-    only = r.lost.only;
-  };
-})
 
 -- pages that were read after the first ones
 read_more_text : (text : List ℕ) (fails : ℕ → ℕ → Bool) (page s x c f1 f2 : ℕ) (bytes more : List ℕ) (marks marked : List Bool) → 0 < page →

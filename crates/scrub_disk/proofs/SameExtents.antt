@@ -1,11 +1,12 @@
 -- Two images with the same pages in an extent: they have the same bytes there.
-use Rattle.std.proofs.Common.{◌≡◌, ◌<◌, ◌*◌, ◌/◌, ◌%◌, ℕ, Bool, true, false, cond, arith, refl, sym, ap, Option, Some, None, nat_lt, slice_get, option_and_then}
+use Rattle.std.proofs.Common.{◌≡◌, ◌<◌, ◌*◌, ◌/◌, ◌%◌, ℕ, Bool, true, false, cond, arith, refl, sym, ap, None, nat_lt, slice_get, option_and_then}
 use Rattle.std.proofs.Math.Path.{fun_ext}
 use Rattle.std.proofs.lemmas.Nat.{div_below}
 use Rattle.std.proofs.lemmas.Bool.{ltb-true}
 use Rattle.scrub_disk.specs.Image.{Image, byte}
 use Rattle.scrub_disk.specs.OneExtent.{SameExtent}
 
+-- that two images have the same extent goes both ways
 pub SameExtent-sym : {e : ℕ} {a b : Image} → SameExtent e a b → SameExtent e b a
 SameExtent-sym s = record {
   geometry = sym s.geometry;
@@ -25,5 +26,6 @@ same_byte {e} {a} {b} s p = rw s.geometry (by_end (nat_lt p (a.geometry.page * a
         ap (option_and_then (λ bytes. slice_get bytes (p % a.geometry.page))) (s.pages (p / a.geometry.page) page)
     by_end false is = refl
 
+-- they have the same bytes there
 pub same_bytes : {e : ℕ} {a b : Image} → SameExtent e a b → byte b e ≡ byte a e
 same_bytes s = fun_ext (same_byte s)

@@ -86,17 +86,6 @@ slots_kept P stored more (s ∷ ss) all =
     one None fits = tt
     one (Some k) fits = omega (arith, fits, length-append stored more)
 
--- a page of zeros
-pub zero_page : (P : ℕ) (old new : Block) → HasPages P old → new.bytes.items ≡ old.bytes.items →
-    new.slots.items ≡ old.slots.items ++ None ∷ [] →
-    (block_text P new ≡ block_text P old ++ replicate P 0) × HasPages P new
-zero_page P old new has same is = rw (same, is) (
-  flat_map-append (page_text P old.bytes.items) old.slots.items (None ∷ [])
-      ∙ ap (λ xs. block_text P old ++ xs) (append-nil (replicate P 0)),
-  All-append (IsStored P old.bytes.items) old.slots.items (None ∷ []) has
-      (All-cons (IsStored P old.bytes.items) None [] tt (All-nil (IsStored P old.bytes.items))),
-)
-
 -- a page that is stored after the stored ones
 pub stored_page : (P n : ℕ) (old new : Block) (page : List ℕ) → length page ≡ P → length old.bytes.items ≡ n * P →
     HasPages P old → new.bytes.items ≡ old.bytes.items ++ page → new.slots.items ≡ old.slots.items ++ Some n ∷ [] →
@@ -162,15 +151,6 @@ size_more P n text after piece true size whole is =
 size_more P n text after piece false size whole is =
     let zeros : length {A = ℕ} (replicate P 0) ≡ P = length-replicate P 0 in
     ap length is ∙ length-append text (replicate P 0) ∙ omega (arith, size, zeros)
-
--- no page yet
-pub adds_none : (P : ℕ) (block : Block) (bytes : List ℕ) (marks : List Bool) → AddsPages P block block 0 bytes marks
-adds_none P block bytes marks = record {
-  added = [];
-  text = sym (append-nil (block_text P block));
-  size = omega arith;
-  same = λ i hi. absurd (omega (arith, hi));
-}
 
 -- one more page
 pub adds_more : (P n : ℕ) (old before after : Block) (bytes : List ℕ) (marks : List Bool) (kept : Bool) → 0 < P →

@@ -6,6 +6,7 @@
 mod blocks;
 pub mod buffered_extent;
 pub mod extent_loading;
+pub mod filling;
 pub mod geometry;
 pub mod loading;
 pub mod memory;
@@ -19,6 +20,7 @@ pub mod zeros;
 
 pub use buffered_extent::{BufferedExtent, read_extent, unreadable_pages};
 pub use extent_loading::load_extent;
+pub use filling::fill;
 pub use geometry::{Geometry, GeometryFault};
 pub use loading::{LoadFault, load};
 pub use memory::MemDisk;

@@ -1,9 +1,9 @@
 //! Loads a raw image into memory, page by page. It doesn't look at what the bytes mean.
 
-ghost use Rattle.std.specs.Prelude.{◌≡◌, ◌≢◌, ◌≤◌, ◌+◌, ◌-◌, ◌*◌, ◌<◌, ◌^◌, ◌/◌, ◌⊎◌, [], All, IsTrue, false, true};
-ghost use Rattle.std.specs.Prelude.{IfOk, IfSome, length, slice_get, Err, Some};
+ghost use Rattle.std.specs.Prelude.{◌≡◌, ◌≢◌, ◌≤◌, ◌+◌, ◌-◌, ◌*◌, ◌<◌, ◌^◌, ◌⊎◌, [], All, IsTrue};
+ghost use Rattle.std.specs.Prelude.{IfOk, IfSome, length, Err};
 ghost use Rattle.std.specs.Bool.{OnTrue, OnFalse};
-ghost use Rattle.scrub_disk.specs.Image.{AreBytesAt, disk_bytes};
+ghost use Rattle.scrub_disk.specs.Image.{disk_bytes};
 ghost use Rattle.scrub_disk.specs.Raw.{IsReadOn, HoldsRaw, LosesOnly, IsLoadedWith};
 ghost use Rattle.scrub_disk.specs.steps.Marked.{HoldsUnmarked, MarksAll, MarksOnly};
 ghost use Rattle.scrub_disk.specs.Memory.{image_of};

@@ -294,8 +294,9 @@ fn read_beside<T: Threads + Sync, R: RawImage + Send + Drop>(
             ensures read { IfOk result
                 (λ p. (known : Option (List ℕ)) → All (λ r. R.bytes r ≡ known) readers.items →
                 (fails : ℕ → ℕ → Bool) → All (λ r. R.fails r ≡ fails) readers.items →
-                IsReadFrom known fails 0 division.geometry.page (sum_by (λ r. R.most_failures r) readers.items)
-                (joined division.geometry.page p.filled.items) p.marks.items) }
+                IsReadFrom known fails 0 division.geometry.page
+                (sum_by (λ r. R.most_failures r) readers.items) (joined division.geometry.page p.filled.items)
+                p.marks.items) }
         { read_parts(rt, alloc, readers, division) },
         move || -> (Result<Part, OutOfMemory>, R)
             requires few_reads { R.reads last < 2 ^ 62 }
@@ -409,7 +410,8 @@ pub fn load_in_parts<T: Threads + Sync, R: RawImage + Send + Drop>(
     ensures loaded { IfOk result
         (λ disk. (known : Option (List ℕ)) → All (λ r. R.bytes r ≡ known) readers.items →
         (fails : ℕ → ℕ → Bool) → All (λ r. R.fails r ≡ fails) readers.items →
-        IsLoadedWith known fails (sum_by (λ r. R.most_failures r) readers.items) geometry bad.now (image_of disk)) }
+        IsLoadedWith known fails (sum_by (λ r. R.most_failures r) readers.items) geometry bad.now
+        (image_of disk)) }
     ensures too_long { result ≡ Err LoadFault.TooLong → (known : Option (List ℕ)) →
         All (λ r. R.bytes r ≡ known) readers.items →
         IfSome known (λ text. disk_bytes geometry < length text) }

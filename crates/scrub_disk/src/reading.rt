@@ -8,6 +8,7 @@ ghost use Rattle.scrub_disk.specs.steps.Ahead.{HasFailed, HoldsFrom, MarksFrom, 
 ghost use Rattle.scrub_disk.specs.Image.{AreBytesAt};
 ghost use Rattle.scrub_disk.specs.Raw.{IsReadOn};
 
+use crate::filling::fill;
 use crate::raw::RawImage;
 
 /// Reads once into `out`, which begins with a page, and returns how many bytes stand at its front then. None
@@ -33,8 +34,7 @@ fn read_ahead<R: RawImage>(raw: &mut R, offset: u64, page: usize, out: &mut [u8]
     }
 }
 
-/// Fills `out`, whose first bytes were read before, in as many reads as it takes. False if a read failed or
-/// the bytes ended first.
+/// Fills `out`, whose first bytes were read before. False if a read failed or the bytes ended first.
 pub(crate) fn read_rest<R: RawImage>(raw: &mut R, offset: u64, have: usize, out: &mut [u8]) -> bool
     requires few_reads { R.reads raw.old + length out.old < 2 ^ 63 }
     requires in_range { offset + length out.old < 2 ^ 64 }
@@ -48,14 +48,10 @@ pub(crate) fn read_rest<R: RawImage>(raw: &mut R, offset: u64, have: usize, out:
     ensures image { IsReadOn R.bytes R.fails R.most_failures R.failures raw.old raw.new }
     ensures reads { R.reads raw.new ≤ R.reads raw.old + length out.old }
 {
-    let mut done = have;
-    while done < out.len() {
-        match raw.read_at(offset + done as u64, &mut out[done..]) {
-            Ok(0) | Err(_) => return false,
-            Ok(n) => done += n,
-        }
+    match fill(raw, offset, have, out) {
+        Ok(n) => n == out.len(),
+        Err(_) => false,
     }
-    true
 }
 
 /// At the first page reads once for all pages; `reached` is where what was read before ends. Returns where it

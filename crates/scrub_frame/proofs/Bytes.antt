@@ -1,19 +1,10 @@
 -- Parts of a byte list, and the numbers that four bytes spell.
-use Rattle.std.proofs.Common.{◌≡◌, ◌<◌, ◌≤◌, ◌+◌, ◌^◌, ℕ, List, ◌++◌, length, take, drop, get_or, arith, refl, sym, ◌∙◌, ap, length-drop, take-append-drop, drop-drop, inl, inr, lit<}
+use Rattle.std.proofs.Common.{◌≡◌, ◌<◌, ◌≤◌, ◌+◌, ◌^◌, ℕ, List, length, take, drop, get_or, arith, refl, sym, ◌∙◌, ap, length-drop, inl, inr, lit<}
 use Rattle.std.proofs.lemmas.Bool.{cases_lt}
-use Rattle.std.proofs.lemmas.List.{take_at, drop_at, get_or-take, get_or-drop, length-take-le, get_or_past}
+use Rattle.std.proofs.lemmas.List.{get_or-take, get_or-drop, length-take-le, get_or_past}
 use Rattle.std.proofs.lemmas.Nat.{be_bytes_4, from_be_bytes-to_be_bytes_4}
 use Rattle.std.specs.Int.{w32, from_be_bytes}
 use Rattle.byteorder.specs.Endian.{big_bytes, big_number}
-
--- the k bytes at place m, and all that follow them
-pub part-rest : (x : List ℕ) (k m : ℕ) → take k (drop m x) ++ drop (m + k) x ≡ drop m x
-part-rest x k m = ap (λ t. take k (drop m x) ++ t) (sym (drop-drop k m x)) ∙ take-append-drop k (drop m x)
-
--- the k bytes at place n, after n bytes
-pub part_at : (before part behind : List ℕ) (n k : ℕ) → length before ≡ n → length part ≡ k →
-    take k (drop n (before ++ (part ++ behind))) ≡ part
-part_at before part behind n k hn hk = ap (take k) (drop_at before (part ++ behind) n hn) ∙ take_at part behind k hk
 
 -- a number of four bytes is read from only four bytes
 pub number-take : (x : List ℕ) → big_number 4 (take 4 x) ≡ big_number 4 x

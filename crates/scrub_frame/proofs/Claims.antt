@@ -6,11 +6,12 @@ use Rattle.std.proofs.lemmas.List.{take_at, take_all, take_rest, take-take, drop
 use Rattle.byteorder.specs.Endian.{big_bytes, big_number}
 use Rattle.sha2.specs.Sha256.{sha256}
 use Rattle.sha2.specs.Hashers.{Holds256}
+use Rattle.list_facts.proofs.Slices.{part_at}
 use Rattle.scrub_frame.specs.declared.form.Form.{Form}
 use Rattle.scrub_frame.specs.declared.matcher.Matcher.{Matcher}
 use Rattle.scrub_frame.specs.Frame.{magic, head, head_size, seal, seal_size, mark, payload_start, close_size, frame_overhead, frame, BeginsWithFrame}
 use Rattle.scrub_frame.specs.Matching.{form_in, length_in, uuid_in, payload_end_in, close_in, HasTaken, NoFrameYet, NoFrameWithin, IsWhole}
-use Rattle.scrub_frame.proofs.Bytes.{part_at, number-bytes}
+use Rattle.scrub_frame.proofs.Bytes.{number-bytes}
 use Rattle.scrub_frame.proofs.Frames.{length-magic, magic-first, stands, form-in_head, length-head, length-frame, length-close, seal-digest, overhead, frame_of_parts, BeginsWithHead, claimed, stands_claimed, too_short}
 use Rattle.scrub_frame.proofs.Feeding.{part_more}
 

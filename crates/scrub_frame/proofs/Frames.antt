@@ -1,19 +1,17 @@
 -- The parts of bytes that begin with a frame, and when bytes begin with one. Throughout, x and y are bytes,
 -- f and g forms, u and v UUIDs, b and c payloads, n and m lengths of payloads.
-use Rattle.std.proofs.Common.{◌≡◌, ◌<◌, ◌≤◌, ◌+◌, ◌^◌, ℕ, List, [], ◌∷◌, ◌++◌, length, take, drop, get_or, arith, refl, sym, ◌∙◌, ap, append_assoc, length-append, length-drop, take-append-drop, Bool, true, false, not, eqb}
+use Rattle.std.proofs.Common.{◌≡◌, ◌<◌, ◌≤◌, ◌+◌, ◌^◌, ℕ, List, [], ◌∷◌, ◌++◌, length, take, drop, get_or, arith, refl, sym, ◌∙◌, ap, append_assoc, length-append, length-drop, take-append-drop}
 use Rattle.std.proofs.lemmas.List.{take_at, take-take, take_all, length-take-le, append-nil, drop_all}
-use Rattle.std.proofs.lemmas.Bool.Decides.{not_from_Decides}
-use Rattle.std.proofs.lemmas.Slice.Eq.{bytes_eq-Decides}
 use Rattle.std.specs.Array.{IsFirstChunk}
-use Rattle.std.specs.Cmp.Lexicographic.{pointwise}
 use Rattle.byteorder.specs.Endian.{big_bytes, big_number}
 use Rattle.sha2.specs.Sha256.{sha256}
 use Rattle.sha2.proofs.Facts256.{length-sha256}
+use Rattle.list_facts.proofs.Slices.{part-rest, part_at}
 use Rattle.scrub_frame.specs.declared.form.Form.{Form}
 use Rattle.scrub_frame.specs.declared.form.Form.TheVariants.{Plain, Sealed}
 use Rattle.scrub_frame.specs.Frame.{magic, head, head_size, seal, seal_size, mark, payload_start, close_size, frame_overhead, frame, HasFrame, BeginsWithFrame, digest_size}
 use Rattle.scrub_frame.specs.Matching.{form_in}
-use Rattle.scrub_frame.proofs.Bytes.{part-rest, part_at, bytes-number_at, bytes-injective}
+use Rattle.scrub_frame.proofs.Bytes.{bytes-number_at, bytes-injective}
 
 -- ---- forms
 
@@ -26,6 +24,7 @@ length-magic Sealed = refl
 pub magic-first : (f : Form) (y : List ℕ) → take 2 (magic f ++ y) ≡ magic f
 magic-first f y = take_at (magic f) y 2 (length-magic f)
 
+-- how long a seal is
 pub length-seal : (f : Form) (b : List ℕ) → length (seal f b) ≡ seal_size f
 length-seal Plain b = refl
 length-seal Sealed b = length-sha256 b
@@ -35,15 +34,18 @@ pub seal-digest : (f : Form) (b : List ℕ) → seal f b ≡ take (seal_size f) 
 seal-digest Plain b = refl
 seal-digest Sealed b = sym (take_all digest_size (sha256 b) (omega (arith, length-sha256 b)))
 
+-- a seal is at most a whole digest
 pub seal_size-few : (f : Form) → seal_size f ≤ digest_size
 seal_size-few Plain = omega arith
 seal_size-few Sealed = omega arith
 
+-- how long what closes a frame is
 pub length-close : (f : Form) (u : List ℕ) → length u ≡ 16 → length (u ++ mark f) ≡ close_size f
 length-close f u lu = omega (arith, length-append u (mark f), lu)
 
 -- ---- heads
 
+-- how long a head is
 pub length-head : (f : Form) (u : List ℕ) (n : ℕ) → length (head f u n) ≡ 6 + length u
 length-head f u n =
     omega (arith, length-magic f, length-append (magic f) (u ++ big_bytes 4 n), length-append u (big_bytes 4 n))
@@ -111,6 +113,7 @@ pub record Stands (x : List ℕ) (f : Form) (u b : List ℕ) : Type 0 where
   pub payload : take (length b) (drop (payload_start f) x) ≡ b
   pub close : take (close_size f) (drop (payload_start f + length b) x) ≡ u ++ mark f
 
+-- the parts of bytes that begin with a frame
 pub stands : (x : List ℕ) (f : Form) (u b : List ℕ) → BeginsWithFrame x f u b → Stands x f u b
 stands x f u b h = record {
   enough =
@@ -248,6 +251,7 @@ pub record BeginsWithHead (x : List ℕ) (f : Form) (u : List ℕ) (n : ℕ) : T
   pub short : n < 2 ^ 32
   pub head_is : take head_size x ≡ head f u n
 
+-- if the first bytes are a head, bytes begin with it
 pub begins_with_head : (y x : List ℕ) (f : Form) (u : List ℕ) (n : ℕ) → IsFirstChunk x y head_size → n < 2 ^ 32 →
     y ≡ head f u n → BeginsWithHead x f u n
 begins_with_head y x f u n chunk short e = record {
@@ -293,18 +297,3 @@ pub other_seal : (x : List ℕ) (f : Form) (u : List ℕ) (n : ℕ) (g : Form) (
 other_seal x f u n g v b h differs k =
     let s = stands_claimed x f u n g v b h k in
     differs (s.0.sealed ∙ ap (seal f) (sym s.0.payload ∙ ap (λ m. take m (drop (payload_start f) x)) (sym s.1)))
-
--- what `!=` on two lists of bytes says
-pub ne_false : (x y : List ℕ) (b : Bool) → b ≡ not (pointwise eqb x y) → b ≡ false → x ≡ y
-ne_false x y b e h = (bytes_eq-Decides x y).0 (not_false (pointwise eqb x y) (sym e ∙ h))
-  where
-    not_false : (b : Bool) → not b ≡ false → b ≡ true
-    not_false true e = refl
-    not_false false e = sym e
-
-pub ne_true : (x y : List ℕ) (b : Bool) → b ≡ not (pointwise eqb x y) → b ≡ true → x ≡ y → ⊥
-ne_true x y b e h same = not_from_Decides _ (bytes_eq-Decides x y) (not_true (pointwise eqb x y) (sym e ∙ h)) same
-  where
-    not_true : (b : Bool) → not b ≡ true → b ≡ false
-    not_true true e = sym e
-    not_true false e = refl

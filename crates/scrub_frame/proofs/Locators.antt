@@ -3,11 +3,12 @@ use Rattle.std.proofs.Common.{◌≡◌, ◌<◌, ◌≤◌, ◌+◌, ◌*◌, �
 use Rattle.std.specs.List.{flat_map}
 use Rattle.std.proofs.lemmas.List.{take_at, drop_at, drop_all, append-nil, take_all}
 use Rattle.byteorder.specs.Endian.{big_bytes, big_number}
+use Rattle.list_facts.proofs.Slices.{part-rest}
+use Rattle.list_facts.proofs.Spelling.{flat_map-injective, length-flat_map_of}
 use Rattle.scrub_frame.specs.Frame.{digest_size}
 use Rattle.scrub_frame.specs.declared.locator.Locator.{Locator}
 use Rattle.scrub_frame.specs.Locator.{locator_bytes, IsLocator}
-use Rattle.scrub_frame.proofs.Parts.{length-flat_map_of, flat_map-injective}
-use Rattle.scrub_frame.proofs.Bytes.{part-rest, bytes-number_at, bytes-injective}
+use Rattle.scrub_frame.proofs.Bytes.{bytes-number_at, bytes-injective}
 
 -- what was read from sixty bytes is spelled by them
 pub fields_read : (x u d : List ℕ) (a b c : ℕ) → length x ≡ 60 → ((i : ℕ) → get_or x i 0 < 256) →
@@ -91,9 +92,11 @@ fields_written l a b c d z s t u v w ha hb hc hd ld le lz hs ht hu hv hw =
         a ++ (b ++ (c ++ (d ++ l.digest))) ≡ p ++ (q ++ (r ++ (y ++ l.digest)))
     replaced a b c d p q r y ha hb hc hd = cc
 
+-- a locator is sixty bytes
 pub length-locator_bytes : (l : Locator) → IsLocator l → length (locator_bytes l) ≡ 60
 length-locator_bytes l h = omega (arith, length-append l.uuid l.digest, h.uuid, h.digest)
 
+-- so several are sixty bytes each
 pub length-locators : (ls : List Locator) → All IsLocator ls → length (flat_map locator_bytes ls) ≡ 60 * length ls
 length-locators ls h =
     length-flat_map_of locator_bytes 60 ls (λ k d hk. length-locator_bytes (get_or ls k d) (h k d hk))

@@ -1,46 +1,12 @@
 -- Values that are read from the bytes that spell them: locators, and lists whose elements are spelled in parts of one size.
-use Rattle.std.proofs.Common.{◌≡◌, ◌<◌, ◌^◌, ◌+◌, ◌*◌, ℕ, zero, suc, List, [], ◌∷◌, ◌++◌, length, take, drop, get_or, arith, refl, sym, ◌∙◌, ap, append_assoc, All}
-use Rattle.std.specs.List.{flat_map}
-use Rattle.std.proofs.lemmas.List.{append-nil, take_at, drop_at}
-use Rattle.byteorder.specs.Endian.{big_bytes, big_number}
+use Rattle.std.proofs.Common.{◌≡◌, ◌<◌, ◌^◌, ℕ, List, length, take, drop}
+use Rattle.std.proofs.lemmas.List.{take_at, drop_at}
+use Rattle.byteorder.specs.Endian.{big_number}
+use Rattle.list_facts.proofs.Decisions.{Decided, decided_both, decided_less, decided_like, decided_number}
 use Rattle.scrub_frame.specs.declared.locator.Locator.{Locator}
 use Rattle.scrub_frame.specs.Locator.{locator_bytes, IsLocator}
 use Rattle.scrub_frame.specs.Frame.{digest_size}
 use Rattle.scrub_frame.proofs.Bytes.{number-bytes}
-use Rattle.scrub_frame.proofs.Decisions.{Decided, decided_like, decided_both, decided_less, decided_number}
-
--- what n parts of a size spell, by a reader of one part
-abbrev pub read_parts : {X : Type 0} → (List ℕ → X) → ℕ → ℕ → List ℕ → List X
-read_parts read size zero x = []
-read_parts read size (suc n) x = read (take size x) ∷ read_parts read size n (drop size x)
-
--- a list is read from the bytes that spell it, whatever follows them, if each element is read from those that spell it
-pub parts_again : {X : Type 0} (spell : X → List ℕ) (Fits : X → Type 0) (read : List ℕ → X) (size : ℕ) (xs : List X) (rest : List ℕ) →
-    ((v : X) → Fits v → length (spell v) ≡ size) → ((v : X) → Fits v → read (spell v) ≡ v) → All Fits xs →
-    read_parts read size (length xs) (flat_map spell xs ++ rest) ≡ xs
-parts_again spell Fits read size [] rest sized again all = refl
-parts_again {X} spell Fits read size (v ∷ xs) rest sized again all =
-    let fits : Fits v = all 0 v (omega arith) in
-    let whole : (spell v ++ flat_map spell xs) ++ rest ≡ spell v ++ (flat_map spell xs ++ rest) =
-    append_assoc (spell v) (flat_map spell xs) rest in
-    let first : take size (flat_map spell (v ∷ xs) ++ rest) ≡ spell v =
-    ap (take size) whole ∙ take_at (spell v) (flat_map spell xs ++ rest) size (sized v fits) in
-    let others : drop size (flat_map spell (v ∷ xs) ++ rest) ≡ flat_map spell xs ++ rest =
-    ap (drop size) whole ∙ drop_at (spell v) (flat_map spell xs ++ rest) size (sized v fits) in
-    ap (λ y. read y ∷ read_parts read size (length xs) (drop size (flat_map spell (v ∷ xs) ++ rest))) first
-    ∙ ap (λ y. read (spell v) ∷ read_parts read size (length xs) y) others
-    ∙ ap (λ (w : X). w ∷ read_parts read size (length xs) (flat_map spell xs ++ rest)) (again v fits)
-    ∙ ap (λ (ws : List X). v ∷ ws)
-    (parts_again spell Fits read size xs rest sized again (λ k d here. all (suc k) d (omega (arith, here))))
-
--- so a list is read again from exactly the bytes that spell it
-pub list_again : {X : Type 0} (spell : X → List ℕ) (Fits : X → Type 0) (read : List ℕ → X) (size : ℕ) (xs : List X) (n : ℕ) (y : List ℕ) →
-    ((v : X) → Fits v → length (spell v) ≡ size) → ((v : X) → Fits v → read (spell v) ≡ v) → All Fits xs →
-    n ≡ length xs → y ≡ flat_map spell xs → read_parts read size n y ≡ xs
-list_again spell Fits read size xs n y sized again all many is =
-    ap (λ m. read_parts read size m y) many
-    ∙ ap (read_parts read size (length xs)) (is ∙ sym (append-nil (flat_map spell xs)))
-    ∙ parts_again spell Fits read size xs [] sized again all
 
 -- the locator that sixty bytes spell
 abbrev pub read_locator : List ℕ → Locator
@@ -52,10 +18,7 @@ read_locator y = record {
   digest = drop 28 y;
 }
 
--- a number of four bytes is read again
-pub number_again : (n : ℕ) → n < 2 ^ 32 → big_number 4 (big_bytes 4 n) ≡ n
-number_again n h = number-bytes n h
-
+-- a locator is read again from the bytes that spell it
 pub locator_again : (l : Locator) → IsLocator l → read_locator (locator_bytes l) ≡ l
 locator_again l h = λ i. record { extent = a i; offset = b i; length = c i; uuid = d i; digest = e i }
   where

@@ -9,7 +9,6 @@ pub mod SpareLines
 pub mod ManifestTexts
 pub mod ManifestBytes
 pub mod SizesLists
-pub mod Summaries
 pub mod SummaryLines
 pub mod SummaryChunks
 pub mod Existing

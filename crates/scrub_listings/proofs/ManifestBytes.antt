@@ -36,11 +36,11 @@ use Rattle.scrub_check.specs.ChunkForms.{form_at}
 use Rattle.scrub_check.specs.Named.{named_by_shard}
 use Rattle.scrub_check.specs.Spares.{spares_of}
 use Rattle.scrub_check.specs.Status.{FindsFrame, NamesChunk}
-use Rattle.scrub_report.specs.Resets.{IsScrubbedBut}
-use Rattle.scrub_report.specs.Scrubbed.{Scrubbed}
-use Rattle.scrub_report.specs.Texts.{owner_text, uuid_text}
-use Rattle.scrub_report.proofs.OneIndex.{read_of}
-use Rattle.scrub_report.proofs.OneReader.{heads, no_tail, tails}
+use Rattle.scrub_found.specs.Resets.{IsScrubbedBut}
+use Rattle.scrub_found.specs.Scrubbed.{Scrubbed}
+use Rattle.scrub_found.specs.Texts.{owner_text, uuid_text}
+use Rattle.scrub_found.proofs.OneIndex.{read_of}
+use Rattle.scrub_found.proofs.OneReader.{heads, no_tail, tails}
 use Rattle.scrub_listings.specs.Manifest.{HeldValue, HoldsBytes, TraitsValue, all_held, all_traits, form_text, held_locator, looked_for, of_shards, traits}
 use Rattle.scrub_listings.proofs.ManifestTexts.{HasSmallNumbers, IsSmall, cut, decimal_word, not_space, small, uuid_word}
 use Rattle.scrub_listings.proofs.ShardLines.{along_runs, shards_part, unmapped}

@@ -47,12 +47,12 @@ use Rattle.scrub_check.specs.ChunkForms.{form_at}
 use Rattle.scrub_check.specs.Named.{named_locators, named_by_shard}
 use Rattle.scrub_check.specs.Spares.{spares_of}
 use Rattle.scrub_check.proofs.Listed.{as_many}
-use Rattle.scrub_report.specs.Resets.{IsScrubbedBut}
-use Rattle.scrub_report.specs.Scrubbed.{Scrubbed}
-use Rattle.scrub_report.specs.Texts.{owner_text, status_text, uuid_text}
-use Rattle.scrub_report.proofs.Indexable.{countable, entries_are, entries_fit, indexed, runs_few}
-use Rattle.scrub_report.proofs.OneReader.{heads, no_tail, tails}
-use Rattle.scrub_report.proofs.ResetPlans.{plan_before}
+use Rattle.scrub_found.specs.Resets.{IsScrubbedBut}
+use Rattle.scrub_found.specs.Scrubbed.{Scrubbed}
+use Rattle.scrub_found.specs.Texts.{owner_text, status_text, uuid_text}
+use Rattle.scrub_found.proofs.FewBindings.{countable, entries_are, entries_fit, indexed, runs_few}
+use Rattle.scrub_found.proofs.OneReader.{heads, no_tail, tails}
+use Rattle.scrub_found.proofs.ResetPlans.{plan_before}
 use Rattle.scrub_listings.specs.Manifest.{HeldValue, HoldTheSame, after_status_in, all_held, form_text, form_word, held_locator, hidden_runs, is_of_read_run, is_whole, looked_for, lost_runs, manifest_text, numbered_lines, of_shards, shard_lines, spare_text, text_by, two_digits}
 use Rattle.scrub_listings.proofs.AllPass.{all_pass}
 use Rattle.scrub_listings.proofs.ShardLines.{AreAlong, along_behind, along_fits, along_runs, hidden_few, line_of, lines_along, lines_are, of_names, of_shard, own_first, shards_part, unmapped}

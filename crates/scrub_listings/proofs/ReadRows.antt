@@ -10,9 +10,9 @@ use Rattle.scrub_check.specs.declared.named.Owner.{Owner}
 use Rattle.scrub_check.specs.declared.named.Owner.TheVariants.{Run, Shard}
 use Rattle.scrub_check.proofs.Counts.{count_map}
 use Rattle.scrub_check.specs.Runs.{ReadRunsValue}
-use Rattle.scrub_report.specs.declared.runs.RunRow.{RunRow}
-use Rattle.scrub_report.specs.Parts.{AreRowsOf}
-use Rattle.scrub_report.specs.Report.{entry_counts}
+use Rattle.scrub_found.specs.declared.runs.RunRow.{RunRow}
+use Rattle.scrub_found.specs.Judged.{AreRowsOf}
+use Rattle.scrub_found.specs.Scrubbed.{entry_counts}
 use Rattle.scrub_listings.specs.Manifest.{is_of_read_run}
 use Rattle.scrub_listings.specs.steps.Manifest.{is_of_read_row}
 

@@ -1,5 +1,5 @@
 -- The lines of the named locators: owner, place and status, and of each that has spares the first one and how many.
-use Rattle.std.specs.Prelude.{◌≡◌, ◌++◌, ◌∷◌, [], ℕ, List, codes, length}
+use Rattle.std.specs.Prelude.{◌≡◌, ◌++◌, ◌∷◌, [], ℕ, Bool, List, codes, length}
 use Rattle.std.specs.Fmt.{decimal}
 use Rattle.std.specs.List.{flat_map}
 use Rattle.scrub_disk.specs.Image.{Image}
@@ -9,8 +9,8 @@ use Rattle.scrub_scan.specs.Line.{spaced}
 use Rattle.scrub_scan.specs.Scanned.{Scanned}
 use Rattle.scrub_check.specs.Spares.{spares_by, spares_of}
 use Rattle.scrub_check.specs.declared.statuses.checked.Checked.{Checked}
-use Rattle.scrub_report.specs.Scrubbed.{Scrubbed, IsScrubbed}
-use Rattle.scrub_report.specs.Texts.{owner_text, status_text, uuid_text}
+use Rattle.scrub_found.specs.Scrubbed.{Scrubbed, IsScrubbed, is_clean_disk}
+use Rattle.scrub_found.specs.Texts.{owner_text, status_text, uuid_text}
 
 -- the text of where a locator points: `EXTENT OFFSET LENGTH UUID`
 abbrev pub place_text : Locator → List ℕ
@@ -45,8 +45,9 @@ locator_lines all checked = flat_map (lines_of_one all) checked
 abbrev pub lines_by : List Standing → Checked → List ℕ
 lines_by found c = locator_line c ++ spare_line (spares_by found c)
 
--- the text is the lines of the named locators of what is found in an image
-pub record AreLocatorLines (image : Image) (text : List ℕ) : Type 0 where
+-- the text is the lines of the named locators of what is found in an image, and the truth value says whether it is clean
+pub record IsLocatorListing (image : Image) (text : List ℕ) (clean : Bool) : Type 0 where
   pub found : Scrubbed
   pub scrubbed : IsScrubbed image found
   pub text_is : text ≡ locator_lines found.all found.checked
+  pub verdict : clean ≡ is_clean_disk found

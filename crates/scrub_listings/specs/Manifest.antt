@@ -22,9 +22,9 @@ use Rattle.scrub_check.specs.declared.statuses.status.Status.{Status}
 use Rattle.scrub_check.specs.Checked.{is_dangling, is_hidden, is_owned_by, is_sound}
 use Rattle.scrub_check.specs.ChunkForms.{form_at}
 use Rattle.scrub_check.specs.Spares.{spares_of}
-use Rattle.scrub_report.specs.Resets.{IsScrubbedBut}
-use Rattle.scrub_report.specs.Scrubbed.{Scrubbed}
-use Rattle.scrub_report.specs.Texts.{owner_text, status_text, uuid_text}
+use Rattle.scrub_found.specs.Resets.{IsScrubbedBut}
+use Rattle.scrub_found.specs.Scrubbed.{Scrubbed}
+use Rattle.scrub_found.specs.Texts.{owner_text, status_text, uuid_text}
 
 -- ---- the lines
 
@@ -128,16 +128,6 @@ text_by after has_superblock retired lost hidden bindings shards =
 abbrev pub manifest_text : Scrubbed → List ℕ
 manifest_text s = text_by (after_status_in s.all) s.plan.has_superblock s.plan.retired (lost_runs s) (hidden_runs s) s.bindings (of_shards s.checked)
 
--- the text is the manifest of what is found in an image, as if these extents had been reset
-pub record IsManifestBut (resets : List ℕ) (image : Image) (text : List ℕ) : Type 0 where
-  pub found : Scrubbed
-  pub scrubbed : IsScrubbedBut resets image found
-  pub text_is : text ≡ manifest_text found
-
--- the text is the manifest of what is found in an image
-abbrev pub IsManifest : Image → List ℕ → Type 0
-IsManifest image text = IsManifestBut [] image text
-
 -- each of these locators is sound
 abbrev pub are_sound : List Checked → Bool
 are_sound checked = list_all (λ c. is_sound c.status) checked
@@ -150,15 +140,17 @@ is_whole_by has_superblock lost hidden shards = has_superblock && lost == 0 && h
 abbrev pub is_whole : Scrubbed → Bool
 is_whole s = is_whole_by s.plan.has_superblock (lost_runs s) (hidden_runs s) (of_shards s.checked)
 
--- the truth value says whether nothing is missing of what is found in the image, as if these extents had been reset
-pub record IsWholeBut (resets : List ℕ) (image : Image) (whole : Bool) : Type 0 where
+-- the text is the manifest of what is found in an image, as if these extents had been reset, and the truth value says whether
+-- nothing is missing
+pub record IsManifestBut (resets : List ℕ) (image : Image) (text : List ℕ) (whole : Bool) : Type 0 where
   pub found : Scrubbed
   pub scrubbed : IsScrubbedBut resets image found
+  pub text_is : text ≡ manifest_text found
   pub verdict : whole ≡ is_whole found
 
--- whether nothing is missing of an image, without resets
-abbrev pub IsWholeImage : Image → Bool → Type 0
-IsWholeImage image whole = IsWholeBut [] image whole
+-- the same without resets
+abbrev pub IsManifest : Image → List ℕ → Bool → Type 0
+IsManifest image text whole = IsManifestBut [] image text whole
 
 -- ---- what a manifest says
 

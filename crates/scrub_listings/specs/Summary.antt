@@ -21,7 +21,7 @@ use Rattle.scrub_check.specs.Chunks.{chunks, orphans, twins}
 use Rattle.scrub_check.specs.Live.{has_sound_at, is_chunk, live_bytes, size_of}
 use Rattle.scrub_check.specs.Spares.{spares_by, spares_of}
 use Rattle.scrub_merge.specs.Binding.{BindingValue}
-use Rattle.scrub_report.specs.Scrubbed.{Scrubbed, IsScrubbed, is_clean}
+use Rattle.scrub_found.specs.Scrubbed.{Scrubbed, IsScrubbed, is_clean_disk}
 use Rattle.scrub_listings.specs.declared.summary.Tally.{Tally}
 use Rattle.scrub_listings.specs.declared.summary.Tally.TheVariants.{UnreadablePages, Chunks, ChunkBytes, TornItems, NoiseItems, LostItems, Tails, TailBytes}
 use Rattle.scrub_listings.specs.declared.summary.Verdict.{Verdict}
@@ -45,7 +45,7 @@ verdict_by clean doubt = if clean then if doubt then InDoubt else Sound else Wro
 -- the verdict on what was found, by the generation of the last superblock that was written, if that is given: wrong if it isn't
 -- clean; in doubt if it is, and a page of extent 0 is damaged or stray, or another generation counts; or else sound
 abbrev pub verdict : Option ℕ → Scrubbed → List SuperblockPage → Verdict
-verdict last s pages = verdict_by (is_clean s) (list_any is_odd pages || is_behind last s.choice)
+verdict last s pages = verdict_by (is_clean_disk s) (list_any is_odd pages || is_behind last s.choice)
 
 -- the word for a verdict
 abbrev pub verdict_text : Verdict → List ℕ
@@ -208,20 +208,13 @@ abbrev pub summary_text : Option ℕ → List SuperblockPage → Scrubbed → Li
 summary_text last pages s = verdict_line (verdict last s pages) ++ number_lines (numbers_by pages s (lost_runs s))
 
 -- the text is the summary of what is found in an image, by the generation of the last superblock that was written, if that is
--- given
-pub record IsSummary (last : Option ℕ) (image : Image) (text : List ℕ) : Type 0 where
+-- given, and the truth value says whether the verdict is that it is sound
+pub record IsSummary (last : Option ℕ) (image : Image) (text : List ℕ) (sound : Bool) : Type 0 where
   pub found : Scrubbed
   pub scrubbed : IsScrubbed image found
   pub pages : List SuperblockPage
   pub held : AreSuperblockPages image pages
   pub text_is : text ≡ summary_text last pages found
-
--- the truth value says whether the verdict on an image is that it is sound
-pub record IsSoundImage (last : Option ℕ) (image : Image) (sound : Bool) : Type 0 where
-  pub found : Scrubbed
-  pub scrubbed : IsScrubbed image found
-  pub pages : List SuperblockPage
-  pub held : AreSuperblockPages image pages
   pub verdict_is : sound ≡ is_sound_verdict (verdict last found pages)
 
 -- ---- steps of the code

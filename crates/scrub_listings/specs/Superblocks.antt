@@ -58,14 +58,9 @@ is_orderly_page Stray = false
 abbrev pub are_clean_pages : List SuperblockPage → Bool
 are_clean_pages pages = list_any is_counting_page pages && list_all is_orderly_page pages
 
--- the text is the lines of the pages of extent 0 of an image
-pub record AreSuperblockLines (image : Image) (text : List ℕ) : Type 0 where
+-- the text is the lines of the pages of extent 0 of an image, and the truth value says whether they are clean
+pub record IsSuperblockListing (image : Image) (text : List ℕ) (clean : Bool) : Type 0 where
   pub pages : List SuperblockPage
   pub are : AreSuperblockPages image pages
   pub text_is : text ≡ superblock_lines pages
-
--- the truth value says whether the pages of extent 0 of an image are clean
-pub record AreCleanSuperblocks (image : Image) (clean : Bool) : Type 0 where
-  pub pages : List SuperblockPage
-  pub are : AreSuperblockPages image pages
   pub verdict : clean ≡ are_clean_pages pages

@@ -1,22 +1,20 @@
 //! The named locators of a disk as lines: the owner, the place and the status of each.
 
-ghost use Rattle.std.specs.Prelude.{◌≡◌, ◌++◌, ◌≤◌, List, ℕ, IfOk, OnOk, string_bytes};
+ghost use Rattle.std.specs.Prelude.{◌≡◌, ◌++◌, ◌≤◌, Bool, List, ℕ, IfOk, OnOk, string_bytes};
 ghost use Rattle.scrub_disk.specs.Image.{Image};
-ghost use Rattle.scrub_report.specs.Answer.{AreTakingsBy};
+ghost use Rattle.scrub_found.specs.Takings.{AreTakingsBy};
 ghost use Rattle.std.specs.List.{flat_map};
-ghost use Rattle.scrub_report.specs.Parts.{IsScan};
-ghost use Rattle.scrub_report.specs.Scrubbed.{IsCleanImage};
-ghost use Rattle.scrub_listings.specs.Locators.{AreLocatorLines, count_line, lines_by, locator_line};
+ghost use Rattle.scrub_found.specs.Judged.{IsScan};
+ghost use Rattle.scrub_listings.specs.Locators.{IsLocatorListing, count_line, lines_by, locator_line};
 ghost use Rattle.scrub_listings.specs.Locators.{place_text, place_words, spare_line};
 
-use scrub_check::{Checked, Spares};
+use scrub_check::{Checked, Spares, shared};
 use scrub_disk::{OutOfMemory, PageSource};
+use scrub_found::judging::are_sound;
+use scrub_found::texts::{owner_text, status_text};
+use scrub_found::{Scan, ScrubFault, is_clean, judged_of, scan_by};
 use scrub_frame::Locator;
 use scrub_pool::{Gate, Takings};
-use scrub_report::ScrubFault;
-use scrub_report::scanning::{Scan, scan_by};
-use scrub_report::scrubbing::{is_clean, parts_of};
-use scrub_report::texts::{owner_text, status_text};
 use scrub_scan::Standing;
 use std::alloc::Global;
 use std::fmt::{self, Write};
@@ -149,14 +147,15 @@ fn listing_of<R: Threads + Sync, D: PageSource>(
     scan: Scan<'_, D>,
 ) -> Result<Listing, OutOfMemory>
     requires { IsScan (D.image scan.disk.now) scan }
-    ensures text { IfOk result (λ l. AreLocatorLines (D.image scan.entry.disk.now) l.text.items) }
-    ensures clean { IfOk result (λ l. IsCleanImage (D.image scan.entry.disk.now) l.is_clean) }
+    ensures { IfOk result (λ l.
+        IsLocatorListing (D.image scan.entry.disk.now) l.text.items l.is_clean) }
 {
-    let parts = parts_of(rt, alloc, scan, &[])?;
-    let judged = &parts.judged;
+    let judged = judged_of(rt, alloc, scan)?;
+    let shared_places = shared(alloc, &judged.checked)?;
     let spares = Spares::of(alloc, &judged.scan.all, &judged.checked)?;
     let text = locator_lines(alloc, &spares, &judged.checked)?;
-    let is_clean = is_clean(&parts);
+    let are_sound = are_sound(&judged.checked);
+    let is_clean = is_clean(&judged.scan, &judged.runs, are_sound, &shared_places);
     Ok(Listing { text, is_clean })
 }
 
@@ -177,8 +176,7 @@ pub fn list_locators<D: PageSource, G: Gate, R: Threads + Wait + Sync>(
     gate: &G,
 ) -> Result<(Listing, Takings), ScrubFault>
     requires { workers ≤ 64 }
-    ensures text { IfOk result (λ r. AreLocatorLines (D.image disk.now) r.0.text.items) }
-    ensures clean { IfOk result (λ r. IsCleanImage (D.image disk.now) r.0.is_clean) }
+    ensures listing { IfOk result (λ r. IsLocatorListing (D.image disk.now) r.0.text.items r.0.is_clean) }
     ensures takings { IfOk result (λ r. AreTakingsBy (D.image disk.now) workers r.1) }
 {
     let (scan, takings) = scan_by(rt, alloc, disk, workers, gate)?;
@@ -186,13 +184,14 @@ pub fn list_locators<D: PageSource, G: Gate, R: Threads + Wait + Sync>(
     Ok((listing, takings))
 }
 
-/// A law: the named locators of an image have at most one text of lines.
+/// A law: the named locators of an image have at most one text of lines, and the image one verdict.
 pub fn one_locator_listing()
-    ensures { (image : Image) (a b : List ℕ) → AreLocatorLines image a → AreLocatorLines image b → a ≡ b }
+    ensures { (image : Image) (a b : List ℕ) (v w : Bool) → IsLocatorListing image a v →
+        IsLocatorListing image b w → (a ≡ b) × (v ≡ w) }
 {}
 
-/// A law: each image has a text of the lines of its named locators. With `one_locator_listing`, it has exactly
-/// one.
+/// A law: each image has a text of the lines of its named locators, and a verdict. With `one_locator_listing`,
+/// it has exactly one of each.
 pub fn each_image_has_a_locator_listing()
-    ensures { (image : Image) → (text : List ℕ) × AreLocatorLines image text }
+    ensures { (image : Image) → (text : List ℕ) × (clean : Bool) × IsLocatorListing image text clean }
 {}

@@ -11,9 +11,9 @@ ghost use Rattle.scrub_run.specs.Entry.{IsBelow};
 ghost use Rattle.scrub_scan.specs.Line.{spaced};
 ghost use Rattle.scrub_check.specs.Checked.{is_hidden, named_of};
 ghost use Rattle.scrub_check.specs.Named.{named_by_shard};
-ghost use Rattle.scrub_report.specs.Answer.{AreTakingsBy};
-ghost use Rattle.scrub_report.specs.Parts.{IsScanBut};
-ghost use Rattle.scrub_listings.specs.Manifest.{HoldTheSame, HoldsBytes, IsManifestBut, IsWholeBut};
+ghost use Rattle.scrub_found.specs.Takings.{AreTakingsBy};
+ghost use Rattle.scrub_found.specs.Judged.{IsScanBut};
+ghost use Rattle.scrub_listings.specs.Manifest.{HoldTheSame, HoldsBytes, IsManifestBut};
 ghost use Rattle.scrub_listings.specs.Manifest.{all_traits, after_status, form_text, is_whole_by, looked_for};
 ghost use Rattle.scrub_listings.specs.Manifest.{numbered_line, numbered_lines, numbered_text, retired_line};
 ghost use Rattle.scrub_listings.specs.Manifest.{runs_line, shard_lines, spare_text, text_by, total_line};
@@ -22,14 +22,12 @@ ghost use Rattle.scrub_listings.specs.steps.Manifest.{after_status_by, is_of_rea
 use crate::listing::Listing;
 use scrub_check::{Checked, Owner, Spares, Status, form_at};
 use scrub_disk::{OutOfMemory, PageSource};
+use scrub_found::judging::are_sound;
+use scrub_found::texts::{owner_text, status_text};
+use scrub_found::{RunRow, Scan, ScrubFault, judged_of, scan_chosen};
 use scrub_frame::{Form, Locator};
 use scrub_merge::Binding;
 use scrub_pool::{Gate, Takings};
-use scrub_report::ScrubFault;
-use scrub_report::runs::RunRow;
-use scrub_report::scanning::{Scan, scan_with_resets};
-use scrub_report::scrubbing::{are_sound, parts_of};
-use scrub_report::texts::{owner_text, status_text};
 use scrub_scan::{AllFindings, Standing};
 use scrub_super::{Plan, choose};
 use std::alloc::Global;
@@ -280,19 +278,17 @@ fn is_whole_by(plan: &Plan, lost: usize, hidden: usize, shards: &[Checked]) -> b
     plan.has_superblock() && lost == 0 && hidden == 0 && are_sound(shards)
 }
 
-/// The manifest of a scanned disk, as if these extents had been reset.
+/// The manifest of a scanned disk.
 fn manifest_of<R: Threads + Sync, D: PageSource>(
     rt: &R,
     alloc: Global,
     scan: Scan<'_, D>,
-    resets: &[u32],
 ) -> Result<Listing, OutOfMemory>
-    requires { IsScanBut resets.now (D.image scan.disk.now) scan }
-    ensures text { IfOk result (λ m. IsManifestBut resets.now (D.image scan.entry.disk.now) m.text.items) }
-    ensures whole { IfOk result (λ m. IsWholeBut resets.now (D.image scan.entry.disk.now) m.is_clean) }
+    requires { (resets : List ℕ) × IsScanBut resets (D.image scan.disk.now) scan }
+    ensures { (resets : List ℕ) → IsScanBut resets (D.image scan.entry.disk.now) scan.entry →
+        IfOk result (λ m. IsManifestBut resets (D.image scan.entry.disk.now) m.text.items m.is_clean) }
 {
-    let parts = parts_of(rt, alloc, scan, resets)?;
-    let judged = &parts.judged;
+    let judged = judged_of(rt, alloc, scan)?;
     let Scan { plan, all, .. } = &judged.scan;
     let (_runs, shards) = judged.checked.split_at(plan.runs().len());
     let spares = Spares::of(alloc, all, &judged.checked)?;
@@ -304,7 +300,7 @@ fn manifest_of<R: Threads + Sync, D: PageSource>(
         &spares,
         plan,
         RunCounts { lost, hidden },
-        parts.map.bindings(),
+        judged.map.bindings(),
         shards,
     )?;
     let is_clean = is_whole_by(plan, lost, hidden, shards);
@@ -315,9 +311,9 @@ fn manifest_of<R: Threads + Sync, D: PageSource>(
 }
 
 /// Lists what a disk holds, wherever it lies, as lines that can be kept, compared and signed, and returns
-/// which extents the caller and each worker took. The disk is taken as if these extents, which rise, had been
-/// reset, which puts a write pointer to 0. It is clean if a superblock counts, no index run is lost or
-/// hidden, and each locator of a shard is sound.
+/// which extents the caller and each worker took. The disk is taken as if these extents, which are
+/// ascending, had been reset, which puts a write pointer to 0. It is clean if a superblock counts, no index run
+/// is lost or hidden, and each locator of a shard is sound.
 ///
 /// First comes `retired` with the retired extents, ascending, and `runs lost L hidden H` with how
 /// many index runs are lost, and how many are read though their locator is hidden. Then for each shard of the
@@ -341,20 +337,20 @@ pub fn list_manifest<D: PageSource, G: Gate, R: Threads + Wait + Sync>(
 ) -> Result<(Listing, Takings), ScrubFault>
     requires workers { workers ≤ 64 }
     requires rising { IsStrictlyIncreasing resets.now }
-    ensures text { IfOk result (λ r. IsManifestBut resets.now (D.image disk.now) r.0.text.items) }
-    ensures whole { IfOk result (λ r. IsWholeBut resets.now (D.image disk.now) r.0.is_clean) }
+    ensures manifest { IfOk result (λ r.
+        IsManifestBut resets.now (D.image disk.now) r.0.text.items r.0.is_clean) }
     ensures takings { IfOk result (λ r. AreTakingsBy (D.image disk.now) workers r.1) }
 {
     let chosen = choose(alloc, disk)?;
-    let (scan, takings) = scan_with_resets(rt, alloc, disk, chosen, workers, gate, resets)?;
-    let manifest = manifest_of(rt, alloc, scan, resets)?;
+    let (scan, takings) = scan_chosen(rt, alloc, disk, chosen, workers, gate, resets)?;
+    let manifest = manifest_of(rt, alloc, scan)?;
     Ok((manifest, takings))
 }
 
-/// A law: an image has at most one manifest, for each list of extents to be reset.
+/// A law: an image has at most one manifest and one verdict, for each list of extents to be reset.
 pub fn one_manifest()
-    ensures { (resets : List ℕ) (image : Image) (a b : List ℕ) → IsManifestBut resets image a →
-        IsManifestBut resets image b → a ≡ b }
+    ensures { (resets : List ℕ) (image : Image) (a b : List ℕ) (v w : Bool) → IsManifestBut resets image a v →
+        IsManifestBut resets image b w → (a ≡ b) × (v ≡ w) }
 {}
 
 /// A law: two disks with one manifest, as if whichever extents had been reset, both have a superblock or
@@ -363,20 +359,19 @@ pub fn one_manifest()
 /// shards, with the same lengths, digests and statuses in order, the same forms of the chunks of sound
 /// locators, the same extents and offsets of others, and the same dangling ones without spares.
 pub fn one_manifest_holds_the_same()
-    ensures said { (resets others : List ℕ) (image other : Image) (text : List ℕ)
-        (x : IsManifestBut resets image text) (y : IsManifestBut others other text) →
+    ensures said { (resets others : List ℕ) (image other : Image) (text : List ℕ) (v w : Bool)
+        (x : IsManifestBut resets image text v) (y : IsManifestBut others other text w) →
         HoldTheSame x.found y.found }
-    ensures whole { (resets others : List ℕ) (image other : Image) (text : List ℕ) (a b : Bool) →
-        IsManifestBut resets image text → IsManifestBut others other text →
-        IsWholeBut resets image a → IsWholeBut others other b → a ≡ b }
-    ensures shards { (resets others : List ℕ) (image other : Image) (text : List ℕ)
-        (x : IsManifestBut resets image text) (y : IsManifestBut others other text) →
+    ensures whole { (resets others : List ℕ) (image other : Image) (text : List ℕ) (v w : Bool) →
+        IsManifestBut resets image text v → IsManifestBut others other text w → v ≡ w }
+    ensures shards { (resets others : List ℕ) (image other : Image) (text : List ℕ) (v w : Bool)
+        (x : IsManifestBut resets image text v) (y : IsManifestBut others other text w) →
         HoldsBytes image → HoldsBytes other → all_traits x.found ≡ all_traits y.found }
 {}
 
 /// A law: each image has a manifest, for each list of extents to be reset, and a verdict whether anything is
 /// missing. With `one_manifest`, it has exactly one.
 pub fn each_image_has_a_manifest()
-    ensures text { (resets : List ℕ) (image : Image) → (text : List ℕ) × IsManifestBut resets image text }
-    ensures whole { (resets : List ℕ) (image : Image) → (whole : Bool) × IsWholeBut resets image whole }
+    ensures { (resets : List ℕ) (image : Image) →
+        (text : List ℕ) × (whole : Bool) × IsManifestBut resets image text whole }
 {}

@@ -74,7 +74,8 @@ pub fn find_sizes<R: RawImage>(
 
 /// A law: the sizes that are found in given bytes are the same whatever blocks lack and whichever reads fail.
 pub fn one_size()
-    ensures { (bytes lacking others : List ℕ) (fails faults : ℕ → ℕ → Bool) (failures more : ℕ) (g h : Geometry) →
+    ensures { (bytes lacking others : List ℕ) (fails faults : ℕ → ℕ → Bool) (failures more : ℕ)
+        (g h : Geometry) →
         AreSizesOf (Some bytes) lacking fails failures (Some g) →
         AreSizesOf (Some bytes) others faults more (Some h) →
         g ≡ h }
@@ -119,8 +120,8 @@ pub fn one_sizes_listing()
 {}
 
 /// A law: for given bytes and lost blocks there is a listing, and with `one_sizes_listing` exactly one. It is
-/// decided whether it is clean. So raw bytes have a listing, and their sizes or none, whatever blocks lack and
-/// whichever reads fail.
+/// decided whether it is clean. So raw bytes have a listing, and their sizes or none, whatever blocks lack
+/// and whichever reads fail.
 pub fn each_front_has_a_sizes_listing()
     ensures text { (bytes : List ℕ) (lost : List Bool) → (text : List ℕ) × AreSizesLines bytes lost text }
     ensures clean { (bytes : List ℕ) (lost : List Bool) →

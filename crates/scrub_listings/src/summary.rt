@@ -14,9 +14,10 @@ ghost use Rattle.scrub_check.specs.Checked.{is_dangling, is_hidden};
 ghost use Rattle.scrub_check.specs.Chunks.{orphans, twins};
 ghost use Rattle.scrub_check.specs.Live.{is_chunk, live_bytes, size_of};
 ghost use Rattle.scrub_check.specs.Runs.{ReadRunsValue};
-ghost use Rattle.scrub_report.specs.Answer.{AreTakingsBy};
-ghost use Rattle.scrub_report.specs.Parts.{AreRowsOf, IsScan, found_in};
-ghost use Rattle.scrub_listings.specs.Summary.{IsSoundImage, IsSummary, candidate_numbers, chunk_numbers};
+ghost use Rattle.scrub_found.specs.Takings.{AreTakingsBy};
+ghost use Rattle.scrub_found.specs.Judged.{AreRowsOf, IsScan, found_in};
+ghost use Rattle.scrub_listings.specs.steps.Summary.{AreListsOf, beside_lists};
+ghost use Rattle.scrub_listings.specs.Summary.{IsSummary, candidate_numbers, chunk_numbers};
 ghost use Rattle.scrub_listings.specs.Summary.{counts_as, disk_numbers, has_spare_by, is_behind, is_lost};
 ghost use Rattle.scrub_listings.specs.Summary.{is_noise};
 ghost use Rattle.scrub_listings.specs.Summary.{is_sound_verdict, is_torn, item_numbers};
@@ -26,14 +27,13 @@ ghost use Rattle.scrub_listings.specs.Summary.{verdict, verdict_by, verdict_line
 
 use crate::listing::Listing;
 use crate::manifest::lost_runs;
-use scrub_check::{Candidate, Checked, Place, Spares};
+use scrub_check::{Candidate, Checked, Liveness, Place, Spares, broken_shards};
 use scrub_disk::{OutOfMemory, PageSource};
+use scrub_found::judging::{are_sound, liveness_and_twins};
+use scrub_found::{Judged, Scan, ScrubFault, is_clean, judged_of, scan_chosen};
 use scrub_merge::Binding;
 use scrub_pool::{Gate, Takings};
-use scrub_report::ScrubFault;
-use scrub_report::parts::Parts;
-use scrub_report::scanning::{Scan, scan_chosen};
-use scrub_report::scrubbing::{is_clean, parts_and_twins};
+use scrub_run::ShardId;
 use scrub_scan::{AllFindings, ExtentResult, Item};
 use scrub_super::{Chosen, Plan, SuperblockPage, choose_with_pages};
 use std::alloc::Global;
@@ -535,21 +535,47 @@ fn append_candidates(text: &mut String, candidates: &[Candidate]) -> Result<(), 
     )
 }
 
-/// Appends all numbers of what was found, with these pages of extent 0 and so many twins.
+/// What follows from the judged locators of a disk, and is counted.
+#[derive(Drop)]
+pub(crate) struct Lists {
+    /// What follows from which chunks are live.
+    pub liveness: Liveness,
+    /// The chunks whose UUID another chunk has too.
+    pub twins: Vec<Place>,
+    /// The shards with a dangling locator.
+    pub broken: Vec<ShardId>,
+}
+
+/// What follows from judged locators.
+fn lists_of<R: Threads + Sync, D: PageSource>(
+    rt: &R,
+    alloc: Global,
+    judged: &Judged<'_, D>,
+) -> Result<Lists, OutOfMemory>
+    ensures { IfOk result (AreListsOf judged.now) }
+{
+    let (liveness, twins) = liveness_and_twins(rt, alloc, judged)?;
+    Ok(Lists {
+        liveness,
+        twins,
+        broken: broken_shards(alloc, &judged.checked)?,
+    })
+}
+
+/// Appends all numbers of what was found, with these pages of extent 0.
 fn append_all<D: PageSource>(
     alloc: Global,
     text: &mut String,
     pages: &[SuperblockPage],
-    parts: &Parts<'_, D>,
-    twin_count: usize,
+    judged: &Judged<'_, D>,
+    lists: &Lists,
 ) -> Result<(), OutOfMemory>
-    requires { twin_count ≡ length (twins parts.now.judged.scan.all.extents) }
-    ensures { (read : ReadRunsValue) →
-        AreRowsOf parts.now.judged.scan.plan.runs read parts.now.judged.runs.items →
+    requires { AreListsOf judged.now lists.now }
+    ensures { (read : ReadRunsValue) → AreRowsOf judged.now.scan.plan.runs read judged.now.runs.items →
         OnOk result (string_bytes text.new ≡ string_bytes text.old ++
-        number_lines (numbers_by pages.now (found_in parts.now read) (count_by is_none read.runs))) }
+        number_lines (numbers_by pages.now (found_in judged.now (beside_lists read lists.now))
+        (count_by is_none read.runs))) }
 {
-    let judged = &parts.judged;
     let Scan {
         chosen,
         plan,
@@ -558,19 +584,19 @@ fn append_all<D: PageSource>(
     } = &judged.scan;
     let lost = lost_runs(&judged.runs);
     let spares = Spares::of(alloc, all, &judged.checked)?;
-    let live = &parts.liveness.live;
-    let orphan_count = parts.liveness.orphans.len();
-    let shared = parts.liveness.shared.len();
-    let bindings = parts.map.bindings();
-    let broken = parts.broken.len();
+    let live = &lists.liveness.live;
+    let orphan_count = lists.liveness.orphans.len();
+    let shared = lists.liveness.shared.len();
+    let bindings = judged.map.bindings();
+    let broken = lists.broken.len();
     let spared = count_spared(&spares, &judged.checked);
     append_disk(text, plan)?;
     append_superblocks(text, chosen, pages)?;
     append_reading(text, chosen, plan, all, lost)?;
     append_shards(text, bindings, broken, &judged.checked, spared)?;
-    append_chunks(text, all, live, orphan_count, twin_count, shared)?;
+    append_chunks(text, all, live, orphan_count, lists.twins.len(), shared)?;
     append_items(text, all)?;
-    append_candidates(text, &parts.liveness.candidates)
+    append_candidates(text, &lists.liveness.candidates)
 }
 
 /// The summary of a scanned disk, whose extent 0 has these pages.
@@ -583,19 +609,25 @@ fn summary_of<R: Threads + Sync, D: PageSource>(
 ) -> Result<Listing, OutOfMemory>
     requires scan { IsScan (D.image scan.disk.now) scan }
     requires pages { AreSuperblockPages (D.image scan.disk.now) pages.now }
-    ensures text { IfOk result (λ s. IsSummary last (D.image scan.entry.disk.now) s.text.items) }
-    ensures sound { IfOk result (λ s. IsSoundImage last (D.image scan.entry.disk.now) s.is_clean) }
+    ensures { IfOk result (λ s. IsSummary last (D.image scan.entry.disk.now) s.text.items s.is_clean) }
 {
-    let (parts, twin_chunks) = parts_and_twins(rt, alloc, scan)?;
-    let has_doubt = has_doubt(last, &parts.judged.scan.chosen, pages);
-    let verdict = verdict_by(is_clean(&parts), has_doubt);
+    let judged = judged_of(rt, alloc, scan)?;
+    let lists = lists_of(rt, alloc, &judged)?;
+    let has_doubt = has_doubt(last, &judged.scan.chosen, pages);
+    let are_sound = are_sound(&judged.checked);
+    let is_clean = is_clean(
+        &judged.scan,
+        &judged.runs,
+        are_sound,
+        &lists.liveness.shared,
+    );
+    let verdict = verdict_by(is_clean, has_doubt);
     let mut text = String::new(alloc);
     append_verdict(&mut text, verdict)?;
-    append_all(alloc, &mut text, pages, &parts, twin_chunks.len())?;
-    let is_clean = is_sound_verdict(verdict);
+    append_all(alloc, &mut text, pages, &judged, &lists)?;
     Ok(Listing {
         text: text.into_bytes(),
-        is_clean,
+        is_clean: is_sound_verdict(verdict),
     })
 }
 
@@ -617,27 +649,24 @@ pub fn list_summary<D: PageSource, G: Gate, R: Threads + Wait + Sync>(
     last: Option<u64>,
 ) -> Result<(Listing, Takings), ScrubFault>
     requires { workers ≤ 64 }
-    ensures text { IfOk result (λ r. IsSummary last (D.image disk.now) r.0.text.items) }
-    ensures sound { IfOk result (λ r. IsSoundImage last (D.image disk.now) r.0.is_clean) }
+    ensures summary { IfOk result (λ r. IsSummary last (D.image disk.now) r.0.text.items r.0.is_clean) }
     ensures takings { IfOk result (λ r. AreTakingsBy (D.image disk.now) workers r.1) }
 {
     let (chosen, pages) = choose_with_pages(alloc, disk)?;
-    let (scan, takings) = scan_chosen(rt, alloc, disk, chosen, workers, gate)?;
+    let (scan, takings) = scan_chosen(rt, alloc, disk, chosen, workers, gate, &[])?;
     let summary = summary_of(rt, alloc, scan, &pages, last)?;
     Ok((summary, takings))
 }
 
 /// A law: an image has at most one summary, and one verdict whether it is sound.
 pub fn one_summary()
-    ensures text { (last : Option ℕ) (image : Image) (a b : List ℕ) → IsSummary last image a →
-        IsSummary last image b → a ≡ b }
-    ensures sound { (last : Option ℕ) (image : Image) (a b : Bool) → IsSoundImage last image a →
-        IsSoundImage last image b → a ≡ b }
+    ensures { (last : Option ℕ) (image : Image) (a b : List ℕ) (v w : Bool) → IsSummary last image a v →
+        IsSummary last image b w → (a ≡ b) × (v ≡ w) }
 {}
 
 /// A law: each image has a summary, and a verdict whether it is sound, whichever generation was written last.
 /// With `one_summary`, it has exactly one of each.
 pub fn each_image_has_a_summary()
-    ensures text { (last : Option ℕ) (image : Image) → (text : List ℕ) × IsSummary last image text }
-    ensures sound { (last : Option ℕ) (image : Image) → (sound : Bool) × IsSoundImage last image sound }
+    ensures { (last : Option ℕ) (image : Image) →
+        (text : List ℕ) × (sound : Bool) × IsSummary last image text sound }
 {}

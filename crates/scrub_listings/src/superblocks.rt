@@ -4,7 +4,7 @@ ghost use Rattle.std.specs.Prelude.{◌≡◌, ◌++◌, Bool, List, ℕ, IfOk, 
 ghost use Rattle.std.specs.List.{list_all, list_any};
 ghost use Rattle.scrub_disk.specs.Image.{Image};
 ghost use Rattle.scrub_super.specs.declared.pages.SuperblockPage.{SuperblockPage};
-ghost use Rattle.scrub_listings.specs.Superblocks.{AreCleanSuperblocks, AreSuperblockLines, are_clean_pages};
+ghost use Rattle.scrub_listings.specs.Superblocks.{IsSuperblockListing, are_clean_pages};
 ghost use Rattle.scrub_listings.specs.Superblocks.{is_counting_page, is_orderly_page, rank_text};
 ghost use Rattle.scrub_listings.specs.Superblocks.{record_line, stray_line, superblock_line};
 ghost use Rattle.scrub_listings.specs.Superblocks.{superblock_lines};
@@ -153,8 +153,7 @@ fn are_clean_pages(pages: &[SuperblockPage]) -> bool
 ///
 /// It reads extent 0 once, and no other extent. The only fault is `OutOfMemory`.
 pub fn list_superblocks<D: PageSource>(alloc: Global, disk: &D) -> Result<Listing, OutOfMemory>
-    ensures text { IfOk result (λ l. AreSuperblockLines (D.image disk.now) l.text.items) }
-    ensures clean { IfOk result (λ l. AreCleanSuperblocks (D.image disk.now) l.is_clean) }
+    ensures { IfOk result (λ l. IsSuperblockListing (D.image disk.now) l.text.items l.is_clean) }
 {
     let (_chosen, pages) = choose_with_pages(alloc, disk)?;
     let text = superblock_lines(alloc, &pages)?;
@@ -164,15 +163,12 @@ pub fn list_superblocks<D: PageSource>(alloc: Global, disk: &D) -> Result<Listin
 
 /// A law: the superblocks of an image have at most one text of lines, and one verdict whether they are clean.
 pub fn one_superblock_listing()
-    ensures text { (image : Image) (a b : List ℕ) → AreSuperblockLines image a → AreSuperblockLines image b →
-        a ≡ b }
-    ensures clean { (image : Image) (a b : Bool) → AreCleanSuperblocks image a → AreCleanSuperblocks image b →
-        a ≡ b }
+    ensures { (image : Image) (a b : List ℕ) (v w : Bool) → IsSuperblockListing image a v →
+        IsSuperblockListing image b w → (a ≡ b) × (v ≡ w) }
 {}
 
 /// A law: each image has a text of the lines of its superblocks, and a verdict whether they are clean. With
 /// `one_superblock_listing`, it has exactly one of each.
 pub fn each_image_has_a_superblock_listing()
-    ensures text { (image : Image) → (text : List ℕ) × AreSuperblockLines image text }
-    ensures clean { (image : Image) → (clean : Bool) × AreCleanSuperblocks image clean }
+    ensures { (image : Image) → (text : List ℕ) × (clean : Bool) × IsSuperblockListing image text clean }
 {}

@@ -1,9 +1,14 @@
-pub mod FieldCuts
-pub mod FirstLacking
-pub mod Keeping
-pub mod Lost
-pub mod LostDecided
-pub mod MapLaws
-pub mod MapLines
-pub mod Numerals
+-- Lemmas on the map of a rescue.
+
+-- its text: lines, fields and numbers
 pub mod TextLines
+pub mod FieldCuts
+pub mod Numerals
+pub mod MapLines
+-- its gaps, and the blocks that they mark
+pub mod Lost
+pub mod Keeping
+pub mod FirstLacking
+-- that there is one answer
+pub mod MapLaws
+pub mod LostDecided

@@ -1,13 +1,12 @@
 -- Heaps of the first entries of runs: one more is pushed, the first is taken out, and what the first says.
 use Rattle.std.proofs.Common.{◌≡◌, ◌+◌, ◌<◌, ◌⊎◌, ℕ, zero, suc, Bool, true, false, cond, Option, Some, None, List, [], ◌∷◌, length, get_or, All, Contains, arith, refl, sym, ◌∙◌, ap, subst, inl, inr}
-use Rattle.std.specs.Prelude.{IsPermutation, ◌==◌, Result, Ok, Err, OnOk}
+use Rattle.std.specs.Prelude.{IsPermutation, ◌==◌}
 use Rattle.std.specs.BinaryHeap.{IsHeap, IsUpperBound, KeepsHeap}
 use Rattle.std.specs.Cmp.{nat_cmp_is}
 use Rattle.std.specs.List.{cons_option}
 use Rattle.std.specs.Option.{option_map}
-use Rattle.std.specs.Ordering.{nat_cmp, is_lt, is_eq, is_ne}
-use Rattle.std.specs.declared.cmp.Ordering.{Ordering}
-use Rattle.std.specs.declared.cmp.Ordering.TheVariants.{Less, Equal, Greater}
+use Rattle.std.specs.Ordering.{nat_cmp, is_lt, is_eq}
+use Rattle.std.specs.declared.cmp.Ordering.TheVariants.{Less, Equal}
 use Rattle.std.proofs.lemmas.Bool.{cases_eq, cases_lt, false≢true, eq-eqb, ne_eqb}
 use Rattle.std.proofs.lemmas.Cmp.{tied_itself}
 use Rattle.std.proofs.lemmas.List.{get_or_default}
@@ -15,11 +14,11 @@ use Rattle.std.proofs.lemmas.List.Elements.{All-cons, All-tail, All-contains, Al
 use Rattle.std.proofs.lemmas.List.Sorted.{All-permutation, Contains-permutation, IsPermutation-sym, sum_by-IsPermutation, sum_by_popped}
 use Rattle.std.proofs.lemmas.List.Sums.{sum_by-cons}
 use Rattle.std.proofs.lemmas.Option.{none-some, same_Some}
+use Rattle.list_facts.proofs.Elements.{Contains-behind, Contains-cases}
 use Rattle.scrub_run.specs.declared.shard_id.ShardId.{ShardId}
 use Rattle.scrub_run.specs.Entry.{EntryValue, IsBelow}
 use Rattle.scrub_merge.specs.Binding.{Runs}
 use Rattle.scrub_merge.specs.steps.Cursors.{id_cmp, entry_at, ahead, first_of, Under, under_by, under_cmp, StandsFirst, of_run, IsHeapOver, IsHeapOf, IsHeapBut, IsLeast, IsFirstWith, AreEmpty}
-use Rattle.scrub_frame.proofs.Elements.{Contains-cases, Contains-behind}
 use Rattle.scrub_merge.proofs.Left.{first_at}
 use Rattle.scrub_merge.proofs.Moves.{one_on, first_elsewhere, first_moved}
 use Rattle.scrub_merge.proofs.Identifiers.{id_cmp_total, same_id, not_less}
@@ -102,6 +101,7 @@ pushed {runs} {Were} {Are} number {items} {new} h apart now kept is moved keeps 
 
 -- ---- the first is taken out
 
+-- the heap that is left is one but for the run of that entry
 pub popped : {runs : Runs} {x : Under} {items new : List Under} →
     IsHeapOf runs items → IsPermutation items (x ∷ new) → IsHeap under_cmp new → IsHeapBut x.0.1 runs new
 popped {runs} {x} {items} {new} h p order = record {
@@ -129,10 +129,10 @@ popped {runs} {x} {items} {new} h p order = record {
         (omega (arith, rw (eq-eqb x.0.1 x.0.1 refl) at (left_over x.0.1), h.once x.0.1))
 
 -- only the other runs count
-pub elsewhere : {runs after : Runs} (number : ℕ) {items : List Under} →
+pub heap_but_one_kept : {runs after : Runs} (number : ℕ) {items : List Under} →
     ((k : ℕ) → (k ≡ number → ⊥) → first_of after k ≡ first_of runs k) → IsHeapBut number runs items →
     IsHeapBut number after items
-elsewhere number {items} same h = record {
+heap_but_one_kept number {items} same h = record {
   order = h.order;
   each = λ k d here. let one = h.each k d here in (one.0, rw (same (get_or items k d).0.1 one.0) one.1);
   all = λ k e among first. h.all k e among (sym (same k among) ∙ first);
@@ -207,16 +207,6 @@ pub first_own : (items : List Under) {x u : Under} (id : ShardId) → 0 < length
     u ≡ get_or items 0 u → is_eq (id_cmp u.0.0 id) ≡ true → x.0.0 ≡ id
 first_own items {x} {u} id here is was tied = rw (is ∙ get_or_default items 0 x u here ∙ sym was) (same_id u.0.0 id tied)
 
-pub not_tied : (o : Ordering) → is_ne o ≡ true → is_eq o ≡ false
-not_tied Less h = refl
-not_tied Equal h = cc
-not_tied Greater h = refl
-
-pub tied_by : (o : Ordering) → is_ne o ≡ false → is_eq o ≡ true
-tied_by Less h = cc
-tied_by Equal h = refl
-tied_by Greater h = cc
-
 -- if the heap is empty, no run has a first entry
 pub none_first : {runs : Runs} {items : List Under} → IsHeapOf runs items → length items ≡ 0 → AreEmpty runs
 none_first {runs} h none k = by (first_of runs k) refl
@@ -253,7 +243,7 @@ pub pushed_on : (runs : Runs) (places : List ℕ) (number : ℕ) {run : Option (
     KeepsHeap under_cmp items new →
     IsHeapOf (ahead runs (one_on places number)) new
 pushed_on runs places number count here is h p keeps =
-    pushed number (elsewhere number (first_elsewhere runs places number (get_or places number 0 + 1) count) h)
+    pushed number (heap_but_one_kept number (first_elsewhere runs places number (get_or places number 0 + 1) count) h)
     (λ other. other refl) (λ k are. elim (cases_eq k number) [ inl same ↦ inr same | inr other ↦ inl other ])
     (λ k other. tt) tt
     (rw (first_moved runs places number (get_or places number 0 + 1) count here is) p) keeps
@@ -270,8 +260,3 @@ pushed_next runs number run here is h p keeps =
     earlier : (k : ℕ) → k < number + 1 → (k < number) ⊎ (k ≡ number)
     earlier k before =
         elim (cases_lt k number) [ inl h ↦ inl h | inr not_before ↦ inr (omega (arith, before, not_before)) ]
-
--- what two facts about a value give, if there is one
-pub on_both : {T E P Q R : Type 0} (r : Result T E) → OnOk r P → OnOk r Q → (P → Q → R) → OnOk r R
-on_both (Ok x) p q gives = gives p q
-on_both (Err e) p q gives = tt

@@ -15,9 +15,11 @@ use Rattle.scrub_run.specs.Entry.{EntryValue, IsBelow}
 use Rattle.scrub_run.specs.Run.{RisesById}
 use Rattle.scrub_merge.specs.steps.Cursors.{id_cmp}
 
+-- identifiers are in a total order
 pub id_cmp_total : IsTotalOrder id_cmp
 id_cmp_total = on_texts (λ s. s.0)
 
+-- two that compare as equal are equal
 pub id_cmp_exact : CmpEqualImpliesEq id_cmp
 id_cmp_exact a b h = λ i. record { 0 = exact_bytes a.0 b.0 h i }
 
@@ -25,6 +27,7 @@ id_cmp_exact a b h = λ i. record { 0 = exact_bytes a.0 b.0 h i }
 pub same_id : (a b : ShardId) → is_eq (id_cmp a b) ≡ true → a ≡ b
 same_id a b h = tells_apart id_cmp_exact a b h
 
+-- each compares as equal to itself
 pub itself : (a : ShardId) → is_eq (id_cmp a a) ≡ true
 itself a = ap is_eq (tied_itself id_cmp_total a)
 

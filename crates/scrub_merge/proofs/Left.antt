@@ -26,6 +26,7 @@ pub under_first : (run : Option (List EntryValue)) (place : ℕ) →
 under_first None place = refl
 under_first (Some entries) place = slice_get_drop place entries
 
+-- what is left of a run begins under its cursor
 pub first_left : (runs : Runs) (places : List ℕ) (k : ℕ) → length places ≡ length runs →
     first_of (ahead runs places) k ≡ entry_at (unwrap_or (slice_get runs k) None) (get_or places k 0)
 first_left [] places k h = refl
@@ -33,6 +34,7 @@ first_left (run ∷ runs) [] k h = absurd (omega (arith, h))
 first_left (run ∷ runs) (place ∷ places) zero h = under_first run place
 first_left (run ∷ runs) (place ∷ places) (suc k) h = first_left runs places k (omega (arith, h))
 
+-- as many runs are left
 pub length-left : (runs : Runs) (places : List ℕ) → length (ahead runs places) ≡ length runs
 length-left [] places = refl
 length-left (run ∷ runs) [] = ap suc (length-left runs [])
@@ -51,6 +53,7 @@ first_at [] number run here is = absurd (omega (arith, here))
 first_at (r ∷ runs) zero run here is = rw is
 first_at (r ∷ runs) (suc number) run here is = first_at runs number run (omega (arith, here)) is
 
+-- the first entry of a run is its first
 pub first_is : (runs : Runs) (k : ℕ) (entries : List EntryValue) → slice_get runs k ≡ Some (Some entries) →
     first_of runs k ≡ slice_get entries 0
 first_is [] k entries h = cc
@@ -80,6 +83,7 @@ drop_rises (suc place) [] h = h
 drop_rises (suc place) (e ∷ entries) h =
     drop_rises place entries (λ i j d order here. h (suc i) (suc j) d (omega (arith, order)) (omega (arith, here)))
 
+-- what is left of rising runs rises
 pub rising_left : (runs : Runs) (places : List ℕ) → AreRising runs → AreRising (ahead runs places)
 rising_left [] places h k entries is = cc
 rising_left (run ∷ runs) [] h zero entries is = h zero entries is
@@ -100,6 +104,7 @@ lost_at (None ∷ runs) (place ∷ places) zero = (λ h. refl, λ h. refl)
 lost_at (Some entries ∷ runs) (place ∷ places) zero = (λ h. cc, λ h. cc)
 lost_at (run ∷ runs) (place ∷ places) (suc k) = lost_at runs places k
 
+-- the same runs are lost before each
 pub lost_left : (runs : Runs) (places : List ℕ) (n : ℕ) → LostBefore (ahead runs places) n ↔ LostBefore runs n
 lost_left runs places n =
     (λ l. (l.0, l.1, (lost_at runs places l.0).0 l.2), λ l. (l.0, l.1, (lost_at runs places l.0).1 l.2))
@@ -121,6 +126,7 @@ abbrev pub without : ShardId → List EntryValue → List EntryValue
 without id [] = []
 without id (e ∷ entries) = cond (is_eq (id_cmp e.id id)) entries (e ∷ entries)
 
+-- all runs without their first entries of an identifier
 abbrev pub all_without : ShardId → Runs → Runs
 all_without id runs = map (option_map (without id)) runs
 
@@ -139,6 +145,7 @@ drop_behind id (e ∷ entries) (suc place) = by (has_id id (slice_get entries pl
     by true = rw (add-one, add-one)
     by false = refl
 
+-- what is left behind cursors that moved past an identifier
 pub left_behind : (id : ShardId) (runs : Runs) (places : List ℕ) → length places ≡ length runs →
     ahead runs (places_past id runs places) ≡ all_without id (ahead runs places)
 left_behind id [] places h = refl
@@ -150,6 +157,7 @@ left_behind id (run ∷ runs) (place ∷ places) h = λ i. one run i ∷ left_be
     one None = refl
     one (Some entries) = ap Some (drop_behind id entries place)
 
+-- there are as many cursors
 pub length-behind : (id : ShardId) (runs : Runs) (places : List ℕ) → length (places_past id runs places) ≡ length places
 length-behind id [] places = refl
 length-behind id (run ∷ runs) [] = refl
@@ -176,6 +184,7 @@ no_more id [] = omega arith
 no_more id (None ∷ runs) = no_more id runs
 no_more id (Some entries ∷ runs) = omega (arith, shorter id entries, no_more id runs)
 
+-- fewer entries are left
 pub fewer : (id : ShardId) (runs : Runs) (k : ℕ) (e : EntryValue) → first_of runs k ≡ Some e → e.id ≡ id →
     entries_left (all_without id runs) < entries_left runs
 fewer id [] k e h own = cc

@@ -1,11 +1,14 @@
--- Lemmas on identifiers, newest bindings and the shard map, what is left ahead of cursors, what is bound
--- as they move on, the move of one cursor, and heaps of the entries under cursors.
+-- Lemmas on the shard map.
+
+-- identifiers, newest bindings and the map
 pub mod Identifiers
 pub mod Maps
+pub mod Parted
+-- cursors: what is left ahead of them, and what is bound as they move on
 pub mod Left
 pub mod NextBound
 pub mod Moves
 pub mod Heaps
-pub mod Parted
+-- that there is a map
 pub mod SortedOnce
 pub mod MapsThere

@@ -1,22 +1,21 @@
 -- Each identifier that a run has is bound in one, so runs have a shard map.
 use Rattle.std.proofs.Common.{◌≡◌, ◌⊎◌, ◌↔◌, ◌<◌, ℕ, suc, Bool, true, false, IsTrue, List, [], ◌∷◌, ◌++◌, map, length, get_or, All, AllPairs, Contains, arith, refl, sym, ◌∙◌, ap, subst, Option, Some, None, inl, inr, slice_get}
-use Rattle.std.specs.List.Sorted.{IsStrictlySortedBy}
 use Rattle.std.proofs.lemmas.Bool.{false≢true}
 use Rattle.std.proofs.lemmas.List.{get_or-map, length-map}
-use Rattle.std.proofs.lemmas.List.Elements.{All-cons, All-nil, Contains-append_left, Contains-append_right, Contains-get_or}
+use Rattle.std.proofs.lemmas.List.Elements.{All-cons, All-nil, Contains-append_left, Contains-append_right}
 use Rattle.std.proofs.lemmas.List.Kept.{AllPairs-cons}
 use Rattle.std.proofs.lemmas.Map.Keys.{Less-from_sorted}
 use Rattle.std.proofs.lemmas.Option.{get_or_from_slice_get, none-some, same_Some, slice_get_within}
-use Rattle.scrub_frame.proofs.Decisions.{Decided, decided_like, decided_less, decided_numbers, first_below, some_below, some_element}
+use Rattle.list_facts.proofs.Decisions.{Decided, decided_less, decided_like, decided_numbers, first_below, some_below, some_element}
+use Rattle.list_facts.proofs.Elements.{Contains-behind, Contains-cases}
+use Rattle.list_facts.proofs.Sorting.{sorted_once}
 use Rattle.scrub_run.specs.declared.shard_id.ShardId.{ShardId}
 use Rattle.scrub_run.specs.Entry.{EntryValue, IsBelow}
 use Rattle.scrub_merge.specs.Binding.{BindingValue, Runs, IsEntryOf, LostBefore, IsNewestBinding}
-use Rattle.scrub_merge.specs.ShardMap.{AreRuns, AreBindings, IsShardMap}
+use Rattle.scrub_merge.specs.ShardMap.{AreRuns, IsShardMap}
 use Rattle.scrub_merge.specs.steps.Cursors.{id_cmp, AreRising}
-use Rattle.scrub_frame.proofs.Elements.{Contains-cases, Contains-behind}
 use Rattle.scrub_merge.proofs.Identifiers.{id_cmp_total, id_cmp_exact}
 use Rattle.scrub_merge.proofs.Maps.{entry_of, one_newest}
-use Rattle.scrub_merge.proofs.SortedOnce.{sorted_once}
 
 -- ---- the identifiers of all entries
 
@@ -54,6 +53,7 @@ entry_among runs k e is =
 
 -- ---- the newest binding of an identifier
 
+-- two identifiers are equal, or not
 pub decided_id : (a b : ShardId) → Decided (a ≡ b)
 decided_id a b = decided_like (decided_numbers a.0 b.0) (λ e i. record { 0 = e i }) (ap (λ s. s.0))
 
@@ -195,6 +195,7 @@ module _ (runs : Runs) (rise : AreRising runs) where
       bind_one id ids up (bind_all ids (λ i j d lt here. up (suc i) (suc j) d (omega (arith, lt)) (omega (arith, here))))
       (newest_of runs id)
 
+-- runs have a shard map
 pub some_shard_map : (runs : Runs) → AreRuns runs → (bindings : List BindingValue) × IsShardMap runs bindings
 some_shard_map runs are =
     let rise : AreRising runs = λ k entries is. (are k entries is).rising in

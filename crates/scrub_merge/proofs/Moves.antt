@@ -181,6 +181,7 @@ abbrev pub AreRunsTo : ℕ → Runs → Type 0
 AreRunsTo number runs =
     (k : ℕ) (entries : List EntryValue) → k < number → slice_get runs k ≡ Some (Some entries) → AreEntries entries
 
+-- one more run that has the entries of a run
 pub runs_step : (runs : Runs) (number : ℕ) {run : Option (List EntryValue)} → number < length runs →
     run ≡ get_or runs number run → IfSome run AreEntries → AreRunsTo number runs → AreRunsTo (number + 1) runs
 runs_step runs number {run} here is one are k entries before at = elim (cases_lt k number) [

@@ -10,13 +10,13 @@ use Rattle.std.proofs.lemmas.List.{append-nil, append_assoc}
 use Rattle.std.proofs.lemmas.List.Elements.{All-cons}
 use Rattle.std.proofs.lemmas.List.Kept.{AllPairs-cons}
 use Rattle.std.proofs.lemmas.Option.{none-some, slice_get-map}
+use Rattle.list_facts.proofs.Elements.{Contains-behind, Contains-cases}
 use Rattle.scrub_run.specs.declared.shard_id.ShardId.{ShardId}
 use Rattle.scrub_run.specs.Entry.{EntryValue, IsBelow}
 use Rattle.scrub_run.specs.Run.{RisesById}
 use Rattle.scrub_merge.specs.Binding.{BindingValue, Runs, IsEntryOf, LostBefore, IsNewestBinding}
 use Rattle.scrub_merge.specs.ShardMap.{IsShardMap}
 use Rattle.scrub_merge.specs.steps.Cursors.{id_cmp, has_locator, ahead, places_past, first_of, IsLeast, IsFirstWith, AreEmpty, AreRising, IsBound, Continues}
-use Rattle.scrub_frame.proofs.Elements.{Contains-cases, Contains-behind}
 use Rattle.scrub_merge.proofs.Identifiers.{id_cmp_total, same_id, itself, not_below_itself, not_less}
 use Rattle.scrub_merge.proofs.Maps.{one_newest}
 use Rattle.scrub_merge.proofs.Left.{without, all_without, first_is, first_entry, rising_left, left_behind}
@@ -246,16 +246,18 @@ bound_made {rest} {id} {number} {doubtful} {e} w stands rising least doubt appen
     here = record { entry = e; stands = stands; own = rw same at w.own; newest = w.newest }
 
 -- a deleted shard isn't bound
-pub deleted : (b : BindingValue) (old : List BindingValue) → length b.locators ≡ 0 →
+pub no_locators_add_none : (b : BindingValue) (old : List BindingValue) → length b.locators ≡ 0 →
     old ≡ old ++ filter has_locator (b ∷ [])
-deleted b old none = rw (none, append-nil)
+no_locators_add_none b old none = rw (none, append-nil)
 
-pub bound : (b : BindingValue) (old : List BindingValue) → (length b.locators ≡ 0 → ⊥) →
+-- a shard with locators is
+pub locators_add_one : (b : BindingValue) (old : List BindingValue) → (length b.locators ≡ 0 → ⊥) →
     old ++ b ∷ [] ≡ old ++ filter has_locator (b ∷ [])
-bound b old some = rw (ne_eqb (length b.locators) 0 some)
+locators_add_one b old some = rw (ne_eqb (length b.locators) 0 some)
 
 -- ---- the step of the merge, and its end
 
+-- the map that is left continues what is bound by one more
 pub continues_step : (all runs : Runs) (places : List ℕ) {id : ShardId} {old new : List BindingValue} →
     length places ≡ length runs → AreRising runs → IsLeast (ahead runs places) id →
     IsBound (ahead runs places) id old new → Continues all (ahead runs places) old →
@@ -264,6 +266,7 @@ continues_step all runs places {id} count rising least bound so_far later map =
     rw (bound.appended, append_assoc)
     (so_far _ (next_bound (rising_left runs places rising) least bound.newest bound.own (rw (left_behind id runs places count) at map)))
 
+-- if nothing is left, what is bound is the map
 pub continues_end : (runs rest : Runs) (bindings : List BindingValue) → AreEmpty rest → Continues runs rest bindings →
     IsShardMap runs bindings
 continues_end runs rest bindings empty so_far = rw append-nil at (so_far [] (none_bound rest empty))

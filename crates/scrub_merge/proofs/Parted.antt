@@ -1,5 +1,5 @@
 -- The shard maps of the entries before an identifier and of the others, one after the other, are the shard map of all.
-use Rattle.std.proofs.Common.{◌≡◌, ◌<◌, ◌≤◌, ◌+◌, ◌⊎◌, ◌↔◌, ℕ, zero, suc, Bool, true, false, not, cond, Option, Some, None, List, [], ◌∷◌, ◌++◌, length, get_or, map, take, drop, All, AllPairs, Contains, arith, refl, sym, ◌∙◌, ap, inl, inr}
+use Rattle.std.proofs.Common.{◌≡◌, ◌<◌, ◌≤◌, ◌+◌, ◌↔◌, ℕ, zero, suc, Bool, true, false, not, cond, Option, Some, None, List, [], ◌∷◌, ◌++◌, length, get_or, take, drop, All, AllPairs, Contains, arith, refl, sym, ◌∙◌, ap}
 use Rattle.std.specs.Prelude.{filter, slice_get}
 use Rattle.std.specs.List.Sorted.{IsNonDecreasingBy, IsPartitionPoint, IsPartitionedBy, IsSortedBy}
 use Rattle.std.specs.Option.{option_map}
@@ -12,28 +12,15 @@ use Rattle.std.proofs.lemmas.List.Filters.{length-filter_both}
 use Rattle.std.proofs.lemmas.List.Kept.{AllPairs-cons, AllPairs-filter}
 use Rattle.std.proofs.lemmas.List.Sorted.{searchable_from_sorted}
 use Rattle.std.proofs.lemmas.Option.{slice_get-map}
+use Rattle.list_facts.proofs.Elements.{Contains-behind, Contains-filter, Contains-from_filter}
 use Rattle.scrub_run.specs.declared.shard_id.ShardId.{ShardId}
 use Rattle.scrub_run.specs.Entry.{EntryValue, IsBelow, IsEntry}
 use Rattle.scrub_run.specs.Run.{AreEntries, RisesById}
 use Rattle.scrub_merge.specs.Binding.{BindingValue, Runs, IsEntryOf, LostBefore, IsNewestBinding}
-use Rattle.scrub_merge.specs.ShardMap.{AreBindings, IsShardMap}
+use Rattle.scrub_merge.specs.ShardMap.{IsShardMap}
 use Rattle.scrub_merge.specs.steps.Cursors.{id_cmp}
 use Rattle.scrub_merge.specs.steps.Parts.{is_before, kept}
-use Rattle.scrub_frame.proofs.Elements.{Contains-behind, Contains-cases, Contains-filter}
-use Rattle.scrub_merge.proofs.Identifiers.{id_cmp_total, same_id, not_less}
-
--- what passes a test is an element that does
-filtered : {X : Type 0} (p : X → Bool) (xs : List X) (x : X) → Contains (filter p xs) x → Contains xs x × (p x ≡ true)
-filtered p [] x c = absurd (omega (arith, c.1))
-filtered {X} p (y ∷ xs) x c = by (filtered p xs x) (p y) refl c
-  where
-    by : (Contains (filter p xs) x → Contains xs x × (p x ≡ true)) → (t : Bool) → p y ≡ t →
-        Contains (cond t (y ∷ filter p xs) (filter p xs)) x → Contains (y ∷ xs) x × (p x ≡ true)
-    by rest true t d = elim (Contains-cases y (filter p xs) x d) [
-      | inl is ↦ ((zero, omega arith, is), ap p (sym is) ∙ t)
-      | inr later ↦ (Contains-behind y xs x (rest later).0, (rest later).1)
-    ]
-    by rest false t d = (Contains-behind y xs x (rest d).0, (rest d).1)
+use Rattle.scrub_merge.proofs.Identifiers.{id_cmp_total, same_id}
 
 -- ---- the entries that pass a test
 
@@ -66,7 +53,7 @@ module _ (passes : ShardId → Bool) (runs : Runs) where
   entry_from : {k : ℕ} {e : EntryValue} → IsEntryOf (kept passes runs) k e → IsEntryOf runs k e × (passes e.id ≡ true)
   entry_from {k} {e} at =
       let was = was_at k at.entries at.is_read in
-      let both = filtered (λ f. passes f.id) was.0 e (rw was.2 at at.among) in
+      let both = Contains-from_filter (λ f. passes f.id) was.0 e (rw was.2 at at.among) in
       (record { entries = was.0; is_read = was.1; among = both.0 }, both.1)
 
   lost_from : (k : ℕ) → slice_get (kept passes runs) k ≡ Some None → slice_get runs k ≡ Some None

@@ -1,7 +1,7 @@
 -- One more result of a worker; one more member of a crew.
-use Rattle.std.proofs.Common.{◌≡◌, Some, ◌+◌, ◌++◌, ◌∷◌, ℕ, List, [], All, None, length, sum_by, arith, length-append, ap, sym}
-use Rattle.std.proofs.lemmas.List.Elements.{All-head, All-push, All-same, All-tail}
+use Rattle.std.proofs.Common.{◌≡◌, Some, ◌+◌, ◌++◌, ◌∷◌, ℕ, List, [], None, length, sum_by, arith, ap}
 use Rattle.std.proofs.lemmas.List.Sums.{sum_by-append, sum_by-cons}
+use Rattle.list_facts.proofs.Elements.{All-one_more, length_of_one_more}
 use Rattle.scrub_disk.specs.Image.{Image}
 use Rattle.scrub_super.specs.Plan.{PlanValue, pointer_of}
 use Rattle.scrub_scan.specs.declared.extent_result.ExtentResult.{ExtentResult}
@@ -10,31 +10,13 @@ use Rattle.scrub_book.specs.Worker.{held_by, results_of}
 use Rattle.scrub_pool.specs.declared.crew.Member.{Member}
 use Rattle.scrub_pool.specs.steps.Working.{AreResults, AreDone}
 
--- one more element
-pub one_longer : {X : Type 0} (xs ys : List X) (x : X) → ys ≡ xs ++ x ∷ [] → length ys ≡ length xs + 1
-one_longer xs ys x is =
-    let long : length ys ≡ length (xs ++ x ∷ []) = ap (λ (l : List _). length l) is in
-    omega (arith, long, length-append xs (x ∷ []))
-
--- what holds of a list and of one more element holds of both together
-pub all_more : {X : Type 0} (P : X → Type 0) (xs ys : List X) (x : X) → ys ≡ xs ++ x ∷ [] → All P xs → P x → All P ys
-all_more P xs ys x is all one = All-same P ys (xs ++ x ∷ []) is (All-push P xs x all one)
-
--- what holds of all holds of the last
-pub all_last : {X : Type 0} (P : X → Type 0) (xs ys : List X) (x : X) → ys ≡ xs ++ x ∷ [] → All P ys → P x
-all_last P xs ys x is all = go xs (All-same P (xs ++ x ∷ []) ys (sym is) all)
-  where
-    go : (zs : List _) → All P (zs ++ x ∷ []) → P x
-    go [] h = All-head P x [] h
-    go (z ∷ zs) h = go zs (All-tail P z (zs ++ x ∷ []) h)
-
 -- a crew with one more member counts the sum of both
 pub counted_more : {D : Type 0} {s : _} (p q r a b t : ℕ) (xs ys : List (Member D s)) (m : Member D s) →
     ys ≡ xs ++ m ∷ [] → AreDone p a xs →
     (held_by m.core ≡ None) × (q ≡ 1) × (b ≡ length (results_of m.core)) → r ≡ p + q → t ≡ a + b → AreDone r t ys
 counted_more p q r a b t xs ys m is done one parts amounts =
     let total : sum_by (λ n. length (results_of n.core)) ys ≡ sum_by (λ n. length (results_of n.core)) (xs ++ m ∷ []) = ap (λ (l : List _). sum_by (λ n. length (results_of n.core)) l) is in (
-      omega (arith, one_longer xs ys m is, done.0, one.1, parts),
+      omega (arith, length_of_one_more xs ys m is, done.0, one.1, parts),
       omega (
         arith,
         total,
@@ -44,7 +26,7 @@ counted_more p q r a b t xs ys m is done one parts amounts =
         one.2,
         amounts,
       ),
-      all_more (λ n. held_by n.core ≡ None) xs ys m is done.2 one.0,
+      All-one_more (λ n. held_by n.core ≡ None) xs ys m is done.2 one.0,
     )
 
 -- one more result of this image
@@ -52,6 +34,6 @@ pub results_push : {D : Type 0} {s : _} (image : Image) (plan : PlanValue) (xs y
     ys ≡ xs ++ r ∷ [] → AreResults image plan xs →
     result_image r ≡ image → r.extent ≡ e → pointer_of plan e ≡ Some r.pointer → AreResults image plan ys
 results_push image plan xs ys r e is are of number pointer = (
-  all_more (λ x. result_image x ≡ image) xs ys r is are.0 of,
-  all_more (λ x. pointer_of plan x.extent ≡ Some x.pointer) xs ys r is are.1 (rw number pointer),
+  All-one_more (λ x. result_image x ≡ image) xs ys r is are.0 of,
+  All-one_more (λ x. pointer_of plan x.extent ≡ Some x.pointer) xs ys r is are.1 (rw number pointer),
 )

@@ -1,11 +1,10 @@
 -- Members that have ended, joined one by one.
-use Rattle.std.proofs.Common.{◌≡◌, Some, ◌+◌, ◌-◌, ◌++◌, ◌∷◌, ◌∙◌, ℕ, List, [], All, map, length, subst, sum_by, arith, sym, ap, append_assoc, append-nil, length-append, Vec, Global}
+use Rattle.std.proofs.Common.{◌≡◌, Some, ◌+◌, ◌-◌, ◌++◌, ◌∷◌, ◌∙◌, ℕ, List, [], All, map, length, subst, arith, sym, ap, append_assoc, append-nil, length-append, Vec, Global}
 use Rattle.std.specs.List.Sorted.{IsPermutation, IsStrictlyIncreasing}
 use Rattle.std.proofs.lemmas.List.{map-append}
 use Rattle.std.proofs.lemmas.List.Concat.{flat_map-append}
-use Rattle.std.proofs.lemmas.List.Elements.{All-append, All-head, All-push, All-same}
+use Rattle.std.proofs.lemmas.List.Elements.{All-append, All-push, All-same}
 use Rattle.std.proofs.lemmas.List.Sorted.{IsPermutation-trans, IsPermutation-append_comm}
-use Rattle.std.proofs.lemmas.List.Sums.{sum_by-cons}
 use Rattle.scrub_disk.specs.Image.{Image}
 use Rattle.scrub_super.specs.Plan.{PlanValue, pointer_of}
 use Rattle.scrub_scan.specs.declared.extent_result.ExtentResult.{ExtentResult}
@@ -38,14 +37,6 @@ one_more_joined was f g ls ms n m own before after lists count =
     let out : was.out - n - 1 ≡ was.out - m = omega (arith, count) in
     after ∙ ap (λ (p : PassValue). record p { joined = p.joined ++ own ∷ []; out = p.out - 1 }) before
     ∙ ap (λ (p : List (List ℕ) × ℕ). record was { joined = p.0; out = p.1 }) (λ i. (joined i, out i))
-
--- a sum over one and the rest
-pub sum_rest : {X : Type 0} (f : X → ℕ) (xs rest : List X) (x : X) → xs ≡ x ∷ rest → sum_by f xs ≡ f x + sum_by f rest
-sum_rest f xs rest x is = ap (λ (l : List _). sum_by f l) is ∙ sum_by-cons f x rest
-
--- what holds of all holds of the first
-pub all_first : {X : Type 0} (P : X → Type 0) (xs rest : List X) (x : X) → xs ≡ x ∷ rest → All P xs → P x
-all_first P xs rest x is all = All-head P x rest (rw is at all)
 
 module _ {D : Type 0} {s : _} where
   -- the extents of more results

@@ -1,10 +1,9 @@
 -- Lists that are a partition of the planned extents are what the members of a complete pool took, after some schedule.
-use Rattle.std.proofs.Common.{◌≡◌, ◌<◌, ◌≤◌, ◌+◌, ◌==◌, ◌&&◌, ◌++◌, ◌∷◌, ◌∙◌, ℕ, zero, suc, List, [], Bool, true, false, Option, Some, None, All, length, map, get_or, set, slice_get, is_none, replicate, if◌then◌else◌, sum_by, arith, refl, sym, ap, subst, inl, inr, append_assoc, append-nil, length-set}
+use Rattle.std.proofs.Common.{◌≡◌, ◌<◌, ◌≤◌, ◌+◌, ◌==◌, ◌&&◌, ◌++◌, ◌∷◌, ◌∙◌, ℕ, zero, suc, List, [], Bool, true, false, Option, Some, None, All, length, map, get_or, set, slice_get, is_none, replicate, if◌then◌else◌, sum_by, arith, refl, sym, ap, subst, inl, append_assoc, append-nil, length-set}
 use Rattle.std.proofs.Math.Seq.{map-set_same}
 use Rattle.std.specs.List.{AllPairs, AllPass, Contains}
 use Rattle.std.specs.List.Sorted.{IsStrictlyIncreasing}
 use Rattle.std.specs.Option.{option_map_or, option_map}
-use Rattle.std.proofs.lemmas.Bool.{cases_lt}
 use Rattle.std.proofs.lemmas.Bool.Decides.{nat_tests}
 use Rattle.std.proofs.lemmas.Option.{slice_get-get_or, slice_get-map, slice_get_within}
 use Rattle.std.proofs.lemmas.List.{get_or-set_same, map-append, map-set, nil_from_length, set_at, set-set}
@@ -12,6 +11,7 @@ use Rattle.std.proofs.lemmas.List.Elements.{All-append, All-head, All-map, All-n
 use Rattle.std.proofs.lemmas.List.Kept.{AllPairs-from_increasing}
 use Rattle.std.proofs.lemmas.List.Sorted.{sum_by-IsPermutation}
 use Rattle.std.proofs.lemmas.List.Sums.{get_or-le-sum_by, list_all-from_AllPass, sum_by-append, sum_by-cons, sum_by-set}
+use Rattle.list_facts.proofs.Counts.{contained_counts, counted_contained, one_for, sum_by-one, sum_by-some_term}
 use Rattle.scrub_disk.specs.Image.{Image}
 use Rattle.scrub_super.specs.Plan.{PlanValue}
 use Rattle.scrub_scan.specs.Scanned.{Scanned}
@@ -19,7 +19,6 @@ use Rattle.scrub_scan.specs.AllFindings.{extent_numbers, AreAllFindings}
 use Rattle.scrub_book.specs.declared.event.Event.TheVariants.{Take, Done, Retire}
 use Rattle.scrub_book.specs.declared.event.StepRefused.TheVariants.{NoWorker, QueueEmpty}
 use Rattle.scrub_book.specs.Pool.{MemberValue, PoolState, idle, member_refusal, IsScanned, taking, through, Follows}
-use Rattle.scrub_book.proofs.Counts.{one_for, contained_counts, counted_contained, ones}
 use Rattle.scrub_pool.specs.Passes.{one_list}
 use Rattle.scrub_pool.specs.Takings.{IsPartition, AreTakenFrom, AreTakenInSomeSchedule}
 
@@ -43,17 +42,6 @@ least_is_first e [] rise there least = absurd (omega (arith, there.1))
 least_is_first e (x ∷ xs) rise there least =
     let same : x ≡ e = omega (arith, first_is_least x xs e rise there, least x (0, omega arith, refl)) in
     (xs, ap (λ n. n ∷ xs) same)
-
--- a sum that isn't 0 has a term that isn't 0
-some_term : {X : Type 0} (f : X → ℕ) (xs : List X) (d : X) → 1 ≤ sum_by f xs →
-    (k : ℕ) × (k < length xs) × (1 ≤ f (get_or xs k d))
-some_term f [] d some = absurd (omega (arith, some))
-some_term f (x ∷ xs) d some = elim (cases_lt 0 (f x)) [
-  | inl here ↦ (0, omega arith, omega (arith, here))
-  | inr none ↦
-      let rest = some_term f xs d (omega (arith, some, none, sum_by-cons f x xs)) in
-      (suc rest.0, omega (arith, rest.1), rest.2)
-]
 
 -- a list with a first element isn't empty
 not_empty : {X : Type 0} (x : X) (xs : List X) → (length (x ∷ xs) == 0) ≡ false
@@ -126,7 +114,7 @@ module _ (e : ℕ) (queue : List ℕ) (turns : List Turn) (are : AreTurns (e ∷
   next_of_one : (v : ℕ) × (v < length turns) × (rest : List ℕ) × ((get_or turns v (fresh [])).coming ≡ e ∷ rest)
   next_of_one =
       let some =
-      some_term (λ t. sum_by (one_for e) t.coming) turns (fresh [])
+      sum_by-some_term (λ t. sum_by (one_for e) t.coming) turns (fresh [])
       (omega (arith, are.whole (one_for e), contained_counts (e ∷ queue) e (0, omega arith, refl))) in
       let coming = (get_or turns some.0 (fresh [])).coming in
       let least : (x : ℕ) → Contains coming x → e ≤ x =
@@ -160,7 +148,7 @@ all_took : (turns : List Turn) → total (λ x. 1) turns ≡ 0 → map (λ m. m.
 all_took [] none = refl
 all_took (t ∷ turns) none =
     let sums = sum_by-cons (λ t. sum_by (λ x. 1) t.coming) t turns in
-    let empty : t.coming ≡ [] = nil_from_length t.coming (omega (arith, none, sums, ones t.coming)) in
+    let empty : t.coming ≡ [] = nil_from_length t.coming (omega (arith, none, sums, sum_by-one t.coming)) in
     let first : t.taken ≡ due t = sym (append-nil t.taken) ∙ ap (λ (xs : List ℕ). t.taken ++ xs) (sym empty) in
     let rest = all_took turns (omega (arith, none, sums)) in
     λ i. first i ∷ rest i

@@ -10,11 +10,11 @@ use mathlib.Core.Option.{some, some-injective, some-ne-none}
 use lib.ListN.{get_elem?}
 use Rattle.crossbeam_queue.specs.Fifo.{Pushes, Pops, Forks, Merges, Learns}
 use Rattle.crossbeam_queue.proofs.Lists.{at_set, at_snoc}
-use Rattle.scrub_book.proofs.Counts.{one_for, contained_counts, counted_contained, permutation_of_sums}
+use Rattle.list_facts.proofs.Counts.{contained_counts, counted_contained, one_for, permutation_of_sums}
+use Rattle.list_facts.proofs.Rising.{All_below_next, IsStrictlyIncreasing-push}
 use Rattle.scrub_pool.specs.declared.rule.View.{View}
 use Rattle.scrub_pool.specs.Passes.{one_list}
 use Rattle.scrub_pool.specs.steps.Account.{all_of, view_of, IsView, Accounts, IsTaken, AreAllTaken}
-use Rattle.scrub_pool.proofs.Rising.{below_next, rising_push}
 use Rattle.scrub_pool.proofs.Totals.{total_set, total_at, total_two, total_only}
 
 -- what holds of each pass, after one changed
@@ -41,6 +41,7 @@ only : (a : View) (j : ℕ) (u : View) → get_elem? (a ∷ []) j ≡ some u →
 only a zero u at = some-injective a u at
 only a (suc j) u at = absurd (some-ne-none u (sym at))
 
+-- who begins has seen nothing
 pub begins : Accounts [] (view_of 1 0 0 [] [] [] ∷ [])
 begins = record {
   pushed = [];
@@ -57,6 +58,7 @@ begins = record {
   });
 }
 
+-- an extent is pushed
 pub pushes : (n port : ℕ) (v : View) (x : ℕ) → v.firsts ≡ 1 → v.out ≡ 0 → All (λ y. y < x) v.pushed →
     Pushes Accounts n port v x (λ w. w ≡ view_of v.firsts v.lives v.out (v.pushed ++ x ∷ []) v.own v.joined)
 pushes n port v x one none above items views _ h at =
@@ -68,7 +70,7 @@ pushes n port v x one none above items views _ h at =
         pushed = h.pushed ++ x ∷ [];
         before = h.before;
         pushed_is = ap (λ l. l ++ x ∷ []) h.pushed_is ∙ append_assoc h.before items (x ∷ []);
-        rising = rising_push h.pushed x h.rising (rw same at above);
+        rising = IsStrictlyIncreasing-push h.pushed x h.rising (rw same at above);
         taken = λ f. omega (arith, total_set (λ u. sum_by f (all_of u)) views port v w at, h.taken f);
         one_first = omega (arith, total_set (λ u. u.firsts) views port v w at, h.one_first);
         out_is = omega (
@@ -90,12 +92,13 @@ pushes n port v x one none above items views _ h at =
       refl,
     )
 
+-- one is taken
 pub takes : (port : ℕ) (v : View) → 0 < v.firsts + v.lives → Pops Accounts port v (IsTaken v)
 takes port v alive x items views h at =
     let w = view_of v.firsts v.lives v.out v.pushed (v.own ++ x ∷ []) v.joined in
     let fits = h.each port v at in
     let same : v.pushed ≡ h.pushed = fits.knows alive in
-    let below = below_next h.before items x (subst IsStrictlyIncreasing h.pushed_is h.rising) in (
+    let below = All_below_next h.before items x (subst IsStrictlyIncreasing h.pushed_is h.rising) in (
       w,
       record {
         pushed = h.pushed;
@@ -138,6 +141,7 @@ takes port v alive x items views h at =
       },
     )
 
+-- who finds none knows that all are taken
 pub all_taken : (port : ℕ) (v : View) → 0 < v.firsts + v.lives → Learns Accounts port v (AreAllTaken v)
 all_taken port v alive items views h at one none empty =
     permutation_of_sums (all_of v) v.pushed (λ f.
@@ -154,13 +158,15 @@ all_taken port v alive items views h at one none empty =
     nil [] is = refl
     nil (x ∷ xs) is = absurd (omega (arith, is))
 
-pub few : (port : ℕ) (v : View) → 0 < v.firsts + v.lives →
+-- no more are taken than were pushed
+pub queue_at_most_pushed : (port : ℕ) (v : View) → 0 < v.firsts + v.lives →
     Learns Accounts port v (λ items. length items ≤ length v.pushed)
-few port v alive items views h at =
+queue_at_most_pushed port v alive items views h at =
     let pushed : length v.pushed ≡ length (h.before ++ items) =
     ap (λ (l : List ℕ). length l) ((h.each port v at).knows alive ∙ h.pushed_is) in
     omega (arith, pushed, length-append h.before items)
 
+-- a member is forked off
 pub forks : (port : ℕ) (v : View) → v.firsts ≡ 1 →
     Forks Accounts port v (view_of v.firsts v.lives (v.out + 1) v.pushed v.own v.joined) (view_of 0 1 0 v.pushed [] [])
 forks port v one items views h at =
@@ -184,6 +190,7 @@ forks port v one items views h at =
           (at_snoc was right u j there);
     }
 
+-- a member is joined
 pub merges : (port : ℕ) (v : View) (other : ℕ) (w : View) → v.firsts ≡ 1 → w.firsts ≡ 0 → w.lives ≡ 1 →
     Merges Accounts port v other w (view_of v.firsts v.lives (v.out - 1) v.pushed v.own (v.joined ++ w.own ∷ w.joined)) (view_of 0 0 0 [] [] [])
 merges port v other w one zero_first live items views h at two at_other =
@@ -233,5 +240,6 @@ merges port v other w one zero_first live items views h at two at_other =
 pub is_one : (n : ℕ) → (n == 1) ≡ true → n ≡ 1
 is_one n test = grind (arith, nat_tests)
 
+-- and for none
 pub not_one : (n m : ℕ) → n + m ≡ 1 → (n == 1) ≡ false → n ≡ 0
 not_one n m sum test = let differ : n ≢ 1 = λ same. grind (arith, nat_tests) in omega (arith, sum, differ)

@@ -14,7 +14,7 @@ use Rattle.scrub_scan.specs.declared.findings.Findings.{Findings}
 use Rattle.scrub_scan.specs.Extent.{FrameAt, extent_of}
 use Rattle.scrub_scan.specs.Findings.{IsFindings}
 use Rattle.scrub_check.specs.Candidates.{AreCandidates, CandidateValue}
-use Rattle.scrub_report.specs.Scrubbed.{IsScrubbed, Scrubbed}
+use Rattle.scrub_found.specs.Scrubbed.{IsScrubbed, Scrubbed}
 use Rattle.scrub_reclaim.specs.Copy.{AreFramesFrom, HasRoomAt, IsAfterCopies, RoomValue, WholeFrame}
 use Rattle.scrub_reclaim.specs.Doubts.{Acceptance, doubts, is_accepted}
 use Rattle.scrub_reclaim.specs.Reclaimable.{AcceptsNoSpare, accepted_in, is_clear, reclaimed}

@@ -23,9 +23,9 @@ use Rattle.scrub_check.specs.Named.{named_locators, named_by_runs, named_by_shar
 use Rattle.scrub_check.specs.Runs.{AreReadRuns, HasRunIn, NamesChunkIn}
 use Rattle.scrub_check.specs.Status.{HasStatusIn}
 use Rattle.scrub_check.proofs.OneList.{one_broken, one_shared}
-use Rattle.scrub_report.specs.Resets.{IsScrubbedBut}
-use Rattle.scrub_report.specs.Scrubbed.{Scrubbed}
-use Rattle.scrub_report.proofs.OneIndex.{one_list_of_runs, one_list_of_checked, read_runs_are_runs}
+use Rattle.scrub_found.specs.Resets.{IsScrubbedBut}
+use Rattle.scrub_found.specs.Scrubbed.{Scrubbed}
+use Rattle.scrub_found.proofs.OneIndex.{one_list_of_runs, one_list_of_checked, read_runs_are_runs}
 use Rattle.scrub_reclaim.specs.Reset.{NameTheSame}
 
 -- ---- lists

@@ -1,9 +1,11 @@
 -- The lines of what can be reclaimed are those of what was found, an image has one such text, and reclaiming is safe.
-use Rattle.std.proofs.Common.{◌≡◌, ◌++◌, ◌==◌, ◌&&◌, ℕ, Bool, true, false, List, [], ◌∷◌, get_or, map, subst, arith, refl, sym, ap, ◌∙◌, inl, inr, if◌then◌else◌}
+use Rattle.std.proofs.Common.{◌≡◌, ◌++◌, ◌==◌, ◌&&◌, ℕ, Bool, true, false, List, [], ◌∷◌, append-nil, append_assoc, get_or, length, arith, sym, ap, ◌∙◌, inl, inr, if◌then◌else◌}
 use Rattle.std.specs.List.{Contains, flat_map}
-use Rattle.std.proofs.lemmas.Bool.{eq-eqb}
+use Rattle.std.proofs.lemmas.Bool.{eq-eqb, eqb-true, false≢true}
 use Rattle.std.proofs.lemmas.List.Elements.{Contains-append_left, Contains-append_right, All-contains_itself}
+use Rattle.scrub_disk.specs.declared.geometry.Geometry.{Geometry}
 use Rattle.scrub_disk.specs.Image.{Image}
+use Rattle.scrub_scan.specs.Scanned.{Scanned}
 use Rattle.scrub_super.specs.declared.pages.SuperblockPage.{SuperblockPage}
 use Rattle.scrub_super.specs.Planned.{extents_in_use}
 use Rattle.scrub_super.proofs.PageLaws.{one_list_of_pages}
@@ -14,83 +16,106 @@ use Rattle.scrub_check.specs.declared.statuses.checked.Checked.{Checked}
 use Rattle.scrub_check.specs.declared.runs.RunState.{RunState}
 use Rattle.scrub_check.specs.Candidates.{CandidateValue}
 use Rattle.scrub_check.specs.SafeCandidates.{IsKept, AreSafe}
-use Rattle.scrub_check.specs.Runs.{ReadRunsValue}
 use Rattle.scrub_check.specs.WholeScan.{IsWholeScan}
 use Rattle.scrub_check.proofs.KeptChunks.{candidates_safe}
-use Rattle.scrub_report.specs.declared.parts.Parts.{Parts}
-use Rattle.scrub_report.specs.Parts.{AreRowsOf, found_in, run_states}
+use Rattle.scrub_check.proofs.ListsThere.{some_broken, some_shared}
+use Rattle.scrub_found.specs.Judged.{Beside, IsFound, found_in}
 use Rattle.scrub_report.specs.Report.{IsReport, report_text}
-use Rattle.scrub_report.specs.Scrubbed.{Scrubbed, IsScrubbed, is_in_doubt}
-use Rattle.scrub_report.proofs.OneReport.{one_scrub}
+use Rattle.scrub_found.specs.Scrubbed.{Scrubbed, IsScrubbed, is_in_doubt}
+use Rattle.scrub_found.proofs.FoundBeside.{beside, with_lists}
+use Rattle.scrub_found.proofs.OneScrub.{one_scrub}
 use Rattle.scrub_reclaim.specs.Doubts.{Acceptance, accepted_on}
 use Rattle.scrub_reclaim.specs.declared.doubts.Doubt.{Doubt}
 use Rattle.scrub_reclaim.specs.Doubts.{are_accepted, doubts_in}
-use Rattle.scrub_reclaim.specs.Reclaimable.{AreMoved, AreOfCandidates, AreReclaimLines, IsClear, IsMoved, MoveValue, accepted_in, candidate_lines, doubt_line, doubts_for, is_clear, moves_of, pointing_to, points_to, reclaim_text, reclaimed, rooms_for, rooms_kept}
+use Rattle.scrub_reclaim.specs.Reclaimable.{AreMoved, AreOfCandidates, AreReclaimLines, IsMoved, MoveValue, accepted_in, all_candidate_lines, candidate_lines, doubt_line, doubt_lines, doubts_for, is_clear, moves_of, pointing_to, points_to, reclaim_text, reclaimed, rooms_for}
+use Rattle.scrub_reclaim.specs.declared.gathered.Gathered.{Gathered}
+use Rattle.scrub_reclaim.specs.steps.Gathered.{IsGathered, doubts_of, lines_if}
+use Rattle.scrub_reclaim.specs.Room.{room_lines}
 use Rattle.scrub_reclaim.proofs.Mapped.{made_of, of_made}
 
 -- ---- what the code writes
 
-module _ {D : Type 0} {s : _} (p : Parts D s) (read : ReadRunsValue) (rows : AreRowsOf p.judged.scan.plan.runs read p.judged.runs.items)
-    (pages : List SuperblockPage) (accepted : Acceptance) where
+module _ {D : Type 0} (image : Image) (g : Gathered D) (are : IsGathered image g) (pages : List SuperblockPage) (accepted : Acceptance) where
+  -- what is found beside what is gathered
+  abbrev pub beside_gathered : Beside
+  beside_gathered =
+      beside [] image g.judged are.judged (some_shared g.judged.checked.items).0 (some_broken g.judged.checked.items).0 g.candidates.items
+
+  pub found_gathered : IsFound image g.judged beside_gathered
+  found_gathered =
+      let shared = some_shared g.judged.checked.items in
+      let broken = some_broken g.judged.checked.items in
+      with_lists [] image g.judged are.judged shared.0 broken.0 g.candidates.items shared.1 broken.1 are.candidates
+
+  abbrev pub found_by : Scrubbed
+  found_by = found_in g.judged beside_gathered
+
   -- the doubts of the rows are those of the runs
-  pub doubts_found : doubts_in p.judged.scan.chosen accepted.last pages (run_states p.judged.runs.items) p.judged.scan.plan.geometry.page p.judged.scan.all.extents p.judged.checked.items p.liveness.candidates.items ≡ doubts_for accepted pages (found_in p read)
+  doubts_found : doubts_of accepted.last pages g ≡ doubts_for accepted pages found_by
   doubts_found =
-      ap (λ (states : List RunState). doubts_in p.judged.scan.chosen accepted.last pages states p.judged.scan.plan.geometry.page p.judged.scan.all.extents p.judged.checked.items p.liveness.candidates.items)
-      rows.states_are
+      ap (λ (states : List RunState). doubts_in g.judged.scan.chosen accepted.last pages states g.judged.scan.plan.geometry.page g.judged.scan.all.extents g.judged.checked.items g.candidates.items)
+      found_gathered.rows.states_are
 
   -- the verdict is that of what was found
-  pub clear_found : (list : List Doubt) (clear : Bool) →
-      list ≡ doubts_in p.judged.scan.chosen accepted.last pages (run_states p.judged.runs.items) p.judged.scan.plan.geometry.page p.judged.scan.all.extents p.judged.checked.items p.liveness.candidates.items →
-      clear ≡ are_accepted (accepted_on accepted p.judged.scan.chosen) list → clear ≡ is_clear accepted pages (found_in p read)
-  clear_found list clear are is = is ∙ ap (are_accepted (accepted_on accepted p.judged.scan.chosen)) (are ∙ doubts_found)
+  pub clear_found : (list : List Doubt) (clear : Bool) → list ≡ doubts_of accepted.last pages g →
+      clear ≡ are_accepted (accepted_on accepted g.judged.scan.chosen) list → clear ≡ is_clear accepted pages found_by
+  clear_found list clear listed is = is ∙ ap (are_accepted (accepted_on accepted g.judged.scan.chosen)) (listed ∙ doubts_found)
 
   -- the text is that of what was found
-  pub lines_found : (list : List Doubt) (clear : Bool) (lines text : List ℕ) →
-      list ≡ doubts_in p.judged.scan.chosen accepted.last pages (run_states p.judged.runs.items) p.judged.scan.plan.geometry.page p.judged.scan.all.extents p.judged.checked.items p.liveness.candidates.items →
-      clear ≡ are_accepted (accepted_on accepted p.judged.scan.chosen) list → lines ≡ flat_map (doubt_line (accepted_on accepted p.judged.scan.chosen)) list →
-      text ≡ lines ++ flat_map (candidate_lines p.judged.checked.items) (if clear then p.liveness.candidates.items else []) ++ rooms_kept clear p →
-      text ≡ reclaim_text accepted pages (found_in p read)
-  lines_found list clear lines text are is first all =
+  pub lines_found : (list : List Doubt) (clear : Bool) (lines text : List ℕ) → list ≡ doubts_of accepted.last pages g →
+      clear ≡ are_accepted (accepted_on accepted g.judged.scan.chosen) list → lines ≡ doubt_lines (accepted_on accepted g.judged.scan.chosen) list →
+      text ≡ lines ++ lines_if clear g → text ≡ reclaim_text accepted pages found_by
+  lines_found list clear lines text listed is first all =
+      let front : List ℕ = doubt_lines (accepted_in accepted found_by) (doubts_for accepted pages found_by) in
       all
-      ∙ ap
-      (λ (u : List ℕ). u ++ flat_map (candidate_lines p.judged.checked.items) (if clear then p.liveness.candidates.items else []) ++ rooms_kept clear p)
-      (first ∙ ap (flat_map (doubt_line (accepted_on accepted p.judged.scan.chosen))) (are ∙ doubts_found))
-      ∙ ap
-      (λ (b : Bool). flat_map (doubt_line (accepted_on accepted p.judged.scan.chosen)) (doubts_for accepted pages (found_in p read)) ++ flat_map (candidate_lines p.judged.checked.items) (if b then p.liveness.candidates.items else []) ++ rooms_kept b p)
-      (clear_found list clear are is)
+      ∙ ap (λ (u : List ℕ). u ++ lines_if clear g) (first ∙ ap (doubt_lines (accepted_on accepted g.judged.scan.chosen)) (listed ∙ doubts_found))
+      ∙ ap (λ (b : Bool). front ++ lines_if b g) (clear_found list clear listed is)
+      ∙ sym (append_assoc front (all_candidate_lines g.judged.checked.items (reclaimed accepted pages found_by)) (rooms_for (reclaimed accepted pages found_by) found_by))
+
+-- if there are no candidates, nothing is listed
+no_lines_of : (clear : Bool) (geometry : Geometry) (all : List Scanned) (checked : List Checked) (cs : List CandidateValue) (old : List ℕ) →
+    (length cs == 0) ≡ true →
+    old ≡ old ++ (all_candidate_lines checked (if clear then cs else []) ++ (if length (if clear then cs else []) == 0 then [] else room_lines geometry all checked (if clear then cs else [])))
+no_lines_of false geometry all checked cs old none = sym (append-nil old)
+no_lines_of true geometry all checked [] old none = sym (append-nil old)
+no_lines_of true geometry all checked (c ∷ cs) old none =
+    let e : length (c ∷ cs) ≡ 0 = eqb-true (length (c ∷ cs)) 0 none in absurd (omega (arith, e))
+
+-- if there are some and it is clear, all of them are
+some_lines_of : (clear : Bool) (geometry : Geometry) (all : List Scanned) (checked : List Checked) (cs : List CandidateValue) →
+    clear ≡ true → (length cs == 0) ≡ false →
+    all_candidate_lines checked cs ++ room_lines geometry all checked cs
+    ≡ all_candidate_lines checked (if clear then cs else []) ++ (if length (if clear then cs else []) == 0 then [] else room_lines geometry all checked (if clear then cs else []))
+some_lines_of false geometry all checked cs is some = absurd (false≢true is)
+some_lines_of true geometry all checked [] is some = absurd (false≢true (sym some))
+some_lines_of true geometry all checked (c ∷ cs) is some =
+    ap (λ (b : Bool). all_candidate_lines checked (c ∷ cs) ++ (if b then [] else room_lines geometry all checked (c ∷ cs))) (sym some)
+
+module _ {D : Type 0} (clear : Bool) (g : Gathered D) where
+  pub no_lines : (old : List ℕ) → (length g.candidates.items == 0) ≡ true → old ≡ old ++ lines_if clear g
+  no_lines old none = no_lines_of clear g.judged.scan.plan.geometry g.judged.scan.all.extents g.judged.checked.items g.candidates.items old none
+
+  pub some_lines : clear ≡ true → (length g.candidates.items == 0) ≡ false →
+      all_candidate_lines g.judged.checked.items g.candidates.items
+      ++ room_lines g.judged.scan.plan.geometry g.judged.scan.all.extents g.judged.checked.items g.candidates.items ≡ lines_if clear g
+  some_lines is some = some_lines_of clear g.judged.scan.plan.geometry g.judged.scan.all.extents g.judged.checked.items g.candidates.items is some
 
 -- ---- one text, and one verdict
 
 module _ (image : Image) (accepted : Acceptance) where
-  same_text : (s t : Scrubbed) (ps qs : List SuperblockPage) → s ≡ t → ps ≡ qs →
-      reclaim_text accepted ps s ≡ reclaim_text accepted qs t
-  same_text s t ps qs found pages =
-      ap (λ (v : Scrubbed). reclaim_text accepted ps v) found
-      ∙ ap (λ (vs : List SuperblockPage). reclaim_text accepted vs t) pages
-
-  same_verdict : (s t : Scrubbed) (ps qs : List SuperblockPage) → s ≡ t → ps ≡ qs →
-      is_clear accepted ps s ≡ is_clear accepted qs t
-  same_verdict s t ps qs found pages =
-      ap (λ (v : Scrubbed). is_clear accepted ps v) found
-      ∙ ap (λ (vs : List SuperblockPage). is_clear accepted vs t) pages
-
-  pub one_text : (a b : List ℕ) → AreReclaimLines image accepted a → AreReclaimLines image accepted b → a ≡ b
-  one_text a b x y =
-      x.text_is
-      ∙ same_text x.found y.found x.pages y.pages (one_scrub image x.found y.found x.scrubbed y.scrubbed) (one_list_of_pages image x.pages y.pages x.held y.held)
-      ∙ sym y.text_is
-
-  pub one_verdict : (a b : Bool) → IsClear image accepted a → IsClear image accepted b → a ≡ b
-  one_verdict a b x y =
-      x.verdict
-      ∙ same_verdict x.found y.found x.pages y.pages (one_scrub image x.found y.found x.scrubbed y.scrubbed) (one_list_of_pages image x.pages y.pages x.held y.held)
-      ∙ sym y.verdict
+  pub one_reclaim_lem : (a b : List ℕ) (v w : Bool) → AreReclaimLines image accepted a v → AreReclaimLines image accepted b w →
+      (a ≡ b) × (v ≡ w)
+  one_reclaim_lem a b v w x y =
+      let same = one_scrub image x.found y.found x.scrubbed y.scrubbed in
+      let pages = one_list_of_pages image x.pages y.pages x.held y.held in (
+        x.text_is ∙ (λ i. reclaim_text accepted (pages i) (same i)) ∙ sym y.text_is,
+        x.verdict ∙ (λ i. is_clear accepted (pages i) (same i)) ∙ sym y.verdict,
+      )
 
   -- the extents are those of the report
   pub of_candidates : (report text : List ℕ) (clear : Bool) → IsReport image report →
-      AreReclaimLines image accepted text → IsClear image accepted clear →
-      AreOfCandidates image accepted report text clear
-  of_candidates report text clear r t v = record {
+      AreReclaimLines image accepted text clear → AreOfCandidates image accepted report text clear
+  of_candidates report text clear r t = record {
     found = t.found;
     scrubbed = t.scrubbed;
     pages = t.pages;
@@ -100,7 +125,7 @@ module _ (image : Image) (accepted : Acceptance) where
         t.text_is
         ∙ ap
         (λ (b : Bool). flat_map (doubt_line (accepted_in accepted t.found)) (doubts_for accepted t.pages t.found) ++ flat_map (candidate_lines t.found.checked) (if b then t.found.candidates else []) ++ rooms_for (if b then t.found.candidates else []) t.found)
-        (sym (v.verdict ∙ same_verdict v.found t.found v.pages t.pages (one_scrub image v.found t.found v.scrubbed t.scrubbed) (one_list_of_pages image v.pages t.pages v.held t.held)));
+        (sym t.verdict);
   }
 
 -- ---- what is reclaimed is safe

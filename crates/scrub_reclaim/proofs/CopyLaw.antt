@@ -1,5 +1,5 @@
 -- Copies into room lose nothing: each chunk is still one, the same is named with the same statuses, and what was copied is found.
-use Rattle.std.proofs.Common.{◌≡◌, ◌≢◌, ◌⊎◌, ◌<◌, ◌≤◌, ◌==◌, ◌&&◌, ◌||◌, ℕ, Bool, true, false, not, nat_lt, is_none, Option, Some, None, List, [], ◌∷◌, length, map, get_or, arith, refl, sym, ◌∙◌, ap, subst, inl, inr, if◌then◌else◌}
+use Rattle.std.proofs.Common.{◌≡◌, ◌≢◌, ◌⊎◌, ◌<◌, ◌≤◌, ◌==◌, ◌&&◌, ◌||◌, ℕ, Bool, true, false, not, nat_lt, is_none, Option, Some, None, List, [], ◌∷◌, length, get_or, arith, refl, sym, ◌∙◌, ap, subst, inl, inr, if◌then◌else◌}
 use Rattle.std.proofs.Math.Path.{fun_ext}
 use Rattle.std.specs.List.{All, AllZip, Contains, cons_option, count_by, filter_map, find}
 use Rattle.std.specs.Option.{option_and_then}
@@ -33,10 +33,10 @@ use Rattle.scrub_check.specs.Live.{is_chunk}
 use Rattle.scrub_check.specs.Runs.{ReadRunsValue}
 use Rattle.scrub_check.specs.Spares.{frame_of_item, frames, frames_in, spares_of}
 use Rattle.scrub_check.specs.Status.{HasStatusIn}
-use Rattle.scrub_report.specs.Scrubbed.{Scrubbed, IsScrubbed, is_clean_extent, is_clean_item}
-use Rattle.scrub_report.proofs.OneReader.{one_scanned}
-use Rattle.scrub_report.proofs.OneReport.{one_scrub}
-use Rattle.scrub_listings.specs.Manifest.{IsManifest, IsWholeImage, after_status_in, hidden_runs, is_of_read_run, is_of_shard, lost_runs, manifest_text, of_shards, text_by}
+use Rattle.scrub_found.specs.Scrubbed.{Scrubbed, IsScrubbed, is_clean_extent, is_clean_item}
+use Rattle.scrub_found.proofs.OneReader.{one_scanned}
+use Rattle.scrub_found.proofs.OneScrub.{one_scrub}
+use Rattle.scrub_listings.specs.Manifest.{IsManifest, after_status_in, hidden_runs, is_of_read_run, is_of_shard, lost_runs, manifest_text, of_shards, text_by}
 use Rattle.scrub_listings.proofs.AllPass.{all_pass}
 use Rattle.scrub_reclaim.specs.Copy.{HasRoomAt, HoldsCopies, IsAfterCopies, IsPlanAfterCopies, IsSameButSpares, RoomValue, extents_of}
 use Rattle.scrub_reclaim.specs.Reset.{IsPlanIn, NameTheSame}
@@ -503,12 +503,10 @@ module _ (rooms : List RoomValue) (before after : Image) (found rest : Scrubbed)
       same = λ i. of (sym names_alike.superblock i) (sym names_alike.retired i) (sym names_alike.read i) (sym names_alike.bindings i) (sym names_alike.checked i)
 
 module _ (rooms : List RoomValue) (before after : Image) where
-  pub same_but_spares : (a b : List ℕ) → IsAfterCopies rooms before after → IsManifest before a → IsManifest after b →
-      IsSameButSpares a b
-  same_but_spares a b c x y =
-      subst (λ (t : List ℕ). IsSameButSpares t b) (sym x.text_is)
-      (subst (λ (t : List ℕ). IsSameButSpares (manifest_text x.found) t) (sym y.text_is) (texts rooms before after x.found y.found x.scrubbed y.scrubbed c))
-
-  pub same_whole : (a b : Bool) → IsAfterCopies rooms before after → IsWholeImage before a → IsWholeImage after b → a ≡ b
-  same_whole a b c x y =
-      x.verdict ∙ sym (same_verdict x.found y.found (names_alike rooms before after x.found y.found x.scrubbed y.scrubbed c)) ∙ sym y.verdict
+  pub same_but_spares : (a b : List ℕ) (v w : Bool) → IsAfterCopies rooms before after → IsManifest before a v → IsManifest after b w →
+      IsSameButSpares a b × (v ≡ w)
+  same_but_spares a b v w c x y = (
+    subst (λ (t : List ℕ). IsSameButSpares t b) (sym x.text_is)
+        (subst (λ (t : List ℕ). IsSameButSpares (manifest_text x.found) t) (sym y.text_is) (texts rooms before after x.found y.found x.scrubbed y.scrubbed c)),
+    x.verdict ∙ sym (same_verdict x.found y.found (names_alike rooms before after x.found y.found x.scrubbed y.scrubbed c)) ∙ sym y.verdict,
+  )

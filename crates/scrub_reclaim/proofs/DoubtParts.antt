@@ -1,10 +1,10 @@
 -- What holds of all doubts holds of those of each kind.
-use Rattle.std.proofs.Common.{◌≡◌, ◌<◌, ◌++◌, ◌∷◌, [], ◌&&◌, ℕ, zero, suc, Bool, true, List, Option, length, get_or, map, subst, arith, refl}
+use Rattle.std.proofs.Common.{◌≡◌, ◌<◌, ◌++◌, ◌∷◌, [], ◌&&◌, ℕ, zero, suc, Bool, true, List, Option, length, get_or, subst, arith, refl}
 use Rattle.std.proofs.Math.Path.{ap₂}
 use Rattle.std.specs.List.{flat_map, list_all}
 use Rattle.std.proofs.lemmas.Bool.{and_parts}
 use Rattle.scrub_super.specs.declared.pages.SuperblockPage.{SuperblockPage}
-use Rattle.scrub_report.specs.Scrubbed.{Scrubbed}
+use Rattle.scrub_found.specs.Scrubbed.{Scrubbed}
 use Rattle.scrub_reclaim.specs.declared.doubts.Doubt.{Doubt}
 use Rattle.scrub_reclaim.specs.Doubts.{choice_doubts, doubts, last_doubts, page_doubts, remains_doubts, run_doubts, spare_doubts, superblock_damaged, superblock_lost, superblock_stray, tail_doubts, tail_lost_doubts}
 

@@ -3,14 +3,13 @@ use Rattle.std.proofs.Common.{◌≡◌, ◌≢◌, ◌==◌, ◌&&◌, ◌||◌
 use Rattle.std.specs.Option.{option_map, option_map_or}
 use Rattle.std.specs.List.{list_all}
 use Rattle.std.proofs.lemmas.Bool.{eqb-true, false≢true}
-use Rattle.scrub_super.specs.Chosen.{Choice}
 use Rattle.scrub_super.specs.Contents.{Contents}
 use Rattle.scrub_super.specs.declared.pages.SuperblockPage.{SuperblockPage}
-use Rattle.scrub_report.specs.Scrubbed.{Scrubbed}
+use Rattle.scrub_found.specs.Scrubbed.{Scrubbed}
 use Rattle.scrub_listings.specs.Summary.{counts_as}
 use Rattle.scrub_reclaim.specs.declared.doubts.Doubt.{Doubt}
 use Rattle.scrub_reclaim.specs.declared.doubts.Doubt.TheVariants.{Last}
-use Rattle.scrub_reclaim.specs.Doubts.{Acceptance, is_accepted, is_named, is_settled_by_last, last_doubt, last_doubts}
+use Rattle.scrub_reclaim.specs.Doubts.{Acceptance, is_accepted, is_named, is_settled_by_last, last_doubts}
 use Rattle.scrub_reclaim.specs.Reclaimable.{IsListedByLast, accepted_in, doubts_for, is_clear, reclaimed}
 use Rattle.scrub_reclaim.proofs.DoubtParts.{of_last}
 use Rattle.scrub_reclaim.proofs.SoundDisks.{all_weaker}

@@ -20,7 +20,7 @@ use Rattle.scrub_scan.specs.Tiling.{Joins, IsTiling}
 use Rattle.scrub_scan.proofs.FrameBytes.{first_byte}
 use Rattle.scrub_scan.proofs.Tilings.{advances, one_item}
 use Rattle.scrub_check.specs.Live.{is_chunk}
-use Rattle.scrub_report.specs.Scrubbed.{is_clean_item}
+use Rattle.scrub_found.specs.Scrubbed.{is_clean_item}
 use Rattle.scrub_reclaim.specs.Copy.{AreChunksFrom, AreFramesFrom, WholeFrame, size_in}
 use Rattle.scrub_reclaim.specs.Room.{ends_in_chunk, next_place}
 

@@ -1,6 +1,6 @@
 -- The doubts that remains make, by the spares that were found and the sorted extents of candidates.
 use Rattle.std.proofs.Common.{◌≡◌, ◌≢◌, ◌==◌, ◌&&◌, ◌++◌, [], ℕ, Bool, true, false, List, get_or, length, map, nat_lt, refl, sym, ap, ◌∙◌, append-nil, if◌then◌else◌}
-use Rattle.std.specs.List.{Contains, count_by, flat_map, list_any}
+use Rattle.std.specs.List.{count_by, flat_map, list_any}
 use Rattle.std.specs.List.Sorted.{IsPermutation}
 use Rattle.std.proofs.lemmas.Bool.{eq-eqb, eqb-true}
 use Rattle.std.proofs.lemmas.List.Elements.{All-contains_itself}

@@ -1,27 +1,25 @@
 -- Where no remains are accepted and nothing is in doubt, a copy of a chunk that isn't found begins in an extent to reclaim only inside
 -- a chunk.
-use Rattle.std.proofs.Common.{◌≡◌, ◌≢◌, ◌⊎◌, inl, inr, ◌<◌, ◌≤◌, ◌+◌, ◌*◌, ◌/◌, ◌%◌, ◌==◌, ◌&&◌, ◌||◌, ◌++◌, ◌∷◌, [], ℕ, Bool, true, false, not, cond, List, Option, Some, None, length, get_or, map, nat_lt, option_and_then, arith, refl, sym, ◌∙◌, ap, subst, if◌then◌else◌}
+use Rattle.std.proofs.Common.{◌≡◌, ◌≢◌, ◌⊎◌, inl, inr, ◌<◌, ◌≤◌, ◌+◌, ◌*◌, ◌/◌, ◌%◌, ◌==◌, ◌&&◌, ◌∷◌, [], ℕ, Bool, true, false, not, cond, List, Option, Some, None, length, get_or, map, nat_lt, option_and_then, arith, refl, sym, ◌∙◌, ap, subst, if◌then◌else◌}
 use Rattle.std.proofs.Math.Path.{ap₂}
 use Rattle.std.proofs.Math.Nat.{mod-lt, mul-le-mul_right}
 use Rattle.std.specs.Option.{option_map, option_to_list}
-use Rattle.std.specs.Str.{bytes_eq}
-use Rattle.std.specs.List.{All, Contains, cons_option, count_by, filter, filter_map, find, flat_map, list_all, list_any, slice_get}
+use Rattle.std.specs.List.{Contains, cons_option, count_by, filter_map, find, flat_map, list_all, list_any, slice_get}
 use Rattle.std.proofs.lemmas.Bool.{and_parts, cases_lt, eq-eqb, eqb-true, false≢true, le-ltb, lt-ltb}
-use Rattle.std.proofs.lemmas.List.Elements.{All-contains, All-contains_itself, All-head, All-tail}
+use Rattle.std.proofs.lemmas.List.Elements.{All-contains, All-contains_itself}
 use Rattle.std.proofs.lemmas.Nat.{div-add-mod'}
 use Rattle.std.proofs.lemmas.Option.{none-some, slice_get_cases, slice_get_past}
 use Rattle.std.proofs.lemmas.Slice.Eq.{bytes_eq-Decides}
 use Rattle.sha2.specs.Sha256.{sha256}
 use Rattle.scrub_disk.specs.Image.{Image, byte, extent_bytes}
 use Rattle.scrub_frame.specs.declared.form.Form.{Form}
-use Rattle.scrub_frame.specs.Frame.{frame, frame_overhead}
-use Rattle.scrub_frame.specs.declared.locator.Locator.{Locator}
+use Rattle.scrub_frame.specs.Frame.{frame}
 use Rattle.scrub_super.specs.declared.pages.SuperblockPage.{SuperblockPage}
 use Rattle.scrub_frame.proofs.Elements.{Contains-behind, Contains-cases, Contains-filter}
 use Rattle.scrub_scan.specs.declared.item.Item.{Item}
 use Rattle.scrub_scan.specs.declared.item.Item.TheVariants.{Chunk, Pad, Torn, Noise, Lost}
 use Rattle.scrub_scan.specs.declared.standing.Standing.{Standing}
-use Rattle.scrub_scan.specs.Extent.{Extent, FrameAt, bound, extent_of}
+use Rattle.scrub_scan.specs.Extent.{Extent, bound, extent_of}
 use Rattle.scrub_scan.specs.Findings.{IsFindings}
 use Rattle.scrub_scan.specs.Item.{start_of, stop_of, IsItem}
 use Rattle.scrub_scan.specs.Scanned.{Scanned}
@@ -29,17 +27,15 @@ use Rattle.scrub_scan.specs.Tiling.{Joins, IsTiling}
 use Rattle.scrub_scan.proofs.FrameBytes.{first_byte}
 use Rattle.scrub_scan.proofs.Tilings.{one_item}
 use Rattle.scrub_check.specs.declared.statuses.checked.Checked.{Checked}
-use Rattle.scrub_check.specs.Candidates.{CandidateValue}
 use Rattle.scrub_check.specs.Checked.{is_dangling}
-use Rattle.scrub_check.specs.Live.{is_chunk}
 use Rattle.scrub_check.specs.Spares.{copies_of, frame_of_item, frames, frames_in, is_copy_of, spares_of}
 use Rattle.scrub_check.proofs.Counts.{count_in, count_out}
-use Rattle.scrub_report.specs.Scrubbed.{Scrubbed, IsScrubbed}
+use Rattle.scrub_found.specs.Scrubbed.{Scrubbed, IsScrubbed}
 use Rattle.scrub_listings.specs.Manifest.{is_without_spare}
 use Rattle.scrub_reclaim.specs.declared.doubts.Doubt.{Doubt}
 use Rattle.scrub_reclaim.specs.declared.doubts.Doubt.TheVariants.{Remains}
-use Rattle.scrub_reclaim.specs.Doubts.{Acceptance, gone_count, is_accepted, is_gone, is_of_remains, is_remains, remains_among, remains_by, remains_doubts, remains_in}
-use Rattle.scrub_reclaim.specs.Reclaimable.{accepted_in, is_clear, reclaimed}
+use Rattle.scrub_reclaim.specs.Doubts.{Acceptance, gone_count, is_accepted, is_gone, is_of_remains, is_remains, remains_among, remains_doubts, remains_in}
+use Rattle.scrub_reclaim.specs.Reclaimable.{accepted_in, is_clear}
 use Rattle.scrub_reclaim.specs.Remains.{AcceptsNoRemains, HasCopiesInsideAlone, IsCopyAt, IsInsideChunk, KeepsRemains}
 use Rattle.scrub_reclaim.proofs.Clear.{among_parts}
 use Rattle.scrub_reclaim.proofs.DoubtParts.{each_part, of_remains}

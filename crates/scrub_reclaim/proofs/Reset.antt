@@ -46,12 +46,12 @@ use Rattle.scrub_check.specs.Spares.{spares_by}
 use Rattle.scrub_check.specs.WholeScan.{IsWholeScan}
 use Rattle.scrub_report.specs.Answer.{AnswerValue, IsScrubAnswer}
 use Rattle.scrub_report.specs.Index.{index_entries}
-use Rattle.scrub_report.specs.Resets.{IsPlanBut, IsScrubbedBut}
-use Rattle.scrub_report.specs.Scrubbed.{Scrubbed, IsScrubbed}
-use Rattle.scrub_report.proofs.OneReader.{one_plan}
-use Rattle.scrub_report.proofs.OneReport.{one_scrub}
-use Rattle.scrub_report.proofs.ResetPlans.{whole_but}
-use Rattle.scrub_listings.specs.Manifest.{IsManifest, IsManifestBut, IsWholeBut, IsWholeImage, after_status_in, hidden_runs, is_of_read_run, is_of_shard, is_whole, is_whole_by, lost_runs, manifest_text, of_shards, text_by}
+use Rattle.scrub_found.specs.Resets.{IsPlanBut, IsScrubbedBut}
+use Rattle.scrub_found.specs.Scrubbed.{Scrubbed, IsScrubbed}
+use Rattle.scrub_found.proofs.OneReader.{one_plan}
+use Rattle.scrub_found.proofs.OneScrub.{one_scrub}
+use Rattle.scrub_found.proofs.ResetPlans.{whole_but}
+use Rattle.scrub_listings.specs.Manifest.{IsManifest, IsManifestBut, after_status_in, hidden_runs, is_of_read_run, is_of_shard, is_whole, is_whole_by, lost_runs, manifest_text, of_shards, text_by}
 use Rattle.scrub_reclaim.specs.Doubts.{Acceptance}
 use Rattle.scrub_reclaim.specs.Reclaimable.{IsMoved, MoveValue, reclaimed}
 use Rattle.scrub_reclaim.specs.Reset.{IsAfterReset, IsForeseen, IsListedWithoutMoves, IsPlanAfterReset, IsPlanIn, IsReclaimed, NameTheSame}
@@ -595,17 +595,14 @@ module _ (extents : List ℕ) (before after : Image) (found rest : Scrubbed) (x 
       same_after found.all rest.all (get_or found.checked i d) (λ sound. form_now (get_or found.checked i d).locator)
       (ap (λ (ss : List Standing). length (spares_by ss (get_or found.checked i d)) == 0) (same_frames found.all rest.all scans_now)))
 
-pub as_foreseen : (extents : List ℕ) (before after : Image) (a b : List ℕ) → IsForeseen extents before after →
-    IsManifestBut extents before a → IsManifest after b → a ≡ b
-as_foreseen extents before after a b f x y =
-    x.text_is ∙ sym (text_now extents before after x.found y.found x.scrubbed y.scrubbed f) ∙ sym y.text_is
-
-pub whole_as_foreseen : (extents : List ℕ) (before after : Image) (a b : Bool) → IsForeseen extents before after →
-    IsWholeBut extents before a → IsWholeImage after b → a ≡ b
-whole_as_foreseen extents before after a b f x y =
-    x.verdict
-    ∙ sym (same_verdict x.found y.found (named_as_foreseen extents before after x.found y.found x.scrubbed y.scrubbed f))
-    ∙ sym y.verdict
+pub as_foreseen : (extents : List ℕ) (before after : Image) (a b : List ℕ) (v w : Bool) → IsForeseen extents before after →
+    IsManifestBut extents before a v → IsManifest after b w → (a ≡ b) × (v ≡ w)
+as_foreseen extents before after a b v w f x y = (
+  x.text_is ∙ sym (text_now extents before after x.found y.found x.scrubbed y.scrubbed f) ∙ sym y.text_is,
+  x.verdict
+      ∙ sym (same_verdict x.found y.found (named_as_foreseen extents before after x.found y.found x.scrubbed y.scrubbed f))
+      ∙ sym y.verdict,
+)
 
 -- ---- the law
 

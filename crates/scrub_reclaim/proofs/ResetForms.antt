@@ -24,7 +24,7 @@ use Rattle.scrub_check.specs.declared.statuses.status.Status.TheVariants.{OutOfR
 use Rattle.scrub_check.specs.Checked.{is_dangling, is_owned_by, is_sound}
 use Rattle.scrub_check.specs.ChunkForms.{form_at, form_of}
 use Rattle.scrub_check.specs.Spares.{asks_for_spares, frame_of_item, frames, frames_in, is_copy_of, spares_by, spares_of}
-use Rattle.scrub_report.proofs.OneReader.{heads, no_tail, tails}
+use Rattle.scrub_found.proofs.OneReader.{heads, no_tail, tails}
 use Rattle.scrub_listings.specs.Manifest.{after_status_in, form_text, looked_for, numbered_line, numbered_text, retired_line, runs_line, text_by, total_line}
 
 -- ---- two scans of the same extents

@@ -22,10 +22,10 @@ use Rattle.scrub_check.specs.Live.{has_sound_at}
 use Rattle.scrub_check.specs.Spares.{frames, spares_by}
 use Rattle.scrub_check.specs.steps.SoundPlaces.{is_sound_at}
 use Rattle.scrub_check.proofs.Counts.{any_counts}
-use Rattle.scrub_report.specs.Resets.{IsScrubbedBut}
-use Rattle.scrub_report.specs.Scrubbed.{Scrubbed, IsScrubbed}
-use Rattle.scrub_report.proofs.OneReport.{one_scrub}
-use Rattle.scrub_listings.specs.Manifest.{IsManifest, IsManifestBut, IsWholeBut, IsWholeImage, after_status_in}
+use Rattle.scrub_found.specs.Resets.{IsScrubbedBut}
+use Rattle.scrub_found.specs.Scrubbed.{Scrubbed, IsScrubbed}
+use Rattle.scrub_found.proofs.OneScrub.{one_scrub}
+use Rattle.scrub_listings.specs.Manifest.{IsManifest, IsManifestBut, after_status_in}
 use Rattle.scrub_reclaim.specs.Doubts.{Acceptance}
 use Rattle.scrub_reclaim.specs.Reclaimable.{AcceptsNoSpare, HasSafeSpare, KeepsSpares, reclaimed}
 use Rattle.scrub_reclaim.specs.Reset.{AreListedWithoutSpares, IsListedWithoutMoves, NameTheSame}
@@ -145,14 +145,12 @@ module _ (accepted : Acceptance) (extents : List ℕ) (image : Image) (l : AreLi
       (same_none (get_or found.checked i d) (frames found.all) (frames rest.all) (λ s. frame_was found.all rest.all s parts)
       (λ some. still (get_or found.checked i d) (keeps i d below some)))
 
-pub same_without : (accepted : Acceptance) (extents : List ℕ) (image : Image) (a b : List ℕ) → AreListedWithoutSpares accepted extents image →
-    IsManifestBut extents image a → IsManifest image b → a ≡ b
-same_without accepted extents image a b l y x =
-    y.text_is
-    ∙ same_text x.found y.found (named accepted extents image l x.found y.found x.scrubbed y.scrubbed) (after accepted extents image l x.found y.found x.scrubbed y.scrubbed)
-    ∙ sym x.text_is
-
-pub whole_without : (accepted : Acceptance) (extents : List ℕ) (image : Image) (a b : Bool) → AreListedWithoutSpares accepted extents image →
-    IsWholeBut extents image a → IsWholeImage image b → a ≡ b
-whole_without accepted extents image a b l y x =
-    y.verdict ∙ same_verdict x.found y.found (named accepted extents image l x.found y.found x.scrubbed y.scrubbed) ∙ sym x.verdict
+pub same_without : (accepted : Acceptance) (extents : List ℕ) (image : Image) (a b : List ℕ) (v w : Bool) → AreListedWithoutSpares accepted extents image →
+    IsManifestBut extents image a v → IsManifest image b w → (a ≡ b) × (v ≡ w)
+same_without accepted extents image a b v w l y x =
+    let same = named accepted extents image l x.found y.found x.scrubbed y.scrubbed in (
+      y.text_is
+          ∙ same_text x.found y.found same (after accepted extents image l x.found y.found x.scrubbed y.scrubbed)
+          ∙ sym x.text_is,
+      y.verdict ∙ same_verdict x.found y.found same ∙ sym x.verdict,
+    )

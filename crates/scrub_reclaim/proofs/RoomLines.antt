@@ -19,7 +19,7 @@ use Rattle.scrub_check.specs.Candidates.{has_sound_alone}
 use Rattle.scrub_check.specs.Live.{is_chunk}
 use Rattle.scrub_check.proofs.Reclaimable.{named_by_sound_alone}
 use Rattle.scrub_check.specs.steps.LocatorIndex.{AreBarredExtents}
-use Rattle.scrub_report.specs.Scrubbed.{Scrubbed, IsScrubbed, is_clean_extent, is_clean_item}
+use Rattle.scrub_found.specs.Scrubbed.{Scrubbed, IsScrubbed, is_clean_extent, is_clean_item}
 use Rattle.scrub_reclaim.specs.Room.{IsRoom, ends_in_chunk, has_room, is_listed_as, is_zero_to, may_grow, next_place, place_in, room_fits, room_in, room_if, room_line, room_where, rooms_where}
 use Rattle.scrub_reclaim.specs.steps.Room.{may_grow_by, room_text}
 

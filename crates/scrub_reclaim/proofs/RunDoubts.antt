@@ -1,8 +1,8 @@
 -- The doubts that lost index runs make, by their rows.
 use Rattle.std.proofs.Common.{◌≡◌, ◌+◌, ◌∷◌, [], ℕ, List, refl}
 use Rattle.std.specs.List.{enumerate_from, filter_map}
-use Rattle.scrub_report.specs.declared.runs.RunRow.{RunRow}
-use Rattle.scrub_report.specs.Parts.{run_states}
+use Rattle.scrub_found.specs.declared.runs.RunRow.{RunRow}
+use Rattle.scrub_found.specs.Judged.{run_states}
 use Rattle.scrub_reclaim.specs.Doubts.{run_lost}
 
 -- the doubts of rows are those of their states

@@ -1,6 +1,6 @@
 -- A disk that is sound is clean, nothing is missing of it, no page of extent 0 is lost, damaged or stray, and each doubt is a
 -- tail.
-use Rattle.std.proofs.Common.{bytes_eq, codes, ◌≡◌, ◌<◌, ◌+◌, ◌==◌, ◌&&◌, ◌||◌, ◌++◌, ◌∷◌, [], ℕ, zero, suc, Bool, true, false, not, cond, List, Option, Some, None, MatchOption, is_none, is_some, length, get_or, map, nat_lt, arith, refl, sym, ap, ◌∙◌, if◌then◌else◌}
+use Rattle.std.proofs.Common.{◌≡◌, ◌<◌, ◌+◌, ◌==◌, ◌&&◌, ◌||◌, ◌++◌, ◌∷◌, [], ℕ, suc, Bool, true, false, not, cond, List, Option, Some, None, MatchOption, is_none, is_some, length, get_or, map, nat_lt, arith, refl, sym, ap, ◌∙◌, if◌then◌else◌}
 use Rattle.std.specs.Cmp.Derive.{both_true}
 use Rattle.std.specs.List.{AllZip, Contains, cons_option, count_by, enumerate_from, filter, filter_map, flat_map, list_all, list_any, range_with_len, zip}
 use Rattle.std.specs.Option.{option_map, option_to_list}
@@ -34,18 +34,17 @@ use Rattle.scrub_check.specs.Runs.{HasRunIn}
 use Rattle.scrub_check.specs.Candidates.{CandidateValue}
 use Rattle.scrub_check.specs.Spares.{copies_of, spares_of}
 use Rattle.scrub_scan.specs.declared.standing.Standing.{Standing}
-use Rattle.scrub_report.specs.Scrubbed.{IsCleanImage, IsScrubbed, Scrubbed, is_clean, is_clean_choice, is_clean_extent, is_clean_item, is_clean_list}
-use Rattle.scrub_report.proofs.CleanLists.{sound_alone}
-use Rattle.scrub_report.proofs.OneReport.{one_scrub}
-use Rattle.scrub_listings.specs.declared.summary.Verdict.{Verdict}
-use Rattle.scrub_listings.specs.declared.summary.Verdict.TheVariants.{Sound, InDoubt, Wrong}
-use Rattle.scrub_listings.specs.Manifest.{IsWholeImage, are_sound, hidden_runs, is_of_read_run, is_of_shard, is_whole, lost_runs, of_shards}
-use Rattle.scrub_listings.specs.Summary.{IsSoundImage, counts_as, is_behind, is_sound_verdict, one_if, verdict, verdict_by}
+use Rattle.scrub_found.specs.Scrubbed.{IsScrubbed, Scrubbed, is_clean_disk, is_clean_choice, is_clean_extent, is_clean_item, is_clean_list}
+use Rattle.scrub_found.proofs.CleanLists.{sound_alone}
+use Rattle.scrub_found.proofs.OneScrub.{one_scrub}
+use Rattle.scrub_report.specs.Answer.{AnswerValue, IsScrubAnswer}
+use Rattle.scrub_listings.specs.Manifest.{IsManifest, hidden_runs, is_of_read_run, is_of_shard, is_whole, lost_runs}
+use Rattle.scrub_listings.specs.Summary.{IsSummary, counts_as, is_behind, is_sound_verdict, one_if, verdict, verdict_by}
 use Rattle.scrub_reclaim.specs.declared.doubts.Doubt.{Doubt}
 use Rattle.scrub_reclaim.specs.declared.doubts.Doubt.TheVariants.{Last, NoSuperblock, Tail, Tie}
-use Rattle.scrub_reclaim.specs.Doubts.{Acceptance, choice_doubts, doubts, ends_past, gone_count, is_accepted, is_gone, is_last, is_named, last_doubt, last_doubts, page_doubts, page_ranges, range_doubts, remains_among, remains_by, run_doubts, run_lost, spare_doubt, spare_doubts, spare_doubts_of, staying, superblock_damaged, superblock_lost, superblock_stray, tail_doubts, tail_lost_doubts}
+use Rattle.scrub_reclaim.specs.Doubts.{Acceptance, choice_doubts, doubts, ends_past, gone_count, is_accepted, is_gone, is_last, is_named, last_doubt, last_doubts, page_ranges, range_doubts, remains_by, run_lost, spare_doubt, spare_doubts_of, staying, superblock_damaged, superblock_lost, superblock_stray, tail_doubts, tail_lost_doubts}
 use Rattle.scrub_reclaim.specs.AllRight.{IsAllRight, is_quiet, is_tail}
-use Rattle.scrub_reclaim.specs.Reclaimable.{IsClear, accepted_in, doubts_for, is_clear}
+use Rattle.scrub_reclaim.specs.Reclaimable.{AreReclaimLines, accepted_in, doubts_for, is_clear}
 use Rattle.scrub_super.proofs.PageLaws.{held_unless_odd, one_list_of_pages}
 
 -- ---- lists whose elements pass
@@ -259,7 +258,7 @@ no_tail_lost page f e = by f.findings.bad_pages (and_parts (length f.findings.ba
 -- ---- all of it
 
 module _ (image : Image) (pages : List SuperblockPage) (found : Scrubbed) (x : IsScrubbed image found)
-    (held : AreSuperblockPages image pages) (clean : is_clean found ≡ true) (even : list_any is_odd pages ≡ false) (last : Option ℕ)
+    (held : AreSuperblockPages image pages) (clean : is_clean_disk found ≡ true) (even : list_any is_odd pages ≡ false) (last : Option ℕ)
     (counts : is_behind last found.choice ≡ false) where
   choice_is : is_clean_choice found.choice ≡ true
   choice_is = (and_parts (is_clean_choice found.choice) (list_all is_clean_extent found.all) (and_parts (is_clean_choice found.choice && list_all is_clean_extent found.all) (list_all is_some found.read.runs) (and_parts (is_clean_choice found.choice && list_all is_clean_extent found.all && list_all is_some found.read.runs) (is_clean_list found.checked found.shared) clean).0).0).0
@@ -346,9 +345,9 @@ module _ (image : Image) (pages : List SuperblockPage) (found : Scrubbed) (x : I
 
 pub sound_is_right : (last : Option ℕ) (image : Image) (pages : List SuperblockPage) (found : Scrubbed) → IsScrubbed image found →
     AreSuperblockPages image pages → is_sound_verdict (verdict last found pages) ≡ true → IsAllRight last pages found
-sound_is_right last image pages found x held is = by (is_clean found) (list_any is_odd pages || is_behind last found.choice) refl refl is
+sound_is_right last image pages found x held is = by (is_clean_disk found) (list_any is_odd pages || is_behind last found.choice) refl refl is
   where
-    by : (clean doubt : Bool) → is_clean found ≡ clean → (list_any is_odd pages || is_behind last found.choice) ≡ doubt →
+    by : (clean doubt : Bool) → is_clean_disk found ≡ clean → (list_any is_odd pages || is_behind last found.choice) ≡ doubt →
         is_sound_verdict (verdict_by clean doubt) ≡ true → IsAllRight last pages found
     by true true c o e = absurd (false≢true e)
     by true false c o e =
@@ -358,22 +357,22 @@ sound_is_right last image pages found x held is = by (is_clean found) (list_any 
 
 -- ---- what the commands say of it
 
-module _ (last : Option ℕ) (image : Image) (x : IsSoundImage last image true) where
+module _ (last : Option ℕ) (image : Image) (summary : List ℕ) (x : IsSummary last image summary true) where
   right : IsAllRight last x.pages x.found
   right = sound_is_right last image x.pages x.found x.scrubbed x.held (sym x.verdict_is)
 
-  pub sound_is_clean : IsCleanImage image true
-  sound_is_clean = record { found = x.found; scrubbed = x.scrubbed; verdict = sym right.clean }
+  pub sound_is_clean : (answer : AnswerValue) → IsScrubAnswer image answer → answer.is_clean ≡ true
+  sound_is_clean answer a = a.clean ∙ ap is_clean_disk (one_scrub image a.found x.found a.scrubbed x.scrubbed) ∙ right.clean
 
-  pub sound_is_whole : IsWholeImage image true
-  sound_is_whole = record { found = x.found; scrubbed = x.scrubbed; verdict = sym right.whole }
+  pub sound_is_whole : (text : List ℕ) (whole : Bool) → IsManifest image text whole → whole ≡ true
+  sound_is_whole text whole m = m.verdict ∙ ap is_whole (one_scrub image m.found x.found m.scrubbed x.scrubbed) ∙ right.whole
 
-pub sound_is_held : (last : Option ℕ) (image : Image) (q : ℕ) (bytes : List ℕ) → IsSoundImage last image true → q < image.geometry.pages →
-    image.page 0 q ≡ Some bytes → AreHeldBytes image q bytes
-sound_is_held last image q bytes x here readable =
+pub sound_is_held : (last : Option ℕ) (image : Image) (summary : List ℕ) (q : ℕ) (bytes : List ℕ) → IsSummary last image summary true →
+    q < image.geometry.pages → image.page 0 q ≡ Some bytes → AreHeldBytes image q bytes
+sound_is_held last image summary q bytes x here readable =
     let page : SuperblockPage = get_or x.pages q Lost in
     let within : q < length x.pages = omega (arith, here, x.held.count) in
-    let even : is_odd page ≡ false = even_if_quiet page (AllPass-from_list_all is_quiet x.pages (right last image x).quiet q Lost within) in
+    let even : is_odd page ≡ false = even_if_quiet page (AllPass-from_list_all is_quiet x.pages (right last image summary x).quiet q Lost within) in
     held_unless_odd image q page bytes (x.held.each q page (slice_get-get_or x.pages q Lost within)) even readable
 
 -- a verdict that is sound is no other
@@ -382,13 +381,13 @@ sound_alone_is true true e = absurd (false≢true e)
 sound_alone_is true false e = refl
 sound_alone_is false doubt e = absurd (false≢true e)
 
-pub sound_is_clear : (last : ℕ) (image : Image) (accepted : Acceptance) (clear : Bool) → IsSoundImage (Some last) image true →
-    accepted.last ≡ Some last → IsClear image accepted clear → clear ≡ true
-sound_is_clear last image accepted clear x given c =
+pub sound_is_clear : (last : ℕ) (image : Image) (summary : List ℕ) (accepted : Acceptance) (text : List ℕ) (clear : Bool) →
+    IsSummary (Some last) image summary true → accepted.last ≡ Some last → AreReclaimLines image accepted text clear → clear ≡ true
+sound_is_clear last image summary accepted text clear x given c =
     c.verdict
     ∙ (λ i. is_clear accepted (one_list_of_pages image c.pages x.pages c.held x.held i) (one_scrub image c.found x.found c.scrubbed x.scrubbed i))
     ∙ ap (λ (ds : List Doubt). list_all (is_accepted (accepted_in accepted x.found)) ds) are
-    ∙ all_weaker is_tail (is_accepted (accepted_in accepted x.found)) (doubts (Some last) x.pages x.found) tail_accepted (right (Some last) image x).tails
+    ∙ all_weaker is_tail (is_accepted (accepted_in accepted x.found)) (doubts (Some last) x.pages x.found) tail_accepted (right (Some last) image summary x).tails
   where
     are : doubts_for accepted x.pages x.found ≡ doubts (Some last) x.pages x.found
     are = ap (λ (o : Option ℕ). doubts o x.pages x.found) given
@@ -398,7 +397,7 @@ sound_is_clear last image accepted clear x given c =
         ap (λ (o : Option ℕ). is_last o x.found.choice) given
         ∙ known_last x.found.choice last
         (or_parts (list_any is_odd x.pages) (is_behind (Some last) x.found.choice)
-        (sound_alone_is (is_clean x.found) (list_any is_odd x.pages || is_behind (Some last) x.found.choice) (sym x.verdict_is))).1
+        (sound_alone_is (is_clean_disk x.found) (list_any is_odd x.pages || is_behind (Some last) x.found.choice) (sym x.verdict_is))).1
 
     tail_accepted : (d : Doubt) → is_tail d ≡ true → is_accepted (accepted_in accepted x.found) d ≡ true
     tail_accepted (Tail extent first count) e =

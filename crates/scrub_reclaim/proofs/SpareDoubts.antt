@@ -1,6 +1,5 @@
--- The doubts that spares make, by the locators sorted by place and the sorted extents of candidates.
+-- The doubts that spares make, by the index of the locators and the extents of candidates.
 use Rattle.std.proofs.Common.{◌≡◌, ◌<◌, ◌+◌, ◌==◌, ◌&&◌, ◌||◌, ◌++◌, ◌∷◌, [], ℕ, Bool, true, false, not, cond, List, Some, None, OnOk, Result, get_or, length, map, take, arith, refl, sym, ◌∙◌, ap, subst, append-nil, if◌then◌else◌}
-use Rattle.std.specs.Borrow.{Bor}
 use Rattle.std.specs.List.{Contains, filter, flat_map, list_any, slice_get}
 use Rattle.std.specs.List.Sorted.{IsPermutation}
 use Rattle.std.proofs.lemmas.Bool.{eqb-true, false≢true}
@@ -12,43 +11,16 @@ use Rattle.scrub_scan.specs.declared.standing.Standing.{Standing}
 use Rattle.scrub_scan.specs.Scanned.{Scanned}
 use Rattle.scrub_check.specs.declared.named.Owner.{Owner}
 use Rattle.scrub_check.specs.declared.statuses.checked.Checked.{Checked}
-use Rattle.scrub_check.specs.Checked.{is_sound}
 use Rattle.scrub_check.specs.Live.{has_sound_at}
 use Rattle.scrub_check.specs.Spares.{AreSpares, HaveTheSameCopies, asks_for_spares, is_copy_of, spares_by}
-use Rattle.scrub_check.specs.steps.SoundPlaces.{is_sound_at}
 use Rattle.scrub_check.proofs.Between.{filter_in, filter_out}
-use Rattle.scrub_check.proofs.Counts.{any_counts}
 use Rattle.scrub_listings.proofs.SpareLines.{flat_same}
 use Rattle.scrub_reclaim.specs.declared.doubts.Doubt.{Doubt}
 use Rattle.scrub_reclaim.specs.Doubts.{is_at_risk, spare_doubt, spare_doubts_by, spare_doubts_of, staying}
-use Rattle.scrub_reclaim.specs.Reclaimable.{pointing_to}
 
 pub any_mapped : {X Y : Type 0} (p : Y → Bool) (f : X → Y) (xs : List X) → list_any p (map f xs) ≡ list_any (λ x. p (f x)) xs
 any_mapped p f [] = refl
 any_mapped p f (x ∷ xs) = ap (λ (t : Bool). p (f x) || t) (any_mapped p f xs)
-
--- a sound locator points to a place if one of those that point there is sound
-sound_there : (checked : List Checked) (e p : ℕ) →
-    list_any (λ c. is_sound c.status) (pointing_to checked e p) ≡ list_any (is_sound_at e p) checked
-sound_there [] e p = refl
-sound_there (c ∷ cs) e p = by (is_sound c.status) (c.locator.extent == e) (c.locator.offset == p) (pointing_to cs e p) (sound_there cs e p) refl
-  where
-    by : (s a b : Bool) (rest : List Checked) → list_any (λ d. is_sound d.status) rest ≡ list_any (is_sound_at e p) cs → is_sound c.status ≡ s →
-        list_any (λ d. is_sound d.status) (cond (a && b) (c ∷ rest) rest) ≡ ((s && a && b) || list_any (is_sound_at e p) cs)
-    by true true true rest same is = ap (λ (t : Bool). t || list_any (λ d. is_sound d.status) rest) is
-    by false true true rest same is = ap (λ (t : Bool). t || list_any (λ d. is_sound d.status) rest) is ∙ same
-    by true true false rest same is = same
-    by false true false rest same is = same
-    by true false b rest same is = same
-    by false false b rest same is = same
-
-pub live_there : (checked : List Checked) (some : List (Bor Checked)) (e p : ℕ) → map (λ one. one.now) some ≡ pointing_to checked e p →
-    list_any (λ (one : Bor Checked). is_sound one.now.status) some ≡ has_sound_at checked e p
-live_there checked some e p are =
-    sym (any_mapped (λ c. is_sound c.status) (λ (one : Bor Checked). one.now) some)
-    ∙ ap (list_any (λ c. is_sound c.status)) are
-    ∙ sound_there checked e p
-    ∙ any_counts (is_sound_at e p) checked
 
 -- one more chunk stays, or doesn't
 pub stays_too : (checked : List Checked) (extents : List ℕ) (s : Standing) (b : Bool) (old new : List Standing) →

@@ -1,8 +1,7 @@
 -- Where no spare is accepted and nothing is in doubt, each locator that has a spare keeps one.
-use Rattle.std.proofs.Common.{◌≡◌, ◌≢◌, ◌⊎◌, inl, inr, ◌<◌, ◌==◌, ◌&&◌, ◌||◌, ◌++◌, ◌∷◌, [], ℕ, zero, suc, Bool, true, false, not, List, length, get_or, map, arith, refl, sym, ◌∙◌, ap, subst, if◌then◌else◌}
-use Rattle.std.proofs.Math.Path.{ap₂}
-use Rattle.std.specs.List.{All, Contains, flat_map, list_all, list_any}
-use Rattle.std.proofs.lemmas.Bool.{and_parts, eq-eqb, false≢true, or_right}
+use Rattle.std.proofs.Common.{◌≡◌, ◌≢◌, ◌⊎◌, inl, inr, ◌<◌, ◌==◌, ◌&&◌, ◌||◌, ◌∷◌, [], ℕ, zero, suc, Bool, true, false, not, List, length, get_or, map, arith, refl, sym, ◌∙◌, ap, subst, if◌then◌else◌}
+use Rattle.std.specs.List.{All, Contains, list_all, list_any}
+use Rattle.std.proofs.lemmas.Bool.{eq-eqb, false≢true, or_right}
 use Rattle.std.proofs.lemmas.List.Elements.{All-contains_itself, All-filter, filter_passes}
 use Rattle.scrub_frame.specs.declared.form.Form.TheVariants.{Plain}
 use Rattle.scrub_super.specs.declared.pages.SuperblockPage.{SuperblockPage}
@@ -11,7 +10,7 @@ use Rattle.scrub_check.specs.declared.statuses.checked.Checked.{Checked}
 use Rattle.scrub_check.specs.Candidates.{CandidateValue}
 use Rattle.scrub_check.specs.Live.{has_sound_at}
 use Rattle.scrub_check.specs.Spares.{spares_of}
-use Rattle.scrub_report.specs.Scrubbed.{Scrubbed}
+use Rattle.scrub_found.specs.Scrubbed.{Scrubbed}
 use Rattle.scrub_reclaim.specs.Doubts.{Acceptance, frame_bytes, is_spare}
 use Rattle.scrub_reclaim.specs.declared.doubts.Doubt.{Doubt}
 use Rattle.scrub_reclaim.specs.declared.doubts.Doubt.TheVariants.{Spare}

@@ -12,7 +12,7 @@ use Rattle.scrub_scan.specs.Extent.{Extent, extent_of, FrameAt}
 use Rattle.scrub_scan.specs.Scanned.{Scanned}
 use Rattle.scrub_super.specs.Plan.{PlanValue, pointer_of}
 use Rattle.scrub_check.specs.Live.{is_chunk}
-use Rattle.scrub_report.specs.Scrubbed.{Scrubbed, IsScrubbed}
+use Rattle.scrub_found.specs.Scrubbed.{Scrubbed, IsScrubbed}
 use Rattle.scrub_reclaim.specs.Reset.{IsPlanIn}
 use Rattle.scrub_reclaim.specs.Room.{has_room, place_in}
 

@@ -22,8 +22,8 @@ use Rattle.scrub_check.specs.Live.{has_sound_at}
 use Rattle.scrub_check.specs.Spares.{spares_by, spares_of}
 use Rattle.scrub_check.specs.declared.runs.RunState.{RunState}
 use Rattle.scrub_check.specs.declared.runs.RunState.TheVariants.{Read}
-use Rattle.scrub_report.specs.Scrubbed.{Scrubbed}
-use Rattle.scrub_report.specs.Texts.{owner_text, state_text}
+use Rattle.scrub_found.specs.Scrubbed.{Scrubbed}
+use Rattle.scrub_found.specs.Texts.{owner_text, state_text}
 use Rattle.scrub_listings.specs.Locators.{place_words}
 use Rattle.scrub_listings.specs.Manifest.{is_without_spare}
 use Rattle.scrub_listings.specs.Summary.{counts_as, is_noise, is_torn}

@@ -14,13 +14,12 @@ use Rattle.scrub_scan.specs.declared.standing.Standing.{Standing}
 use Rattle.scrub_check.specs.Candidates.{CandidateValue}
 use Rattle.scrub_check.specs.Live.{has_sound_at}
 use Rattle.scrub_check.specs.Spares.{spares_of}
-use Rattle.scrub_report.specs.declared.parts.Parts.{Parts}
 use Rattle.scrub_report.specs.Report.{report_text}
-use Rattle.scrub_report.specs.Scrubbed.{Scrubbed, IsScrubbed}
-use Rattle.scrub_report.specs.Texts.{owner_text}
+use Rattle.scrub_found.specs.Scrubbed.{Scrubbed, IsScrubbed}
+use Rattle.scrub_found.specs.Texts.{owner_text}
 use Rattle.scrub_listings.specs.Locators.{place_text}
 use Rattle.scrub_reclaim.specs.declared.doubts.Doubt.{Doubt}
-use Rattle.scrub_reclaim.specs.Doubts.{Acceptance, Accepted, accepted_on, are_accepted, doubt_text, doubts, is_accepted, is_named, is_of_remains, is_settled_by_last, is_spare}
+use Rattle.scrub_reclaim.specs.Doubts.{Acceptance, Accepted, accepted_on, are_accepted, doubt_text, doubts, is_accepted, is_named, is_settled_by_last, is_spare}
 use Rattle.scrub_reclaim.specs.Room.{room_lines}
 
 -- ---- the lines of doubts
@@ -103,33 +102,20 @@ reclaimed accepted pages found = if is_clear accepted pages found then found.can
 abbrev pub rooms_for : List CandidateValue → Scrubbed → List ℕ
 rooms_for candidates found = if length candidates == 0 then [] else room_lines found.plan.geometry found.all found.checked candidates
 
-module _ {D : Type 0} {s : _} where
-  -- the lines of the extents with room by the parts that the code keeps, if it is clear
-  abbrev pub rooms_kept : Bool → Parts D s → List ℕ
-  rooms_kept clear p =
-      if length (if clear then p.liveness.candidates.items else []) == 0 then []
-      else room_lines p.judged.scan.plan.geometry p.judged.scan.all.extents p.judged.checked.items (if clear then p.liveness.candidates.items else [])
-
 -- the lines of the doubts, then those of the extents to reclaim, and then those of extents with room
 abbrev pub reclaim_text : Acceptance → List SuperblockPage → Scrubbed → List ℕ
 reclaim_text accepted pages found =
     doubt_lines (accepted_in accepted found) (doubts_for accepted pages found) ++ all_candidate_lines found.checked (reclaimed accepted pages found)
     ++ rooms_for (reclaimed accepted pages found) found
 
--- the text is the lines of the doubts, of the extents to reclaim and of those with room, of what is found in an image
-pub record AreReclaimLines (image : Image) (accepted : Acceptance) (text : List ℕ) : Type 0 where
+-- the text is the lines of the doubts, of the extents to reclaim and of those with room, of what is found in an image; and the
+-- truth value says whether each doubt was accepted, so that no line begins with `doubt`
+pub record AreReclaimLines (image : Image) (accepted : Acceptance) (text : List ℕ) (clear : Bool) : Type 0 where
   pub found : Scrubbed
   pub scrubbed : IsScrubbed image found
   pub pages : List SuperblockPage
   pub held : AreSuperblockPages image pages
   pub text_is : text ≡ reclaim_text accepted pages found
-
--- the truth value says whether each doubt of an image was accepted, so that no line begins with `doubt`
-pub record IsClear (image : Image) (accepted : Acceptance) (clear : Bool) : Type 0 where
-  pub found : Scrubbed
-  pub scrubbed : IsScrubbed image found
-  pub pages : List SuperblockPage
-  pub held : AreSuperblockPages image pages
   pub verdict : clear ≡ is_clear accepted pages found
 
 -- ---- what follows

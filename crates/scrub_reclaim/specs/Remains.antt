@@ -12,7 +12,7 @@ use Rattle.scrub_scan.specs.Scanned.{Scanned}
 use Rattle.scrub_check.specs.declared.statuses.checked.Checked.{Checked}
 use Rattle.scrub_check.specs.Candidates.{CandidateValue}
 use Rattle.scrub_check.specs.Live.{is_chunk}
-use Rattle.scrub_report.specs.Scrubbed.{Scrubbed}
+use Rattle.scrub_found.specs.Scrubbed.{Scrubbed}
 use Rattle.scrub_reclaim.specs.Doubts.{Acceptance, is_gone, is_of_remains}
 use Rattle.scrub_reclaim.specs.Reclaimable.{AcceptsNone, reclaimed}
 

@@ -14,7 +14,7 @@ use Rattle.scrub_scan.specs.Tiling.{IsTiling}
 use Rattle.scrub_check.specs.declared.statuses.checked.Checked.{Checked}
 use Rattle.scrub_check.specs.Candidates.{CandidateValue, has_sound_alone}
 use Rattle.scrub_check.specs.Live.{is_chunk}
-use Rattle.scrub_report.specs.Scrubbed.{is_clean_extent, is_clean_item}
+use Rattle.scrub_found.specs.Scrubbed.{is_clean_extent, is_clean_item}
 
 -- the last of some items is a chunk, of either form
 abbrev pub ends_in_chunk : List Item → Bool

@@ -1,4 +1,5 @@
 -- Steps of the code.
+pub mod Gathered
 pub mod Moves
 pub mod PageDoubts
 pub mod PageRanges

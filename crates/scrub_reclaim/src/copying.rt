@@ -3,8 +3,8 @@
 
 ghost use Rattle.std.specs.Prelude.{◌≡◌, ℕ, All, Bool, List};
 ghost use Rattle.scrub_disk.specs.Image.{Image};
-ghost use Rattle.scrub_report.specs.Scrubbed.{Scrubbed, IsScrubbed};
-ghost use Rattle.scrub_listings.specs.Manifest.{IsManifest, IsWholeImage};
+ghost use Rattle.scrub_found.specs.Scrubbed.{Scrubbed, IsScrubbed};
+ghost use Rattle.scrub_listings.specs.Manifest.{IsManifest};
 ghost use Rattle.scrub_reclaim.specs.Copy.{HoldsCopies, IsAfterCopies, IsSameButSpares, RoomValue};
 ghost use Rattle.scrub_reclaim.specs.Reset.{NameTheSame};
 
@@ -17,10 +17,9 @@ pub fn a_copy_loses_nothing()
     ensures named { (rooms : List RoomValue) (before after : Image) (found rest : Scrubbed) →
         IsAfterCopies rooms before after → IsScrubbed before found → IsScrubbed after rest →
         NameTheSame found rest }
-    ensures manifest { (rooms : List RoomValue) (before after : Image) (a b : List ℕ) →
-        IsAfterCopies rooms before after → IsManifest before a → IsManifest after b → IsSameButSpares a b }
-    ensures whole { (rooms : List RoomValue) (before after : Image) (a b : Bool) →
-        IsAfterCopies rooms before after → IsWholeImage before a → IsWholeImage after b → a ≡ b }
+    ensures manifest { (rooms : List RoomValue) (before after : Image) (a b : List ℕ) (v w : Bool) →
+        IsAfterCopies rooms before after → IsManifest before a v → IsManifest after b w →
+        IsSameButSpares a b × (v ≡ w) }
     ensures holds { (rooms : List RoomValue) (before after : Image) (found rest : Scrubbed) →
         IsAfterCopies rooms before after → IsScrubbed before found → IsScrubbed after rest →
         All (HoldsCopies after found rest) rooms }

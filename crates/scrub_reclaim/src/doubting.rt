@@ -3,22 +3,23 @@
 ghost use Rattle.std.specs.Prelude.{◌≡◌, ◌++◌, IfOk, OnOk};
 ghost use Rattle.std.specs.List.{filter_map, flat_map};
 ghost use Rattle.scrub_scan.specs.Scanned.{scanned};
-ghost use Rattle.scrub_report.specs.Parts.{run_states};
-ghost use Rattle.scrub_reclaim.specs.Doubts.{choice_doubts, doubts_in, ends_past, lost_past, page_doubts};
+ghost use Rattle.scrub_found.specs.Judged.{run_states};
+ghost use Rattle.scrub_reclaim.specs.Doubts.{choice_doubts, ends_past, lost_past, page_doubts};
 ghost use Rattle.scrub_reclaim.specs.Doubts.{last_doubt, last_doubts, range_doubts, run_doubts, run_lost};
 ghost use Rattle.scrub_reclaim.specs.Doubts.{superblock_damaged, superblock_lost, superblock_stray};
 ghost use Rattle.scrub_reclaim.specs.Doubts.{tail_doubts, tail_lost_doubts};
+ghost use Rattle.scrub_reclaim.specs.steps.Gathered.{AreLists, doubts_of};
 ghost use Rattle.scrub_reclaim.specs.steps.PageDoubts.{page_doubt};
 
 use crate::doubts::Doubt;
+use crate::gathered::Gathered;
 use crate::page_ranges::{PageRange, join_pages};
 use crate::remains::add_remains;
 use crate::spare_doubts::add_spares;
 use scrub_check::{RunState, Spares};
 use scrub_disk::{OutOfMemory, PageSource};
+use scrub_found::RunRow;
 use scrub_listings::summary::counts_as;
-use scrub_report::parts::Parts;
-use scrub_report::runs::RunRow;
 use scrub_scan::{AllFindings, ExtentResult};
 use scrub_super::{Chosen, SuperblockPage};
 use std::alloc::Global;
@@ -266,24 +267,19 @@ pub(crate) fn doubts_of<D: PageSource>(
     alloc: Global,
     last: Option<u64>,
     pages: &[SuperblockPage],
-    parts: &Parts<'_, D>,
+    gathered: &Gathered<'_, D>,
 ) -> Result<Vec<Doubt>, OutOfMemory>
-    ensures { IfOk result (λ v.
-        v.items ≡ doubts_in parts.now.judged.scan.chosen last pages.now
-        (run_states parts.now.judged.runs.items)
-        parts.now.judged.scan.plan.geometry.page parts.now.judged.scan.all.extents
-        parts.now.judged.checked.items parts.now.liveness.candidates.items) }
+    requires { AreLists gathered.now }
+    ensures { IfOk result (λ v. v.items ≡ doubts_of last pages.now gathered.now) }
 {
-    let judged = &parts.judged;
-    let scan = &judged.scan;
-    let page = scan.plan.geometry().page();
-    let mut doubts = record_doubts(alloc, last, pages, &scan.chosen, &judged.runs)?;
-    let candidates = &parts.liveness.candidates;
-    let (all, checked) = (&scan.all, &judged.checked);
-    let spares = Spares::of(alloc, all, checked)?;
-    add_spares(alloc, &mut doubts, &spares, checked, candidates)?;
-    add_remains(alloc, &mut doubts, all, &spares, checked, candidates)?;
-    add_tails(&mut doubts, &scan.all)?;
-    add_lost_tails(alloc, &mut doubts, page, &scan.all)?;
+    let judged = &gathered.judged;
+    let (chosen, all) = (&judged.scan.chosen, &judged.scan.all);
+    let page = judged.scan.plan.geometry().page();
+    let mut doubts = record_doubts(alloc, last, pages, chosen, &judged.runs)?;
+    let spares = Spares::of(alloc, all, &judged.checked)?;
+    add_spares(alloc, &mut doubts, &spares, gathered)?;
+    add_remains(&mut doubts, &spares, gathered)?;
+    add_tails(&mut doubts, all)?;
+    add_lost_tails(alloc, &mut doubts, page, all)?;
     Ok(doubts)
 }

@@ -1,20 +1,22 @@
 //! Doubts: what may have hidden a newer superblock, a newer binding, or a chunk past a write pointer; and
 //! which of them were accepted. `doubting` finds them.
 
-ghost use Rattle.std.specs.Prelude.{◌≡◌, ◌++◌, ◌&&◌, IfOk, OnOk, map, string_bytes};
+ghost use Rattle.std.specs.Prelude.{◌≡◌, ◌++◌, ◌∷◌, ◌&&◌, [], IfOk, OnOk, codes, map, string_bytes};
+ghost use Rattle.std.specs.Prelude.{if◌then◌else◌};
 ghost use Rattle.std.specs.List.{list_any};
 ghost use Rattle.std.specs.Str.{bytes_eq};
+ghost use Rattle.scrub_scan.specs.Line.{spaced};
 ghost use Rattle.scrub_reclaim.specs.declared.doubts.Doubt.TheVariants.{Last, Spare};
 ghost use Rattle.scrub_reclaim.specs.Doubts.{accepted_on, are_accepted, doubt_text, generation_text};
 ghost use Rattle.scrub_reclaim.specs.Doubts.{is_accepted, is_last, is_named, is_settled_by_last};
 ghost use Rattle.scrub_reclaim.specs.Doubts.{may_be_accepted};
-ghost use Rattle.scrub_reclaim.specs.Reclaimable.{doubt_line, doubt_lines, doubt_word};
+ghost use Rattle.scrub_reclaim.specs.Reclaimable.{doubt_line, doubt_lines};
 
 use scrub_check::{Owner, RunState};
 use scrub_disk::OutOfMemory;
+use scrub_found::texts::{owner_text, state_text};
 use scrub_listings::listing::PlaceText;
 use scrub_listings::summary::counts_as;
-use scrub_report::texts::{owner_text, state_text};
 use scrub_super::Chosen;
 use std::alloc::Global;
 use std::fmt::Write;
@@ -301,61 +303,65 @@ fn is_accepted(accepted: &Accepted<'_, '_>, doubt: &Doubt, text: &str) -> bool
     is_named(accepted.lines, doubt, text) || is_settled(accepted.is_last, doubt)
 }
 
-/// Whether each of these doubts is accepted.
-pub(crate) fn are_accepted(
-    alloc: Global,
-    accepted: &Accepted<'_, '_>,
-    doubts: &[Doubt],
-) -> Result<bool, OutOfMemory>
-    ensures { IfOk result (λ all. all ≡ are_accepted accepted.now doubts.now) }
-{
-    for doubt in doubts {
-        let text = doubt_text(alloc, doubt)?;
-        if !is_accepted(accepted, doubt, &text) {
-            return Ok(false);
-        }
-    }
-    Ok(true)
+/// The lines of doubts, and what they say together.
+#[derive(Drop)]
+pub(crate) struct DoubtLines {
+    /// A line for each doubt: `doubt` or `accepted`, the kind, and what else it says.
+    pub text: String,
+    /// Whether each doubt is accepted.
+    pub is_clear: bool,
 }
 
-/// The first word of the line of a doubt, whose text is given.
-fn doubt_word(accepted: &Accepted<'_, '_>, doubt: &Doubt, text: &str) -> &'static str
-    requires { text.now ≡ doubt_text doubt.now }
-    ensures { result.now ≡ doubt_word accepted.now doubt.now }
+/// The first word of the line of a doubt, by whether that is accepted.
+fn doubt_word(is_accepted: bool) -> &'static str
+    ensures { result.now ≡ (if is_accepted then codes "accepted" else codes "doubt") }
 {
-    if is_accepted(accepted, doubt, text) {
-        "accepted"
-    } else {
-        "doubt"
-    }
+    if is_accepted { "accepted" } else { "doubt" }
 }
 
-/// Appends a doubt's line, with its line feed.
-fn append_doubt(
-    alloc: Global,
-    lines: &mut String,
-    accepted: &Accepted<'_, '_>,
-    doubt: &Doubt,
-) -> Result<(), OutOfMemory>
+/// Appends the line of a doubt, whose text is given, with its line feed.
+fn append_line(lines: &mut String, is_accepted: bool, text: &str) -> Result<(), OutOfMemory>
     ensures { OnOk result (string_bytes lines.new ≡ string_bytes lines.old ++
-        doubt_line accepted.now doubt.now) }
+        (if is_accepted then codes "accepted" else codes "doubt") ++ spaced text.now ++ 10 ∷ []) }
 {
-    let text = doubt_text(alloc, doubt)?;
-    let word = doubt_word(accepted, doubt, &text);
+    let word = doubt_word(is_accepted);
     writeln!(lines, "{word} {text}")
 }
 
-/// The lines of doubts, in their order: `doubt` or `accepted`, the kind, and what else it says.
+/// Adds a doubt. Its text is made once: the doubt is judged by it, and it is written.
+fn add_doubt(
+    alloc: Global,
+    lines: &mut DoubtLines,
+    accepted: &Accepted<'_, '_>,
+    doubt: &Doubt,
+) -> Result<(), OutOfMemory>
+    ensures text { OnOk result (string_bytes lines.new.text ≡
+        string_bytes lines.old.text ++ doubt_line accepted.now doubt.now) }
+    ensures clear { OnOk result (lines.new.is_clear ≡
+        (lines.old.is_clear && is_accepted accepted.now doubt.now)) }
+{
+    let text = doubt_text(alloc, doubt)?;
+    let passes = is_accepted(accepted, doubt, &text);
+    append_line(&mut lines.text, passes, &text)?;
+    lines.is_clear = lines.is_clear && passes;
+    Ok(())
+}
+
+/// The lines of doubts, in their order, and whether each doubt is accepted.
 pub(crate) fn doubt_lines(
     alloc: Global,
     accepted: &Accepted<'_, '_>,
     doubts: &[Doubt],
-) -> Result<String, OutOfMemory>
-    ensures { IfOk result (λ text. string_bytes text ≡ doubt_lines accepted.now doubts.now) }
+) -> Result<DoubtLines, OutOfMemory>
+    ensures text { IfOk result (λ l. string_bytes l.text ≡ doubt_lines accepted.now doubts.now) }
+    ensures clear { IfOk result (λ l. l.is_clear ≡ are_accepted accepted.now doubts.now) }
 {
-    let mut text = String::new(alloc);
+    let mut lines = DoubtLines {
+        text: String::new(alloc),
+        is_clear: true,
+    };
     for doubt in doubts {
-        append_doubt(alloc, &mut text, accepted, doubt)?;
+        add_doubt(alloc, &mut lines, accepted, doubt)?;
     }
-    Ok(text)
+    Ok(lines)
 }

@@ -6,6 +6,7 @@ mod acting;
 mod copying;
 pub mod doubting;
 pub mod doubts;
+mod gathered;
 mod moves;
 mod page_ranges;
 pub mod reclaiming;

@@ -2,43 +2,44 @@
 //! chunks to move first.
 
 ghost use Rattle.std.specs.Prelude.{◌≡◌, ◌≢◌, ◌++◌, ◌≤◌, ℕ, [], All, Bool, true, List, IfOk, OnOk, Some};
-ghost use Rattle.std.specs.Prelude.{map, string_bytes, if◌then◌else◌};
+ghost use Rattle.std.specs.Prelude.{map, string_bytes};
 ghost use Rattle.std.specs.List.{flat_map};
+ghost use Rattle.std.specs.List.Sorted.{IsPermutation};
 ghost use Rattle.scrub_disk.specs.declared.geometry.Geometry.{Geometry};
 ghost use Rattle.scrub_disk.specs.Image.{Image};
 ghost use Rattle.scrub_super.specs.declared.pages.SuperblockPage.{SuperblockPage};
 ghost use Rattle.scrub_super.specs.Pages.{AreSuperblockPages};
 ghost use Rattle.scrub_scan.specs.Scanned.{Scanned};
 ghost use Rattle.scrub_check.specs.declared.statuses.checked.Checked.{Checked};
-ghost use Rattle.scrub_report.specs.Answer.{AnswerValue, AreTakingsBy, IsScrubAnswer};
-ghost use Rattle.scrub_report.specs.Parts.{IsScan};
+ghost use Rattle.scrub_found.specs.Judged.{IsScan};
+ghost use Rattle.scrub_found.specs.Scrubbed.{Scrubbed, IsScrubbed};
+ghost use Rattle.scrub_found.specs.Takings.{AreTakingsBy};
+ghost use Rattle.scrub_report.specs.Answer.{AnswerValue, IsScrubAnswer};
 ghost use Rattle.scrub_report.specs.Report.{IsReport};
-ghost use Rattle.scrub_report.specs.Scrubbed.{Scrubbed, IsScrubbed};
-ghost use Rattle.scrub_listings.specs.Manifest.{IsManifest, IsManifestBut, IsWholeBut, IsWholeImage};
+ghost use Rattle.scrub_listings.specs.Manifest.{IsManifest, IsManifestBut};
 ghost use Rattle.scrub_reclaim.specs.Doubts.{Acceptance};
+ghost use Rattle.scrub_reclaim.specs.steps.Gathered.{AreLists, lines_if};
 ghost use Rattle.scrub_reclaim.specs.steps.Moves.{AreRisingPlaces, PointAlike, kept_lines, move_text};
 ghost use Rattle.scrub_reclaim.specs.Reclaimable.{AcceptsNoSpare, KeepsSpares, AreMoved, AreOfCandidates};
-ghost use Rattle.scrub_reclaim.specs.Reclaimable.{AreReclaimLines, IsClear, IsListedByLast};
+ghost use Rattle.scrub_reclaim.specs.Reclaimable.{AreReclaimLines, IsListedByLast};
 ghost use Rattle.scrub_reclaim.specs.Reclaimable.{all_candidate_lines, candidate_lines, is_clear};
-ghost use Rattle.scrub_reclaim.specs.Reclaimable.{reclaim_line, reclaimed, rooms_kept};
+ghost use Rattle.scrub_reclaim.specs.Reclaimable.{reclaim_line, reclaimed};
 ghost use Rattle.scrub_reclaim.specs.Remains.{AcceptsNoRemains, KeepsRemains};
 ghost use Rattle.scrub_reclaim.specs.Reset.{AreListedWithoutSpares, IsReclaimed, NameTheSame};
 ghost use Rattle.scrub_reclaim.specs.Room.{IsRoom, place_in, room_if, room_in, room_line};
 
 use crate::doubting::doubts_of;
-use crate::doubts::{Acceptance, are_accepted, doubt_lines};
+use crate::doubts::{Acceptance, doubt_lines};
+use crate::gathered::{Gathered, gathered_of};
 use crate::moves::{by_place, pointing_to};
 use crate::room::append_rooms;
-use scrub_check::{Candidate, Checked, KeptChunk};
+use scrub_check::{Candidate, Checked, ExtentSet, KeptChunk};
 use scrub_disk::{OutOfMemory, PageSource};
+use scrub_found::texts::owner_text;
+use scrub_found::{Scan, ScrubFault, scan_chosen};
 use scrub_listings::Listing;
 use scrub_listings::listing::PlaceText;
 use scrub_pool::{Gate, Takings};
-use scrub_report::ScrubFault;
-use scrub_report::parts::Parts;
-use scrub_report::scanning::{Scan, scan_chosen};
-use scrub_report::scrubbing::parts_of;
-use scrub_report::texts::owner_text;
 use scrub_super::{SuperblockPage, choose_with_pages};
 use std::alloc::Global;
 use std::fmt::Write;
@@ -118,66 +119,48 @@ fn append_candidate(
     append_kept(alloc, text, sorted, candidate.extent(), candidate.chunks())
 }
 
-/// Appends the lines of candidates, in their order. The named locators are sorted once for all of them.
+/// Appends the lines of candidates, in their order. `listed` has their extents. The named locators into these
+/// are sorted once for all of them.
 fn append_candidates(
     alloc: Global,
     text: &mut String,
     checked: &[Checked],
+    listed: &ExtentSet,
     candidates: &[Candidate],
 ) -> Result<(), OutOfMemory>
+    requires { IsPermutation (map (λ a. a.extent) candidates.now) listed.now }
     ensures { OnOk result (string_bytes text.new ≡ string_bytes text.old ++
         all_candidate_lines checked.now candidates.now) }
 {
-    if candidates.is_empty() {
-        return Ok(());
-    }
-    let sorted = by_place(alloc, checked)?;
+    let sorted = by_place(alloc, checked, listed)?;
     for candidate in candidates {
         append_candidate(alloc, text, &sorted, candidate)?;
     }
     Ok(())
 }
 
-/// Appends the lines of the extents to reclaim: of all candidates if `is_clear`, or else of none.
-fn append_reclaimed(
+/// Appends the lines of the extents to reclaim, and of those with room: of all candidates if `is_clear`, or
+/// else of none.
+fn append_reclaimed<D: PageSource>(
     alloc: Global,
     text: &mut String,
     is_clear: bool,
-    checked: &[Checked],
-    candidates: &[Candidate],
+    gathered: &Gathered<'_, D>,
 ) -> Result<(), OutOfMemory>
-    ensures { OnOk result (string_bytes text.new ≡
-        string_bytes text.old ++ all_candidate_lines checked.now (if is_clear then candidates.now else [])) }
+    requires { AreLists gathered.now }
+    ensures { OnOk result (string_bytes text.new ≡ string_bytes text.old ++ lines_if is_clear gathered.now) }
 {
     if !is_clear {
         return Ok(());
     }
-    append_candidates(alloc, text, checked, candidates)
-}
-
-/// Appends the lines of the extents with room, if `is_clear` and there is a candidate.
-fn append_rooms_for<D: PageSource>(
-    alloc: Global,
-    text: &mut String,
-    is_clear: bool,
-    parts: &Parts<'_, D>,
-) -> Result<(), OutOfMemory>
-    ensures { OnOk result (string_bytes text.new ≡ string_bytes text.old ++ rooms_kept is_clear parts.now) }
-{
-    if !is_clear || parts.liveness.candidates.is_empty() {
+    let (judged, listed) = (&gathered.judged, &gathered.listed);
+    if gathered.candidates.is_empty() {
         return Ok(());
     }
-    let judged = &parts.judged;
+    append_candidates(alloc, text, &judged.checked, listed, &gathered.candidates)?;
     let geometry = judged.scan.plan.geometry();
-    let candidates = &parts.liveness.candidates;
-    append_rooms(
-        alloc,
-        text,
-        geometry,
-        &judged.scan.all,
-        &judged.checked,
-        candidates,
-    )
+    let barred = gathered.locators.barred();
+    append_rooms(text, geometry, &judged.scan.all, barred, listed)
 }
 
 /// What can be reclaimed of a scanned disk, whose extent 0 has these pages.
@@ -190,22 +173,17 @@ fn listing_of<R: Threads + Sync, D: PageSource>(
 ) -> Result<Listing, OutOfMemory>
     requires scan { IsScan (D.image scan.disk.now) scan }
     requires pages { AreSuperblockPages (D.image scan.disk.now) pages.now }
-    ensures text { IfOk result (λ l.
-        AreReclaimLines (D.image scan.entry.disk.now) acceptance.now l.text.items) }
-    ensures clear { IfOk result (λ l. IsClear (D.image scan.entry.disk.now) acceptance.now l.is_clean) }
+    ensures { IfOk result (λ l.
+        AreReclaimLines (D.image scan.entry.disk.now) acceptance.now l.text.items l.is_clean) }
 {
-    let parts = parts_of(rt, alloc, scan, &[])?;
-    let doubts = doubts_of(alloc, acceptance.last(), pages, &parts)?;
-    let accepted = acceptance.on(&parts.judged.scan.chosen);
-    let is_clear = are_accepted(alloc, &accepted, &doubts)?;
-    let mut text = doubt_lines(alloc, &accepted, &doubts)?;
-    let candidates = &parts.liveness.candidates;
-    let checked = &parts.judged.checked;
-    append_reclaimed(alloc, &mut text, is_clear, checked, candidates)?;
-    append_rooms_for(alloc, &mut text, is_clear, &parts)?;
+    let gathered = gathered_of(rt, alloc, scan)?;
+    let doubts = doubts_of(alloc, acceptance.last(), pages, &gathered)?;
+    let accepted = acceptance.on(&gathered.judged.scan.chosen);
+    let mut lines = doubt_lines(alloc, &accepted, &doubts)?;
+    append_reclaimed(alloc, &mut lines.text, lines.is_clear, &gathered)?;
     Ok(Listing {
-        text: text.into_bytes(),
-        is_clean: is_clear,
+        text: lines.text.into_bytes(),
+        is_clean: lines.is_clear,
     })
 }
 
@@ -231,12 +209,12 @@ pub fn list_reclaimable<D: PageSource, G: Gate, R: Threads + Wait + Sync>(
     acceptance: &Acceptance<'_, '_>,
 ) -> Result<(Listing, Takings), ScrubFault>
     requires { workers ≤ 64 }
-    ensures text { IfOk result (λ r. AreReclaimLines (D.image disk.now) acceptance.now r.0.text.items) }
-    ensures clear { IfOk result (λ r. IsClear (D.image disk.now) acceptance.now r.0.is_clean) }
+    ensures listing { IfOk result (λ r.
+        AreReclaimLines (D.image disk.now) acceptance.now r.0.text.items r.0.is_clean) }
     ensures takings { IfOk result (λ r. AreTakingsBy (D.image disk.now) workers r.1) }
 {
     let (chosen, pages) = choose_with_pages(alloc, disk)?;
-    let (scan, takings) = scan_chosen(rt, alloc, disk, chosen, workers, gate)?;
+    let (scan, takings) = scan_chosen(rt, alloc, disk, chosen, workers, gate, &[])?;
     let listing = listing_of(rt, alloc, scan, &pages, acceptance)?;
     Ok((listing, takings))
 }
@@ -244,18 +222,15 @@ pub fn list_reclaimable<D: PageSource, G: Gate, R: Threads + Wait + Sync>(
 /// A law: what can be reclaimed of an image has at most one text of lines, and at most one verdict whether it
 /// is clear.
 pub fn one_reclaim_listing()
-    ensures text { (image : Image) (accepted : Acceptance) (a b : List ℕ) →
-        AreReclaimLines image accepted a → AreReclaimLines image accepted b → a ≡ b }
-    ensures clear { (image : Image) (accepted : Acceptance) (a b : Bool) → IsClear image accepted a →
-        IsClear image accepted b → a ≡ b }
+    ensures { (image : Image) (accepted : Acceptance) (a b : List ℕ) (v w : Bool) →
+        AreReclaimLines image accepted a v → AreReclaimLines image accepted b w → (a ≡ b) × (v ≡ w) }
 {}
 
 /// A law: the extents to reclaim are the candidates of the report, in its order, if no line begins with
 /// `doubt`, or else there is none.
 pub fn reclaimed_are_candidates()
     ensures { (image : Image) (accepted : Acceptance) (report text : List ℕ) (clear : Bool) →
-        IsReport image report →
-        AreReclaimLines image accepted text → IsClear image accepted clear →
+        IsReport image report → AreReclaimLines image accepted text clear →
         AreOfCandidates image accepted report text clear }
 {}
 
@@ -303,12 +278,9 @@ pub fn a_reset_loses_nothing()
         (found rest : Scrubbed) →
         IsReclaimed accepted extents before after → IsScrubbed before found → IsScrubbed after rest →
         NameTheSame found rest }
-    ensures spares { (accepted : Acceptance) (extents : List ℕ) (image : Image) (a b : List ℕ) →
-        AreListedWithoutSpares accepted extents image → IsManifestBut extents image a → IsManifest image b →
-        a ≡ b }
-    ensures whole { (accepted : Acceptance) (extents : List ℕ) (image : Image) (a b : Bool) →
-        AreListedWithoutSpares accepted extents image → IsWholeBut extents image a → IsWholeImage image b →
-        a ≡ b }
+    ensures spares { (accepted : Acceptance) (extents : List ℕ) (image : Image) (a b : List ℕ) (v w : Bool) →
+        AreListedWithoutSpares accepted extents image → IsManifestBut extents image a v →
+        IsManifest image b w → (a ≡ b) × (v ≡ w) }
     ensures index { (accepted : Acceptance) (extents : List ℕ) (before after : Image) (a b : AnswerValue) →
         IsReclaimed accepted extents before after → IsScrubAnswer before a → IsScrubAnswer after b →
         a.index ≡ b.index }
@@ -330,7 +302,6 @@ pub fn a_line_shows_room()
 /// A law: each image has a text of the lines of what can be reclaimed, and a verdict whether it is clear,
 /// whatever is accepted. With `one_reclaim_listing`, it has exactly one of each.
 pub fn each_image_has_a_reclaim_listing()
-    ensures text { (image : Image) (accepted : Acceptance) →
-        (text : List ℕ) × AreReclaimLines image accepted text }
-    ensures clear { (image : Image) (accepted : Acceptance) → (clear : Bool) × IsClear image accepted clear }
+    ensures { (image : Image) (accepted : Acceptance) →
+        (text : List ℕ) × (clear : Bool) × AreReclaimLines image accepted text clear }
 {}

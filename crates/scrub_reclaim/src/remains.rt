@@ -2,20 +2,18 @@
 //! and isn't found.
 
 ghost use Rattle.std.specs.Prelude.{◌≡◌, ◌++◌, IfOk, OnOk, find, option_copied};
-ghost use Rattle.std.specs.Ordering.{nat_cmp};
 ghost use Rattle.std.specs.List.{count_by, flat_map};
-ghost use Rattle.std.specs.List.Sorted.{IsSorted};
 ghost use Rattle.scrub_scan.specs.Scanned.{scanned};
 ghost use Rattle.scrub_check.specs.Spares.{AreSpares};
 ghost use Rattle.scrub_reclaim.specs.Doubts.{is_remains, remains_among, remains_doubts, remains_in};
+ghost use Rattle.scrub_reclaim.specs.steps.Gathered.{AreLists};
 ghost use Rattle.scrub_reclaim.specs.steps.Remains.{is_gone_by};
 
 use crate::doubts::Doubt;
-use crate::room::{candidate_extents, has_number, sorted};
-use scrub_check::{Candidate, Checked, Spares};
+use crate::gathered::Gathered;
+use scrub_check::{Checked, ExtentSet, Spares};
 use scrub_disk::{OutOfMemory, PageSource};
 use scrub_scan::{AllFindings, ExtentResult, Item};
-use std::alloc::Global;
 
 /// Whether the chunk of a named locator isn't found, by the spares of all.
 fn is_gone(spares: &Spares, one: &Checked) -> bool
@@ -64,31 +62,29 @@ fn add_in<D: PageSource>(
     Ok(())
 }
 
-/// Adds that doubt, if the extent is among these, which are sorted.
+/// Adds that doubt, if the extent is among these.
 fn add_among<D: PageSource>(
     doubts: &mut Vec<Doubt>,
-    extents: &[u32],
+    extents: &ExtentSet,
     count: usize,
     found: &ExtentResult<'_, D>,
 ) -> Result<(), OutOfMemory>
-    requires { IsSorted nat_cmp extents.now }
     ensures { OnOk result (doubts.new.items ≡
         doubts.old.items ++ remains_among extents.now count (scanned found.now)) }
 {
-    if !has_number(extents, found.extent()) {
+    if !extents.has(found.extent()) {
         return Ok(());
     }
     add_in(doubts, count, found)
 }
 
-/// Adds the doubts of those scanned extents that are among these, which are sorted.
+/// Adds the doubts of those scanned extents that are among these.
 fn add_all<D: PageSource>(
     doubts: &mut Vec<Doubt>,
-    extents: &[u32],
+    extents: &ExtentSet,
     count: usize,
     all: &AllFindings<'_, D>,
 ) -> Result<(), OutOfMemory>
-    requires { IsSorted nat_cmp extents.now }
     ensures { OnOk result (doubts.new.items ≡
         doubts.old.items ++ flat_map (remains_among extents.now count) all.now.extents) }
 {
@@ -98,23 +94,22 @@ fn add_all<D: PageSource>(
     Ok(())
 }
 
-/// Adds the doubts that remains make if the candidates are reset, by the spares of the named locators.
+/// Adds the doubts that remains make if the candidates are reset, by the spares of the judged locators.
 pub(crate) fn add_remains<D: PageSource>(
-    alloc: Global,
     doubts: &mut Vec<Doubt>,
-    all: &AllFindings<'_, D>,
     spares: &Spares,
-    checked: &[Checked],
-    candidates: &[Candidate],
+    gathered: &Gathered<'_, D>,
 ) -> Result<(), OutOfMemory>
-    requires { AreSpares all.now.extents checked.now spares.now }
+    requires lists { AreLists gathered.now }
+    requires spares { AreSpares gathered.now.judged.scan.all.extents gathered.now.judged.checked.items
+        spares.now }
     ensures { OnOk result (doubts.new.items ≡ doubts.old.items ++
-        remains_doubts all.now.extents checked.now candidates.now) }
+        remains_doubts gathered.now.judged.scan.all.extents gathered.now.judged.checked.items
+        gathered.now.candidates.items) }
 {
-    let count = gone_count(spares, checked);
+    let count = gone_count(spares, &gathered.judged.checked);
     if count == 0 {
         return Ok(());
     }
-    let extents = sorted(candidate_extents(alloc, candidates)?)?;
-    add_all(doubts, &extents, count, all)
+    add_all(doubts, &gathered.listed, count, &gathered.judged.scan.all)
 }

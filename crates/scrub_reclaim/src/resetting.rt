@@ -3,16 +3,14 @@
 
 ghost use Rattle.std.specs.Prelude.{◌≡◌, Bool, List, ℕ};
 ghost use Rattle.scrub_disk.specs.Image.{Image};
-ghost use Rattle.scrub_listings.specs.Manifest.{IsManifest, IsManifestBut, IsWholeBut, IsWholeImage};
+ghost use Rattle.scrub_listings.specs.Manifest.{IsManifest, IsManifestBut};
 ghost use Rattle.scrub_reclaim.specs.Reset.{IsForeseen};
 
 /// A law: a reset is foreseen. Once extents have been reset, and their write pointers are 0, the manifest and
 /// the exit status are those that the image had before as if they had been reset, whatever these extents hold
 /// now.
 pub fn a_reset_is_foreseen()
-    ensures text { (extents : List ℕ) (before after : Image) (a b : List ℕ) →
+    ensures { (extents : List ℕ) (before after : Image) (a b : List ℕ) (v w : Bool) →
         IsForeseen extents before after →
-        IsManifestBut extents before a → IsManifest after b → a ≡ b }
-    ensures whole { (extents : List ℕ) (before after : Image) (a b : Bool) → IsForeseen extents before after →
-        IsWholeBut extents before a → IsWholeImage after b → a ≡ b }
+        IsManifestBut extents before a v → IsManifest after b w → (a ≡ b) × (v ≡ w) }
 {}

@@ -1,71 +1,28 @@
 //! Where a chunk can be put: the room of each extent, as lines. `reclaiming` writes them after the
 //! candidates.
 
-ghost use Rattle.std.specs.Prelude.{◌≡◌, ◌<◌, ◌++◌, ◌==◌, List, IfOk, OnOk, map, not};
-ghost use Rattle.std.specs.Prelude.{string_bytes};
-ghost use Rattle.std.specs.Ordering.{nat_cmp};
-ghost use Rattle.std.specs.List.{filter, list_any};
-ghost use Rattle.std.specs.List.Sorted.{IsPermutation, IsSorted};
+ghost use Rattle.std.specs.Prelude.{◌≡◌, ◌<◌, ◌++◌, List, OnOk, map, string_bytes};
+ghost use Rattle.std.specs.List.Sorted.{IsPermutation};
 ghost use Rattle.scrub_scan.specs.Scanned.{scanned};
 ghost use Rattle.scrub_check.specs.declared.statuses.checked.Checked.{Checked};
-ghost use Rattle.scrub_check.specs.Checked.{is_sound};
-ghost use Rattle.scrub_check.specs.Live.{is_chunk};
+ghost use Rattle.scrub_check.specs.Candidates.{CandidateValue};
 ghost use Rattle.scrub_check.specs.steps.LocatorIndex.{AreBarredExtents};
 ghost use Rattle.scrub_reclaim.specs.Room.{ends_in_chunk, is_listed_as, is_zero_to, next_place, room_if};
 ghost use Rattle.scrub_reclaim.specs.Room.{room_line, room_lines, room_where, rooms_where};
 ghost use Rattle.scrub_reclaim.specs.steps.Room.{may_grow_by, room_text};
 
-use scrub_check::{Candidate, Checked};
+use scrub_check::{ExtentSet, is_chunk};
 use scrub_disk::{Geometry, OutOfMemory, PageSource};
+use scrub_found::clean::is_clean_extent;
 use scrub_frame::Form;
-use scrub_report::clean::is_clean_extent;
 use scrub_scan::{AllFindings, ExtentResult, Item};
-use std::alloc::Global;
 use std::fmt::Write;
 
-/// The extents of the locators that aren't sound, in the order of the locators.
-pub fn unsound_extents(alloc: Global, checked: &[Checked]) -> Result<Vec<u32>, OutOfMemory>
-    ensures { IfOk result (λ v. v.items ≡
-        map (λ c. c.locator.extent) (filter (λ c. not (is_sound c.status)) checked.now)) }
+/// Whether a chunk can be put into an extent; `barred` has those into which an unsound locator points.
+pub fn may_grow<D: PageSource>(barred: &ExtentSet, found: &ExtentResult<'_, D>) -> bool
+    ensures { result ≡ may_grow_by barred.now (scanned found.now) }
 {
-    checked
-        .iter()
-        .filter(|one| !one.status.is_sound())
-        .map(|one| one.locator.extent)
-        .collect(alloc)
-}
-
-/// Numbers in order.
-pub fn sorted(mut numbers: Vec<u32>) -> Result<Vec<u32>, OutOfMemory>
-    ensures sorted { IfOk result (λ v. IsSorted nat_cmp v.items) }
-    ensures same { IfOk result (λ v. IsPermutation numbers.items v.items) }
-{
-    numbers.sort()?;
-    Ok(numbers)
-}
-
-/// Whether a number is among sorted ones.
-pub(crate) fn has_number(numbers: &[u32], number: u32) -> bool
-    requires { IsSorted nat_cmp numbers.now }
-    ensures { result ≡ list_any (λ n. n == number) numbers.now }
-{
-    numbers.binary_search(&number).is_ok()
-}
-
-/// Whether a chunk can be put into an extent; `unsound` has the sorted numbers of those into which an unsound
-/// locator points.
-pub fn may_grow<D: PageSource>(unsound: &[u32], found: &ExtentResult<'_, D>) -> bool
-    requires { IsSorted nat_cmp unsound.now }
-    ensures { result ≡ may_grow_by unsound.now (scanned found.now) }
-{
-    is_clean_extent(found) && !has_number(unsound, found.extent())
-}
-
-/// Whether an item is a chunk.
-fn is_chunk(item: &Item) -> bool
-    ensures { result ≡ is_chunk item.now }
-{
-    matches!(item, Item::Chunk { .. })
+    is_clean_extent(found) && !barred.has(found.extent())
 }
 
 /// Whether the last of some items is a chunk.
@@ -139,26 +96,24 @@ fn append_room_if<D: PageSource>(
     text: &mut String,
     is_listed: bool,
     geometry: Geometry,
-    unsound: &[u32],
+    barred: &ExtentSet,
     found: &ExtentResult<'_, D>,
 ) -> Result<(), OutOfMemory>
-    requires { IsSorted nat_cmp unsound.now }
-    ensures { (checked : List Checked) → AreBarredExtents checked unsound.now →
+    ensures { (checked : List Checked) → AreBarredExtents checked barred.now →
         OnOk result (string_bytes text.new ≡ string_bytes text.old ++
         room_if is_listed geometry checked (scanned found.now)) }
 {
-    if !may_grow(unsound, found) {
+    if !may_grow(barred, found) {
         return Ok(());
     }
     append_room(text, is_listed, geometry, found)
 }
 
-/// Whether an extent is among the listed ones, which are sorted, or isn't, as wanted.
-fn is_listed_as(is_listed: bool, listed: &[u32], extent: u32) -> bool
-    requires { IsSorted nat_cmp listed.now }
+/// Whether an extent is among the listed ones, or isn't, as wanted.
+fn is_listed_as(is_listed: bool, listed: &ExtentSet, extent: u32) -> bool
     ensures { result ≡ is_listed_as is_listed listed.now extent }
 {
-    has_number(listed, extent) == is_listed
+    listed.has(extent) == is_listed
 }
 
 /// Appends the line of an extent that is listed, or isn't, as wanted, if it has room.
@@ -166,20 +121,18 @@ fn append_room_where<D: PageSource>(
     text: &mut String,
     is_listed: bool,
     geometry: Geometry,
-    unsound: &[u32],
-    listed: &[u32],
+    barred: &ExtentSet,
+    listed: &ExtentSet,
     found: &ExtentResult<'_, D>,
 ) -> Result<(), OutOfMemory>
-    requires unsound { IsSorted nat_cmp unsound.now }
-    requires listed { IsSorted nat_cmp listed.now }
-    ensures { (checked : List Checked) → AreBarredExtents checked unsound.now →
+    ensures { (checked : List Checked) → AreBarredExtents checked barred.now →
         OnOk result (string_bytes text.new ≡ string_bytes text.old ++
         room_where is_listed geometry checked listed.now (scanned found.now)) }
 {
     if !is_listed_as(is_listed, listed, found.extent()) {
         return Ok(());
     }
-    append_room_if(text, is_listed, geometry, unsound, found)
+    append_room_if(text, is_listed, geometry, barred, found)
 }
 
 /// Appends the lines of the extents with room that are listed, or aren't, as wanted, ascending.
@@ -187,46 +140,34 @@ fn append_rooms_where<D: PageSource>(
     text: &mut String,
     is_listed: bool,
     geometry: Geometry,
-    unsound: &[u32],
-    listed: &[u32],
+    barred: &ExtentSet,
+    listed: &ExtentSet,
     all: &AllFindings<'_, D>,
 ) -> Result<(), OutOfMemory>
-    requires unsound { IsSorted nat_cmp unsound.now }
-    requires listed { IsSorted nat_cmp listed.now }
-    ensures { (checked : List Checked) → AreBarredExtents checked unsound.now →
+    ensures { (checked : List Checked) → AreBarredExtents checked barred.now →
         OnOk result (string_bytes text.new ≡ string_bytes text.old ++
         rooms_where is_listed geometry all.now.extents checked listed.now) }
 {
     for found in all.results() {
-        append_room_where(text, is_listed, geometry, unsound, listed, found)?;
+        append_room_where(text, is_listed, geometry, barred, listed, found)?;
     }
     Ok(())
 }
 
-/// The extents of candidates, in their order.
-pub(crate) fn candidate_extents(
-    alloc: Global,
-    candidates: &[Candidate],
-) -> Result<Vec<u32>, OutOfMemory>
-    ensures { IfOk result (λ v. v.items ≡ map (λ a. a.extent) candidates.now) }
-{
-    candidates.iter().map(|one| one.extent()).collect(alloc)
-}
-
-/// Appends the lines of the extents with room that aren't candidates, and then those of the candidates.
+/// Appends the lines of the extents with room that aren't candidates, and then those of the candidates, whose
+/// extents are listed.
 pub(crate) fn append_rooms<D: PageSource>(
-    alloc: Global,
     text: &mut String,
     geometry: Geometry,
     all: &AllFindings<'_, D>,
-    checked: &[Checked],
-    candidates: &[Candidate],
+    barred: &ExtentSet,
+    listed: &ExtentSet,
 ) -> Result<(), OutOfMemory>
-    ensures { OnOk result (string_bytes text.new ≡
-        string_bytes text.old ++ room_lines geometry all.now.extents checked.now candidates.now) }
+    ensures { (checked : List Checked) (candidates : List CandidateValue) →
+        AreBarredExtents checked barred.now → IsPermutation (map (λ a. a.extent) candidates) listed.now →
+        OnOk result (string_bytes text.new ≡
+        string_bytes text.old ++ room_lines geometry all.now.extents checked candidates) }
 {
-    let unsound = sorted(unsound_extents(alloc, checked)?)?;
-    let listed = sorted(candidate_extents(alloc, candidates)?)?;
-    append_rooms_where(text, false, geometry, &unsound, &listed, all)?;
-    append_rooms_where(text, true, geometry, &unsound, &listed, all)
+    append_rooms_where(text, false, geometry, barred, listed, all)?;
+    append_rooms_where(text, true, geometry, barred, listed, all)
 }

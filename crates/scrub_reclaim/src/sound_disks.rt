@@ -4,11 +4,12 @@ ghost use Rattle.std.specs.Prelude.{◌≡◌, ◌<◌, ℕ, Bool, true, List, O
 ghost use Rattle.scrub_disk.specs.Image.{Image};
 ghost use Rattle.scrub_super.specs.declared.pages.SuperblockPage.{SuperblockPage};
 ghost use Rattle.scrub_super.specs.Pages.{AreHeldBytes, AreSuperblockPages};
-ghost use Rattle.scrub_report.specs.Scrubbed.{IsCleanImage, IsScrubbed, Scrubbed};
-ghost use Rattle.scrub_listings.specs.Manifest.{IsWholeImage};
-ghost use Rattle.scrub_listings.specs.Summary.{IsSoundImage, is_sound_verdict, verdict};
+ghost use Rattle.scrub_found.specs.Scrubbed.{IsScrubbed, Scrubbed};
+ghost use Rattle.scrub_report.specs.Answer.{AnswerValue, IsScrubAnswer};
+ghost use Rattle.scrub_listings.specs.Manifest.{IsManifest};
+ghost use Rattle.scrub_listings.specs.Summary.{IsSummary, is_sound_verdict, verdict};
 ghost use Rattle.scrub_reclaim.specs.Doubts.{Acceptance};
-ghost use Rattle.scrub_reclaim.specs.Reclaimable.{IsClear};
+ghost use Rattle.scrub_reclaim.specs.Reclaimable.{AreReclaimLines};
 ghost use Rattle.scrub_reclaim.specs.AllRight.{IsAllRight};
 
 /// A law: a disk that is sound is clean, nothing is missing of it, no page of its extent 0 is lost, damaged
@@ -21,14 +22,14 @@ pub fn a_sound_disk_is_all_right()
         IsScrubbed image found →
         AreSuperblockPages image pages → is_sound_verdict (verdict last found pages) ≡ true →
         IsAllRight last pages found }
-    ensures clean { (last : Option ℕ) (image : Image) → IsSoundImage last image true →
-        IsCleanImage image true }
-    ensures whole { (last : Option ℕ) (image : Image) → IsSoundImage last image true →
-        IsWholeImage image true }
-    ensures held { (last : Option ℕ) (image : Image) (q : ℕ) (bytes : List ℕ) →
-        IsSoundImage last image true → q < image.geometry.pages →
+    ensures clean { (last : Option ℕ) (image : Image) (summary : List ℕ) → IsSummary last image summary true →
+        (answer : AnswerValue) → IsScrubAnswer image answer → answer.is_clean ≡ true }
+    ensures whole { (last : Option ℕ) (image : Image) (summary : List ℕ) → IsSummary last image summary true →
+        (text : List ℕ) (whole : Bool) → IsManifest image text whole → whole ≡ true }
+    ensures held { (last : Option ℕ) (image : Image) (summary : List ℕ) (q : ℕ) (bytes : List ℕ) →
+        IsSummary last image summary true → q < image.geometry.pages →
         image.page 0 q ≡ Some bytes → AreHeldBytes image q bytes }
-    ensures clear { (last : ℕ) (image : Image) (accepted : Acceptance) (clear : Bool) →
-        IsSoundImage (Some last) image true → accepted.last ≡ Some last →
-        IsClear image accepted clear → clear ≡ true }
+    ensures clear { (last : ℕ) (image : Image) (summary : List ℕ) (accepted : Acceptance) (text : List ℕ)
+        (clear : Bool) → IsSummary (Some last) image summary true → accepted.last ≡ Some last →
+        AreReclaimLines image accepted text clear → clear ≡ true }
 {}

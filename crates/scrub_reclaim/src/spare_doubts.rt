@@ -1,41 +1,21 @@
 //! The doubts that spares make: of each locator whose spares a reset might all take, the first one.
 
 ghost use Rattle.std.specs.Prelude.{◌≡◌, ◌++◌, ◌∷◌, ◌&&◌, [], List, IfOk, OnOk, not};
-ghost use Rattle.std.specs.Ordering.{nat_cmp};
-ghost use Rattle.std.specs.List.{flat_map, list_any};
-ghost use Rattle.std.specs.List.Sorted.{IsSorted};
+ghost use Rattle.std.specs.List.{flat_map};
 ghost use Rattle.scrub_scan.specs.Scanned.{Scanned};
 ghost use Rattle.scrub_check.specs.declared.statuses.checked.Checked.{Checked};
-ghost use Rattle.scrub_check.specs.Checked.{is_sound};
-ghost use Rattle.scrub_check.specs.Live.{has_sound_at};
 ghost use Rattle.scrub_check.specs.Spares.{AreSpares};
+ghost use Rattle.scrub_check.specs.steps.LocatorIndex.{IsLocatorIndex};
 ghost use Rattle.scrub_reclaim.specs.Doubts.{frame_bytes, is_at_risk, spare_doubt, spare_doubts};
 ghost use Rattle.scrub_reclaim.specs.Doubts.{spare_doubts_by, staying};
-ghost use Rattle.scrub_reclaim.specs.steps.Moves.{AreRisingPlaces, PointAlike};
+ghost use Rattle.scrub_reclaim.specs.steps.Gathered.{AreLists};
 
 use crate::doubts::Doubt;
-use crate::moves::{by_place, pointing_to};
-use crate::room::{candidate_extents, has_number, sorted};
-use scrub_check::{Candidate, Checked, Owner, Spares};
-use scrub_disk::OutOfMemory;
+use crate::gathered::Gathered;
+use scrub_check::{Checked, ExtentSet, LocatorIndex, Owner, Spares};
+use scrub_disk::{OutOfMemory, PageSource};
 use scrub_scan::Standing;
 use std::alloc::Global;
-
-/// Whether one of these locators is sound.
-fn has_sound(some: &[&Checked]) -> bool
-    ensures { result ≡ list_any (λ one. is_sound one.now.status) some.now }
-{
-    some.iter().any(|one| one.status.is_sound())
-}
-
-/// Whether a sound locator points to a chunk; the locators are sorted by place.
-fn is_live(sorted: &[&Checked], chunk: &Standing) -> bool
-    requires { AreRisingPlaces sorted.now }
-    ensures { (checked : List Checked) → PointAlike checked sorted.now →
-        result ≡ has_sound_at checked chunk.now.extent chunk.now.offset }
-{
-    has_sound(pointing_to(sorted, chunk.extent, chunk.offset))
-}
 
 /// Whether a chunk that is live or not, in a candidate or not, might be lost.
 fn is_risk(is_live: bool, is_candidate: bool) -> bool
@@ -44,29 +24,26 @@ fn is_risk(is_live: bool, is_candidate: bool) -> bool
     !is_live && is_candidate
 }
 
-/// Whether a reset of these extents, which are sorted, might take a spare; the locators are sorted by place.
-fn is_at_risk(sorted: &[&Checked], extents: &[u32], spare: &Standing) -> bool
-    requires places { AreRisingPlaces sorted.now }
-    requires extents { IsSorted nat_cmp extents.now }
-    ensures { (checked : List Checked) → PointAlike checked sorted.now → result ≡
+/// Whether a reset of these extents might take a spare.
+fn is_at_risk(locators: &LocatorIndex, extents: &ExtentSet, spare: &Standing) -> bool
+    ensures { (checked : List Checked) → IsLocatorIndex checked locators.now → result ≡
         is_at_risk checked extents.now spare.now }
 {
-    is_risk(is_live(sorted, spare), has_number(extents, spare.extent))
+    let is_live = locators.has_sound(spare.extent, spare.offset);
+    is_risk(is_live, extents.has(spare.extent))
 }
 
 /// Adds a chunk, unless a reset of these extents might take it.
 fn add_staying(
     stay: &mut Vec<Standing>,
-    sorted: &[&Checked],
-    extents: &[u32],
+    locators: &LocatorIndex,
+    extents: &ExtentSet,
     spare: &Standing,
 ) -> Result<(), OutOfMemory>
-    requires places { AreRisingPlaces sorted.now }
-    requires extents { IsSorted nat_cmp extents.now }
-    ensures { (checked : List Checked) → PointAlike checked sorted.now →
+    ensures { (checked : List Checked) → IsLocatorIndex checked locators.now →
         OnOk result (stay.new.items ≡ stay.old.items ++ staying checked extents.now (spare.now ∷ [])) }
 {
-    if is_at_risk(sorted, extents, spare) {
+    if is_at_risk(locators, extents, spare) {
         return Ok(());
     }
     stay.push(*spare)?;
@@ -76,18 +53,16 @@ fn add_staying(
 /// Those of some chunks that no reset of these extents takes, in their order.
 fn staying(
     alloc: Global,
-    sorted: &[&Checked],
-    extents: &[u32],
+    locators: &LocatorIndex,
+    extents: &ExtentSet,
     some: &[Standing],
 ) -> Result<Vec<Standing>, OutOfMemory>
-    requires places { AreRisingPlaces sorted.now }
-    requires extents { IsSorted nat_cmp extents.now }
-    ensures { (checked : List Checked) → PointAlike checked sorted.now →
+    ensures { (checked : List Checked) → IsLocatorIndex checked locators.now →
         IfOk result (λ v. v.items ≡ staying checked extents.now some.now) }
 {
     let mut stay = Vec::new(alloc);
     for spare in some {
-        add_staying(&mut stay, sorted, extents, spare)?;
+        add_staying(&mut stay, locators, extents, spare)?;
     }
     Ok(stay)
 }
@@ -148,20 +123,20 @@ fn add_all(
     Ok(())
 }
 
-/// Adds the doubts that these spares of the named locators make if the candidates are reset. Each spare is
+/// Adds the doubts that these spares of the judged locators make if the candidates are reset. Each spare is
 /// looked at once.
-pub(crate) fn add_spares(
+pub(crate) fn add_spares<D: PageSource>(
     alloc: Global,
     doubts: &mut Vec<Doubt>,
     spares: &Spares,
-    checked: &[Checked],
-    candidates: &[Candidate],
+    gathered: &Gathered<'_, D>,
 ) -> Result<(), OutOfMemory>
-    ensures { (all : List Scanned) → AreSpares all checked.now spares.now →
-        OnOk result (doubts.new.items ≡ doubts.old.items ++ spare_doubts all checked.now candidates.now) }
+    requires { AreLists gathered.now }
+    ensures { (all : List Scanned) → AreSpares all gathered.now.judged.checked.items spares.now →
+        OnOk result (doubts.new.items ≡ doubts.old.items ++
+        spare_doubts all gathered.now.judged.checked.items gathered.now.candidates.items) }
 {
-    let places = by_place(alloc, checked)?;
-    let extents = sorted(candidate_extents(alloc, candidates)?)?;
-    let stay = Spares::among(staying(alloc, &places, &extents, spares.all())?)?;
-    add_all(doubts, spares, &stay, checked)
+    let safe = staying(alloc, &gathered.locators, &gathered.listed, spares.all())?;
+    let stay = Spares::among(safe)?;
+    add_all(doubts, spares, &stay, &gathered.judged.checked)
 }

@@ -9,8 +9,7 @@ use std::io::Write;
 use std::sync::Wait;
 use std::thread::Threads;
 
-/// Which calls are wanted. A call is named by its path and a second word: a number of workers, `many`, or
-/// nothing.
+/// Which calls are wanted. A call is named by its path and a second word: a number of workers, or nothing.
 #[derive(Clone, Copy)]
 pub enum Selection<'a> {
     /// Only the names of all calls.

@@ -4,7 +4,7 @@ use crate::calls::Trial;
 use crate::disks::{NINE_STATUSES, names_in, names_with_status};
 use crate::ending::{Stop, Wanted, right};
 use crate::runs::is_one_shard;
-use scrub_check::{Named, ReadRuns, RunState};
+use scrub_check::{ReadRuns, RunState};
 use scrub_fakes::worked::{
     broken_newest_run, deleted_in_the_newest_run, nine_locators, nine_of_a_shard,
 };
@@ -95,29 +95,10 @@ pub fn check_all<R: Threads + Sync>(rt: &R, alloc: Global, wanted: Wanted) -> Re
     right(checked.as_slice() == expected.as_slice())
 }
 
-/// So many locators that it is noted where items are, before they are looked for: 4,096 times that of the
-/// run.
-pub fn check_many<R: Threads + Sync>(rt: &R, alloc: Global, wanted: Wanted) -> Result<(), Stop> {
-    let (disk, run) = nine_locators(alloc)?;
-    let plan = plan_of(alloc, &disk)?;
-    let all = scan_in_order(alloc, &disk, &plan)?;
-    let expected = names_with_status(alloc, run)?;
-    let one = *expected.first().ok_or(Stop::Wrong)?;
-    let named = Named {
-        owner: one.owner,
-        locator: one.locator,
-    };
-    let named = vec![in alloc; named; 4_096]?;
-    wanted.made()?;
-    let checked = scrub_check::check_all(rt, alloc, &disk, &plan, &all, &named)?;
-    right(checked.len() == 4_096 && checked.iter().all(|found| *found == one))
-}
-
 /// The calls of this module.
 pub fn calls<R: Threads + Sync, O: Write>(rt: &R, alloc: Global, trial: &mut Trial<'_, O>) {
     made!(trial, "read_runs", "", wanted => read_runs(alloc, wanted));
     made!(trial, "status_of", "", wanted => status_of(alloc, wanted));
     made!(trial, "named_locators", "", wanted => named_locators(alloc, wanted));
     made!(trial, "check_all", "", wanted => check_all(rt, alloc, wanted));
-    made!(trial, "check_all", "many", wanted => check_many(rt, alloc, wanted));
 }

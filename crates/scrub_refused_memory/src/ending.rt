@@ -2,9 +2,9 @@
 
 use scrub_disk::{LoadFault, OutOfMemory};
 use scrub_fakes::Misfit;
+use scrub_found::ScrubFault;
 use scrub_frame::FrameFault;
 use scrub_pool::PoolFault;
-use scrub_report::ScrubFault;
 use scrub_run::RunFault;
 use std::alloc::AllocFailed;
 

@@ -1,9 +1,9 @@
 //! Makes calls that can run out of memory, on small values, so that `tests/test_memory.py` can refuse each of
 //! their growths in turn. Arguments: the name of the call; for a call with workers how many there are beside
-//! the caller, or `many` for many locators; and `answered`, or `made` to make only the values of the call.
-//! Prints `right` with status 0, `out of memory` with status 4 if a growth was refused, or `wrong` with
-//! status 1. Without arguments it makes each call once, and prints its name before the answer. `calls` lists
-//! the calls.
+//! the caller; and `answered`, or `made` to make only the values of the call. Prints `right` with status 0,
+//! `out of memory` with status 4 if a growth was refused, or `wrong` with status 1. Without arguments it
+//! makes each call once, and prints its name before the answer. `calls` lists the calls. Public calls that
+//! aren't here are made by whole runs, each allocation of which the same test refuses.
 #![tactic(auto)]
 
 /// A row for a call: the two words that name it, and the function that makes it as far as wanted.

@@ -6,7 +6,7 @@ use scrub_fakes::payloads::{one_shard_payload, payload_of_each};
 use scrub_fakes::published::NO_SHARDS;
 use scrub_fakes::{SHARD, abc_at};
 use scrub_merge::ShardMap;
-use scrub_run::{Entry, Run, RunFault, RunWriter};
+use scrub_run::{Entry, Run, RunFault};
 use std::alloc::Global;
 use std::io::Write;
 use std::slice;
@@ -17,28 +17,6 @@ pub fn write_run(alloc: Global, wanted: Wanted) -> Result<(), Stop> {
     let entry = Entry::new(SHARD, Vec::from_slice(alloc, &[abc_at(1, 0)])?);
     wanted.made()?;
     let written = scrub_run::write_run(alloc, slice::from_ref(&entry))?;
-    right(written.as_slice() == payload.as_slice())
-}
-
-/// The same by a writer without room for the locator.
-pub fn append_entry(alloc: Global, wanted: Wanted) -> Result<(), Stop> {
-    let payload = one_shard_payload(alloc)?;
-    let entry = Entry::new(SHARD, Vec::from_slice(alloc, &[abc_at(1, 0)])?);
-    let mut run = RunWriter::new(alloc, 1, 0)?;
-    wanted.made()?;
-    run.append(&entry)?;
-    let written = run.finish()?;
-    right(written.as_slice() == payload.as_slice())
-}
-
-/// The digest of the same run, by the same writer.
-pub fn finish_run(alloc: Global, wanted: Wanted) -> Result<(), Stop> {
-    let payload = one_shard_payload(alloc)?;
-    let entry = Entry::new(SHARD, Vec::from_slice(alloc, &[abc_at(1, 0)])?);
-    let mut run = RunWriter::new(alloc, 1, 0)?;
-    run.append(&entry)?;
-    wanted.made()?;
-    let written = run.finish()?;
     right(written.as_slice() == payload.as_slice())
 }
 
@@ -129,8 +107,6 @@ pub fn merge(alloc: Global, wanted: Wanted) -> Result<(), Stop> {
 /// The calls of this module.
 pub fn calls<O: Write>(alloc: Global, trial: &mut Trial<'_, O>) {
     made!(trial, "write_run", "", wanted => write_run(alloc, wanted));
-    made!(trial, "RunWriter::append", "", wanted => append_entry(alloc, wanted));
-    made!(trial, "RunWriter::finish", "", wanted => finish_run(alloc, wanted));
     made!(trial, "read_run", "", wanted => read_run(alloc, wanted));
     made!(trial, "merge", "", wanted => merge(alloc, wanted));
 }

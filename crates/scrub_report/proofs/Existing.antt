@@ -1,93 +1,12 @@
--- Each image has all that a scan finds on it, also as if extents had been reset; so it has a report, an index and a verdict.
-use Rattle.std.proofs.Common.{◌≡◌, ◌-◌, ◌∷◌, ◌++◌, [], ℕ, zero, suc, List, length, replicate, true, false, arith, refl, sym, ◌∙◌, ap, subst, Option, Some, None, IfSome, All, MatchOption}
-use Rattle.std.specs.List.Sorted.{IsPermutation, IsStrictlyIncreasing}
-use Rattle.std.proofs.lemmas.List.{append-nil, length-replicate}
-use Rattle.std.proofs.lemmas.List.Elements.{All-cons, All-replicate}
-use Rattle.std.proofs.lemmas.List.Sorted.{IsPermutation-refl}
+-- Each image has a report, an index and a verdict.
+use Rattle.std.proofs.Common.{◌≡◌, [], ℕ, List, refl}
 use Rattle.scrub_disk.specs.Image.{Image}
-use Rattle.scrub_super.specs.Chosen.{Choice, IsChoice}
-use Rattle.scrub_super.specs.Plan.{IsPlan, PlanValue}
-use Rattle.scrub_super.specs.Reset.{pointers_reset}
-use Rattle.scrub_super.proofs.PlansFit.{plan_fits, reset_fits}
-use Rattle.scrub_super.proofs.RecordsThere.{some_choice, some_plan}
-use Rattle.scrub_scan.specs.Scanned.{Scanned}
-use Rattle.scrub_scan.specs.AllFindings.{extent_numbers}
-use Rattle.scrub_scan.proofs.Existing.{some_all_findings}
 use Rattle.scrub_run.specs.Run.{run_bytes}
-use Rattle.scrub_merge.proofs.MapsThere.{some_shard_map}
-use Rattle.scrub_check.specs.Named.{named_locators}
-use Rattle.scrub_check.proofs.ListsThere.{some_broken, some_candidates, some_shared}
-use Rattle.scrub_check.proofs.StatusThere.{some_checked, some_read_runs}
-use Rattle.scrub_pool.specs.Passes.{one_list}
-use Rattle.scrub_pool.specs.Takings.{TakingsValue}
-use Rattle.scrub_report.specs.Answer.{AnswerValue, ArePlannedExtents, AreTakingsBy, IsScrubAnswer}
+use Rattle.scrub_found.specs.Scrubbed.{is_clean_disk}
+use Rattle.scrub_found.proofs.Existing.{some_scrub}
+use Rattle.scrub_report.specs.Answer.{AnswerValue, IsScrubAnswer}
 use Rattle.scrub_report.specs.Index.{index_entries}
 use Rattle.scrub_report.specs.Report.{report_text}
-use Rattle.scrub_report.specs.Resets.{IsPlanBut, IsScrubbedBut}
-use Rattle.scrub_report.specs.Scrubbed.{Scrubbed, is_clean, is_in_doubt}
-use Rattle.scrub_report.proofs.OneIndex.{read_runs_are_runs}
-
--- ---- plans
-
-pub plan_but_fits : (resets : List ℕ) (image : Image) (choice : Choice) (plan : PlanValue) → IsChoice image choice →
-    IsPlanBut resets choice plan → IsPlan plan
-plan_but_fits [] image choice plan chosen is = plan_fits image choice plan chosen is
-plan_but_fits (e ∷ es) image choice plan chosen is =
-    reset_fits is.0 plan (e ∷ es) is.2 (plan_fits image choice is.0 chosen is.1)
-
-some_plan_but : (resets : List ℕ) (choice : Choice) → (plan : PlanValue) × IsPlanBut resets choice plan
-some_plan_but [] choice = some_plan choice
-some_plan_but (e ∷ es) choice =
-    let old = some_plan choice in (
-      record {
-        geometry = old.0.geometry;
-        planned = old.0.planned;
-        retired = old.0.retired;
-        pointers = pointers_reset (e ∷ es) old.0.pointers;
-        runs = old.0.runs;
-        has_superblock = old.0.has_superblock;
-      },
-      (old.0, old.1, record { planned = refl; geometry = refl; retired = refl; pointers = refl; runs = refl; has = refl }),
-    )
-
--- ---- all that is found
-
-pub some_scrub : (resets : List ℕ) (image : Image) → (s : Scrubbed) × IsScrubbedBut resets image s
-some_scrub resets image =
-    let choice = some_choice image in
-    let plan = some_plan_but resets choice.0 in
-    let fits : IsPlan plan.0 = plan_but_fits resets image choice.0 plan.0 choice.1 plan.1 in
-    let all = some_all_findings image plan.0 fits in
-    let rising : IsStrictlyIncreasing (extent_numbers all.0) = rw all.1.extents fits.extents.rising in
-    let read = some_read_runs image plan.0 in
-    let bindings = some_shard_map read.0.runs (read_runs_are_runs image plan.0 read.0 read.1) in
-    let checked = some_checked image plan.0 (named_locators plan.0.runs bindings.0) in
-    let shared = some_shared checked.0 in
-    let broken = some_broken checked.0 in
-    let candidates = some_candidates plan.0 all.0 checked.0 (is_in_doubt choice.0 read.0) rising in (
-      record {
-        choice = choice.0;
-        plan = plan.0;
-        all = all.0;
-        read = read.0;
-        bindings = bindings.0;
-        checked = checked.0;
-        shared = shared.0;
-        broken = broken.0;
-        candidates = candidates.0;
-      },
-      record {
-        choice = choice.1;
-        plan = plan.1;
-        all = all.1;
-        read = read.1;
-        bindings = bindings.1;
-        checked = checked.1;
-        shared = shared.1;
-        broken = broken.1;
-        candidates = candidates.1;
-      },
-    )
 
 pub some_answer : (image : Image) → (a : AnswerValue) × IsScrubAnswer image a
 some_answer image =
@@ -95,53 +14,10 @@ some_answer image =
       record {
         report = report_text found.0;
         index = run_bytes (index_entries found.0.checked found.0.bindings);
-        is_clean = is_clean found.0;
+        is_clean = is_clean_disk found.0;
       },
       record { found = found.0; scrubbed = found.1; report = refl; index = refl; clean = refl },
     )
 
 pub some_index : (image : Image) → (bytes : List ℕ) × (a : AnswerValue) × IsScrubAnswer image a × (bytes ≡ a.index)
 some_index image = let answer = some_answer image in (answer.0.index, answer.0, answer.1, refl)
-
-pub some_planned_extents : (image : Image) → (planned : List ℕ) × ArePlannedExtents image planned
-some_planned_extents image =
-    let choice = some_choice image in
-    let plan = some_plan choice.0 in
-    (plan.0.planned, record { choice = choice.0; plan = plan.0; chosen = choice.1; follows = plan.1; are = refl })
-
--- ---- takings
-
--- as many empty lists
-abbrev none_taken : ℕ → List (List ℕ)
-none_taken n = replicate n []
-
-length-none_taken : (n : ℕ) → length (none_taken n) ≡ n
-length-none_taken n = length-replicate n []
-
--- nothing is in them
-nothing_in : (n : ℕ) → one_list (none_taken n) ≡ []
-nothing_in zero = refl
-nothing_in (suc n) = nothing_in n
-
--- the caller takes each planned extent, and the workers take none
-pub some_takings : (image : Image) (workers : ℕ) → (takings : TakingsValue) × AreTakingsBy image workers takings
-some_takings image workers =
-    let choice = some_choice image in
-    let plan = some_plan choice.0 in
-    let fits : IsPlan plan.0 = plan_fits image choice.0 plan.0 choice.1 plan.1 in
-    let all : List ℕ = plan.0.planned in
-    let whole : all ++ one_list (none_taken workers) ≡ all = ap (λ (rest : List ℕ). all ++ rest) (nothing_in workers) ∙ append-nil all in (
-      record { lists = all ∷ none_taken workers; counted = length all },
-      record {
-        planned = all;
-        are_planned = record { choice = choice.0; plan = plan.0; chosen = choice.1; follows = plan.1; are = refl };
-        members = omega (arith, length-none_taken workers);
-        partition = record {
-          rising =
-              All-cons IsStrictlyIncreasing all (none_taken workers) fits.extents.rising
-              (All-replicate IsStrictlyIncreasing workers [] (λ k here. absurd (omega (arith, here))));
-          whole = subst (λ (xs : List ℕ). IsPermutation xs all) (sym whole) (IsPermutation-refl all);
-        };
-        counted = refl;
-      },
-    )

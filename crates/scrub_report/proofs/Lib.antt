@@ -1,17 +1,15 @@
--- The lemmas of this crate.
-pub mod Appending
-pub mod ScannedLive
+-- One report, and that each image has one.
+pub mod OneReport
+pub mod Existing
+-- The bindings fit into one index run.
+pub mod Indexable
+pub mod KeptEntries
+-- The texts of the report, from values to tokens to pieces.
 pub mod Tokens
 pub mod ExtentTexts
 pub mod LocatorValues
-pub mod KeptEntries
-pub mod OneReader
-pub mod ResetPlans
-pub mod OneIndex
-pub mod OneReport
-pub mod Indexable
-pub mod CleanLists
 pub mod RunRows
-pub mod KeptRuns
+pub mod ScannedLive
 pub mod ListedReport
-pub mod Existing
+-- Whole output.
+pub mod Appending

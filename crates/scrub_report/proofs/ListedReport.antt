@@ -1,74 +1,54 @@
 -- The lists give the report of what was found, and its verdict.
-use Rattle.std.proofs.Common.{◌≡◌, ◌&&◌, ◌++◌, ◌∷◌, [], ℕ, List, Bool, codes, is_some, length, map, refl, sym, ap, ◌∙◌}
+use Rattle.std.proofs.Common.{◌≡◌, ◌&&◌, ◌++◌, ◌∷◌, [], ℕ, List, Bool, codes, length, map, refl, sym, ap, ◌∙◌}
 use Rattle.std.specs.Prelude.{◌==◌}
-use Rattle.std.specs.List.{list_all, zip}
-use Rattle.std.proofs.lemmas.List.Folds.{list_all-map}
+use Rattle.std.specs.List.{zip}
 use Rattle.std.proofs.lemmas.List.{length-map}
 use Rattle.serde_json.specs.Data.{boolean}
 use Rattle.serde_json.specs.Written.{compact_text}
 use Rattle.scrub_disk.specs.Image.{Image}
 use Rattle.scrub_run.specs.declared.shard_id.ShardId.{ShardId}
-use Rattle.scrub_merge.specs.Binding.{BindingValue}
 use Rattle.scrub_scan.specs.Scanned.{Scanned}
 use Rattle.scrub_check.specs.declared.statuses.checked.Checked.{Checked}
 use Rattle.scrub_check.specs.Checked.{AreBrokenShards, dangling, hidden}
 use Rattle.scrub_check.specs.Live.{live_bytes}
 use Rattle.scrub_report.specs.declared.listed.Listed.{Listed}
-use Rattle.scrub_report.specs.declared.parts.Judged.{Judged}
-use Rattle.scrub_report.specs.declared.runs.RunRow.{RunRow}
+use Rattle.scrub_found.specs.declared.judging.Judged.{Judged}
+use Rattle.scrub_found.specs.declared.runs.RunRow.{RunRow}
 use Rattle.scrub_report.specs.declared.shards.Shards.{Shards}
 use Rattle.scrub_report.specs.Json.{list, natural, with_keys}
-use Rattle.scrub_report.specs.steps.Lists.{AreListsOf, AreShardsOf, IsReportBy, is_clean_listed}
-use Rattle.scrub_report.specs.Parts.{AreJudgedBut}
-use Rattle.scrub_report.specs.Report.{candidate_data, dangling_data, entry_counts, extent_data, ids_data, numbers_data, place_data, report_text, runs_data, shared_data, super_data}
-use Rattle.scrub_report.specs.Scrubbed.{IsScrubbed, Scrubbed, is_clean, is_clean_choice, is_clean_extent}
+use Rattle.scrub_report.specs.steps.Lists.{AreListsOf, AreShardsOf, IsReportBy, is_clean_listed, unlisted}
+use Rattle.scrub_found.specs.Judged.{AreJudgedBut, Beside, found_in, is_clean_by}
+use Rattle.scrub_found.specs.Scrubbed.{entry_counts}
+use Rattle.scrub_report.specs.Report.{candidate_data, dangling_data, extent_data, ids_data, numbers_data, place_data, report_text, runs_data, shared_data, super_data}
+use Rattle.scrub_found.specs.Scrubbed.{IsScrubbed, Scrubbed, is_clean_disk}
 use Rattle.scrub_report.specs.steps.Tokens.{extent_pairs, listed_text}
 use Rattle.scrub_report.specs.steps.Values.{geometry_data, hidden_data, locator_data, row_data}
-use Rattle.scrub_report.proofs.KeptRuns.{all_counted}
+use Rattle.scrub_found.proofs.FoundBeside.{beside, with_lists}
+use Rattle.scrub_found.proofs.Verdicts.{clean_by_lists}
 use Rattle.scrub_report.proofs.LocatorValues.{dangling_shown, hidden_shown}
 use Rattle.scrub_report.proofs.RunRows.{rows_shown}
 use Rattle.scrub_report.proofs.ScannedLive.{beside_scanned}
 
-module _ {D : Type 0} (image : Image) (bindings : List BindingValue) (broken : List ShardId) (j : Judged D) (s : Shards)
-    (l : Listed D) (judged : AreJudgedBut [] image bindings j) (shards : AreShardsOf bindings s)
-    (are_broken : AreBrokenShards j.checked.items broken) (lists : AreListsOf j s l) where
+module _ {D : Type 0} (image : Image) (broken : List ShardId) (j : Judged D) (s : Shards) (l : Listed D)
+    (judged : AreJudgedBut [] image j) (shards : AreShardsOf j.map s) (are_broken : AreBrokenShards j.checked.items broken)
+    (lists : AreListsOf (unlisted j) s l) where
   -- what was found
+  abbrev beside_it : Beside
+  beside_it = beside [] image j judged l.liveness.shared.items broken l.liveness.candidates.items
+
   abbrev found : Scrubbed
-  found = record {
-    choice = j.scan.chosen;
-    plan = j.scan.plan;
-    all = j.scan.all.extents;
-    read = judged.read;
-    bindings = bindings;
-    checked = j.checked.items;
-    shared = l.liveness.shared.items;
-    broken = broken;
-    candidates = l.liveness.candidates.items;
-  }
+  found = found_in j beside_it
 
   found_there : IsScrubbed image found
-  found_there = record {
-    choice = judged.scanned.chosen;
-    plan = judged.scanned.planned;
-    all = judged.scanned.scanned;
-    read = judged.read_are;
-    bindings = judged.map_is;
-    checked = judged.checked;
-    shared = lists.liveness_is.shared;
-    broken = are_broken;
-    candidates = rw judged.doubt at lists.liveness_is.candidates;
-  }
+  found_there =
+      (with_lists [] image j judged l.liveness.shared.items broken l.liveness.candidates.items
+      lists.liveness_is.shared are_broken lists.liveness_is.candidates).scrubbed
 
-  counted : list_all (λ r. is_some r.entries) l.runs.items ≡ list_all is_some judged.read.runs
-  counted =
-      sym (list_all-map is_some (λ (r : RunRow). r.entries) l.runs.items)
-      ∙ ap (λ (rows : List RunRow). list_all is_some (map (λ r. r.entries) rows)) lists.runs_are
-      ∙ ap (list_all is_some) judged.rows.entries_are ∙ all_counted judged.read.runs
-
-  clean_lists : is_clean_listed l ≡ is_clean found
-  clean_lists = λ i.
-      is_clean_choice ((lists.scan_is i).chosen) && list_all is_clean_extent ((lists.scan_is i).all.extents) && counted i
-      && (length (lists.dangling_are i) == 0 && length (lists.hidden_are i) == 0 && length l.liveness.shared.items == 0)
+  clean_lists : is_clean_listed l ≡ is_clean_disk found
+  clean_lists =
+      (λ i. is_clean_by (lists.scan_is i) (lists.runs_are i)
+      (length (lists.dangling_are i) == 0 && length (lists.hidden_are i) == 0) l.liveness.shared.items)
+      ∙ clean_by_lists j beside_it judged.rows
 
   rows_are : list (map row_data l.runs.items) ≡ runs_data j.scan.plan.runs (entry_counts judged.read.runs) judged.read.states
   rows_are =
@@ -108,7 +88,7 @@ module _ {D : Type 0} (image : Image) (bindings : List BindingValue) (broken : L
 
   -- the text and the verdict are those of what was found
   pub reported : (text : List ℕ) (clean : Bool) → clean ≡ is_clean_listed l → text ≡ listed_text l broken clean →
-      IsReportBy image bindings j.checked.items text clean
+      IsReportBy image j text clean
   reported text clean known is = record {
     found = found;
     scrubbed = found_there;

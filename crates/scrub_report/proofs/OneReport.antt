@@ -1,88 +1,12 @@
 -- An image has one report, one index and one verdict whether it is clean, since what is found on it is unique.
-use Rattle.std.proofs.Common.{◌≡◌, [], ℕ, List, sym, ◌∙◌, ap}
+use Rattle.std.proofs.Common.{◌≡◌, sym, ◌∙◌, ap}
 use Rattle.scrub_disk.specs.Image.{Image}
-use Rattle.scrub_super.specs.Plan.{PlanValue}
-use Rattle.scrub_super.proofs.Laws.{one_choice_lem}
 use Rattle.scrub_run.specs.Run.{run_bytes}
-use Rattle.scrub_merge.proofs.Maps.{one_shard_map_lem}
-use Rattle.scrub_check.specs.Candidates.{AreCandidates}
-use Rattle.scrub_check.specs.Named.{named_locators}
-use Rattle.scrub_check.proofs.OneList.{one_list, one_shared, one_broken}
-use Rattle.scrub_report.specs.Answer.{AnswerValue, IsScrubAnswer, ArePlannedExtents}
+use Rattle.scrub_found.specs.Scrubbed.{Scrubbed, is_clean_disk}
+use Rattle.scrub_found.proofs.OneScrub.{one_scrub}
+use Rattle.scrub_report.specs.Answer.{AnswerValue, IsScrubAnswer}
 use Rattle.scrub_report.specs.Index.{index_entries}
 use Rattle.scrub_report.specs.Report.{report_text}
-use Rattle.scrub_report.specs.Resets.{IsScrubbedBut}
-use Rattle.scrub_report.specs.Scrubbed.{Scrubbed, IsScrubbed, is_clean, is_in_doubt}
-use Rattle.scrub_report.proofs.OneIndex.{one_list_of_runs, one_list_of_checked, read_runs_are_runs}
-use Rattle.scrub_report.proofs.OneReader.{one_plan, one_reader}
-use Rattle.scrub_report.proofs.ResetPlans.{one_plan_but}
-
--- the same parts make the same whole
-same_parts : (s t : Scrubbed) → s.choice ≡ t.choice → s.plan ≡ t.plan → s.all ≡ t.all → s.read ≡ t.read →
-    s.bindings ≡ t.bindings → s.checked ≡ t.checked →
-    s.shared ≡ t.shared → s.broken ≡ t.broken → s.candidates ≡ t.candidates → s ≡ t
-same_parts s t hc hp ha hr hb hk hs hx hd = λ i. record {
-  choice = hc i;
-  plan = hp i;
-  all = ha i;
-  read = hr i;
-  bindings = hb i;
-  checked = hk i;
-  shared = hs i;
-  broken = hx i;
-  candidates = hd i;
-}
-
--- each part is determined by those before it
-pub one_scrub_but : (resets : List ℕ) (image : Image) (s t : Scrubbed) → IsScrubbedBut resets image s → IsScrubbedBut resets image t → s ≡ t
-one_scrub_but resets image s t x y = same_parts s t choice plan all read bindings checked shared broken candidates
-  where
-    choice : s.choice ≡ t.choice
-    choice = one_choice_lem image s.choice t.choice x.choice y.choice
-
-    plan : s.plan ≡ t.plan
-    plan = one_plan_but resets t.choice s.plan t.plan (rw choice at x.plan) y.plan
-
-    all : s.all ≡ t.all
-    all = one_reader image t.plan s.all t.all (rw plan at x.all) y.all
-
-    read : s.read ≡ t.read
-    read = one_list_of_runs image t.plan s.read t.read (rw plan at x.read) y.read
-
-    bindings : s.bindings ≡ t.bindings
-    bindings = one_shard_map_lem t.read.runs s.bindings t.bindings (read_runs_are_runs image t.plan t.read y.read)
-        (rw read at x.bindings) y.bindings
-
-    checked : s.checked ≡ t.checked
-    checked = one_list_of_checked image t.plan (named_locators t.plan.runs t.bindings) s.checked t.checked
-        (rw (← bindings) (rw plan at x.checked)) y.checked
-
-    shared : s.shared ≡ t.shared
-    shared = one_shared t.checked s.shared t.shared (rw checked at x.shared) y.shared
-
-    broken : s.broken ≡ t.broken
-    broken = one_broken t.checked s.broken t.broken (rw checked at x.broken) y.broken
-
-    same : AreCandidates s.plan s.all s.checked (is_in_doubt s.choice s.read) s.candidates →
-        AreCandidates t.plan t.all t.checked (is_in_doubt t.choice t.read) s.candidates
-    same h =
-        rw (← read) (rw (← choice) (rw (← checked) (rw (← all) (rw plan at h))))
-
-    candidates : s.candidates ≡ t.candidates
-    candidates =
-        one_list t.plan t.all t.checked (is_in_doubt t.choice t.read) s.candidates t.candidates (same x.candidates)
-        y.candidates
-
-pub one_scrub : (image : Image) (s t : Scrubbed) → IsScrubbed image s → IsScrubbed image t → s ≡ t
-one_scrub = one_scrub_but []
-
--- and one list of planned extents
-pub one_planned : (image : Image) (planned others : List ℕ) → ArePlannedExtents image planned →
-    ArePlannedExtents image others → planned ≡ others
-one_planned image planned others x y =
-    let choice : x.choice ≡ y.choice = one_choice_lem image x.choice y.choice x.chosen y.chosen in
-    let plan : x.plan ≡ y.plan = one_plan y.choice x.plan y.plan (rw choice at x.follows) y.follows in
-    x.are ∙ ap (λ (p : PlanValue). p.planned) plan ∙ sym y.are
 
 same_answer : (a b : AnswerValue) → a.report ≡ b.report → a.index ≡ b.index → a.is_clean ≡ b.is_clean → a ≡ b
 same_answer a b hr hi hc = λ i. record { report = hr i; index = hi i; is_clean = hc i }
@@ -93,4 +17,4 @@ one_answer image a b x y =
     same_answer a b
     (x.report ∙ ap report_text found ∙ sym y.report)
     (x.index ∙ ap (λ (s : Scrubbed). run_bytes (index_entries s.checked s.bindings)) found ∙ sym y.index)
-    (x.clean ∙ ap is_clean found ∙ sym y.clean)
+    (x.clean ∙ ap is_clean_disk found ∙ sym y.clean)

@@ -1,9 +1,9 @@
 -- The rows of index runs, and what they are of the runs that were read.
 use Rattle.std.proofs.Common.{◌≡◌, ◌∷◌, [], List, map, refl, ap}
 use Rattle.std.specs.List.{zip}
-use Rattle.scrub_report.specs.declared.runs.RunRow.{RunRow}
+use Rattle.scrub_found.specs.declared.runs.RunRow.{RunRow}
 use Rattle.scrub_report.specs.Json.{list}
-use Rattle.scrub_report.specs.Parts.{run_states}
+use Rattle.scrub_found.specs.Judged.{run_states}
 use Rattle.scrub_report.specs.Report.{run_data, runs_data}
 use Rattle.scrub_report.specs.steps.Values.{row_data}
 

@@ -9,7 +9,6 @@ use Rattle.scrub_super.specs.Chosen.{Choice}
 use Rattle.scrub_scan.specs.Line.{line_of}
 use Rattle.scrub_scan.specs.Scanned.{Scanned}
 use Rattle.scrub_run.specs.declared.shard_id.ShardId.{ShardId}
-use Rattle.scrub_merge.specs.Binding.{Runs}
 use Rattle.scrub_check.specs.declared.statuses.checked.Checked.{Checked}
 use Rattle.scrub_check.specs.declared.lists.place.Place.{Place}
 use Rattle.scrub_check.specs.declared.lists.place.SharedPlace.{SharedPlace}
@@ -19,8 +18,8 @@ use Rattle.scrub_check.specs.Checked.{dangling, hidden}
 use Rattle.scrub_check.specs.Chunks.{orphans, twins}
 use Rattle.scrub_check.specs.Live.{live_bytes}
 use Rattle.scrub_report.specs.Json.{natural, natural_or_null, list, members, with_keys}
-use Rattle.scrub_report.specs.Scrubbed.{Scrubbed, IsScrubbed, is_clean}
-use Rattle.scrub_report.specs.Texts.{id_text, owner_text, state_text, status_text, uuid_text}
+use Rattle.scrub_found.specs.Scrubbed.{Scrubbed, IsScrubbed, entry_counts, is_clean_disk}
+use Rattle.scrub_found.specs.Texts.{id_text, owner_text, state_text, status_text, uuid_text}
 
 -- a list of numbers: of extents, of pages or of places
 abbrev pub numbers_data : List ℕ → Data
@@ -65,10 +64,6 @@ run_data locator entries state = with_keys (
 abbrev pub runs_data : List Locator → List (Option ℕ) → List RunState → Data
 runs_data locators entries states = list (map (λ r. run_data r.0 r.1.0 r.1.1) (zip locators (zip entries states)))
 
--- how many entries each run has, None if it is lost
-abbrev pub entry_counts : Runs → List (Option ℕ)
-entry_counts runs = map (option_map length) runs
-
 -- a checked locator's extent, length, offset, UUID and owner: all that one of `hidden` has
 abbrev pub locator_members : Checked → Members
 locator_members c = members (
@@ -104,7 +99,7 @@ abbrev pub report_data : Scrubbed → Data
 report_data s = with_keys (
     (codes "broken", ids_data s.broken) ∷
     (codes "candidates", list (map candidate_data s.candidates)) ∷
-    (codes "clean", boolean (is_clean s)) ∷
+    (codes "clean", boolean (is_clean_disk s)) ∷
     (codes "dangling", list (map dangling_data (dangling s.checked))) ∷
     (codes "doubtful", ids_data (map (λ b. b.id) (filter (λ b. b.doubtful) s.bindings))) ∷
     (codes "extents", list (map (λ f. extent_data (live_bytes s.checked f) f) s.all)) ∷

@@ -5,52 +5,29 @@ ghost use Rattle.scrub_disk.specs.Image.{Image};
 ghost use Rattle.scrub_pool.specs.Takings.{TakingsValue};
 ghost use Rattle.scrub_run.specs.Entry.{IsBelow};
 ghost use Rattle.scrub_run.specs.Run.{IsRun, run_bytes};
-ghost use Rattle.scrub_merge.specs.Binding.{BindingValue};
 ghost use Rattle.scrub_check.specs.declared.statuses.checked.Checked.{Checked};
 ghost use Rattle.scrub_check.specs.Checked.{AreBrokenShards};
-ghost use Rattle.scrub_report.specs.Answer.{AnswerValue, IsScrubAnswer, ArePlannedExtents};
-ghost use Rattle.scrub_report.specs.Answer.{AreTakingsBy};
+ghost use Rattle.scrub_found.specs.declared.judging.Judged.{Judged};
+ghost use Rattle.scrub_found.specs.Judged.{AreJudgedBut, IsScan};
+ghost use Rattle.scrub_found.specs.Scrubbed.{IsScrubbed, Scrubbed};
+ghost use Rattle.scrub_found.specs.Takings.{ArePlannedExtents, AreTakingsBy};
+ghost use Rattle.scrub_report.specs.Answer.{AnswerValue, IsScrubAnswer};
 ghost use Rattle.scrub_report.specs.Index.{index_entries};
-ghost use Rattle.scrub_report.specs.steps.Lists.{AreShardsOf, IsReportBy};
-ghost use Rattle.scrub_report.specs.Parts.{AreJudgedBut, IsScan};
-ghost use Rattle.scrub_report.specs.Resets.{IsScrubbedBut};
-ghost use Rattle.scrub_report.specs.Scrubbed.{IsScrubbed, Scrubbed};
+ghost use Rattle.scrub_report.specs.steps.Lists.{AreShardsOf, IsReportBy, unlisted};
 
 use crate::index::index_bytes;
-use crate::listed::{is_clean_listed, listed_of};
-use crate::parts::Judged;
+use crate::listed::{Unlisted, is_clean_listed, listed_of};
 use crate::report::report_text;
-use crate::scanning::{Scan, scan_by, scan_by_one};
-use crate::scrubbing::judged_of;
 use crate::shards::{Shards, shards_of};
 use scrub_check::broken_shards;
 use scrub_disk::{OutOfMemory, PageSource};
-use scrub_merge::ShardMap;
-use scrub_pool::{Gate, PoolFault, Takings};
+use scrub_found::{Judged, Scan, ScrubFault, judged_of, scan_by, scan_by_one};
+use scrub_pool::{Gate, Takings};
 use scrub_run::ShardId;
 use std::alloc::Global;
 use std::marker::Model;
 use std::sync::Wait;
 use std::thread::{Threads, join};
-
-/// Why a scrub failed.
-#[derive(Debug, Clone, Copy, PartialEq, Eq)]
-pub enum ScrubFault {
-    /// An allocation failed.
-    OutOfMemory,
-}
-
-impl From<OutOfMemory> for ScrubFault {
-    fn from(_fault: OutOfMemory) -> ScrubFault {
-        ScrubFault::OutOfMemory
-    }
-}
-
-impl From<PoolFault> for ScrubFault {
-    fn from(_fault: PoolFault) -> ScrubFault {
-        ScrubFault::OutOfMemory
-    }
-}
 
 /// The answer of a scrub.
 #[derive(Drop)]
@@ -109,15 +86,16 @@ impl ScrubAnswer {
 fn report_of<R: Threads + Sync, D: PageSource>(
     rt: &R,
     alloc: Global,
-    judged: Judged<'_, D>,
+    rest: Unlisted<'_, D>,
     shards: Shards,
     broken: &[ShardId],
 ) -> Result<(Vec<u8>, bool), OutOfMemory>
-    ensures { (image : Image) (bindings : List BindingValue) → AreJudgedBut [] image bindings judged.entry →
-        AreShardsOf bindings shards → AreBrokenShards judged.entry.checked.items broken.now →
-        IfOk result (λ r. IsReportBy image bindings judged.entry.checked.items r.0.items r.1) }
+    ensures { (image : Image) (judged : Judged D) → AreJudgedBut [] image judged →
+        rest.entry ≡ unlisted judged →
+        AreShardsOf judged.map shards → AreBrokenShards judged.checked.items broken.now →
+        IfOk result (λ r. IsReportBy image judged r.0.items r.1) }
 {
-    let listed = listed_of(rt, alloc, judged, shards)?;
+    let listed = listed_of(rt, alloc, rest, shards)?;
     let is_clean = is_clean_listed(&listed);
     let text = report_text(rt, alloc, listed, broken, is_clean)?;
     Ok((text, is_clean))
@@ -130,17 +108,31 @@ fn index_and_report<R: Threads + Sync, D: PageSource>(
     rt: &R,
     alloc: Global,
     judged: Judged<'_, D>,
-    map: ShardMap,
     shards: Shards,
     broken: &[ShardId],
 ) -> Result<(Vec<u8>, (Vec<u8>, bool)), OutOfMemory>
     requires broken { AreBrokenShards judged.checked.items broken.now }
-    requires few { All (λ b. length b.locators ≤ 64) map }
-    requires count { length map < 2 ^ 32 }
-    ensures index { IfOk result (λ r. r.0.items ≡ run_bytes (index_entries judged.entry.checked.items map)) }
-    ensures report { (image : Image) → AreJudgedBut [] image map judged.entry → AreShardsOf map shards →
-        IfOk result (λ r. IsReportBy image map judged.entry.checked.items r.1.0.items r.1.1) }
+    requires few { All (λ b. length b.locators ≤ 64) judged.map }
+    requires count { length judged.map < 2 ^ 32 }
+    ensures index { IfOk result (λ r.
+        r.0.items ≡ run_bytes (index_entries judged.entry.checked.items judged.entry.map)) }
+    ensures report { (image : Image) → AreJudgedBut [] image judged.entry →
+        AreShardsOf judged.entry.map shards →
+        IfOk result (λ r. IsReportBy image judged.entry r.1.0.items r.1.1) }
 {
+    let Judged {
+        scan,
+        in_doubt,
+        runs,
+        map,
+        checked,
+    } = judged;
+    let rest = Unlisted {
+        scan,
+        in_doubt,
+        runs,
+        checked,
+    };
     let (index, report) = join(
         rt,
         move || -> Result<Vec<u8>, OutOfMemory>
@@ -151,11 +143,11 @@ fn index_and_report<R: Threads + Sync, D: PageSource>(
                 IfOk result (λ bytes. bytes.items ≡ run_bytes (index_entries checked map)) }
         { index_bytes(alloc, map, broken) },
         move || -> Result<(Vec<u8>, bool), OutOfMemory>
-            ensures report { (image : Image) (bindings : List BindingValue) →
-                AreJudgedBut [] image bindings judged.entry →
-                AreShardsOf bindings shards → AreBrokenShards judged.entry.checked.items broken.entry.now →
-                IfOk result (λ r. IsReportBy image bindings judged.entry.checked.items r.0.items r.1) }
-        { report_of(rt, alloc, judged, shards, broken) },
+            ensures report { (image : Image) (judged : Judged D) → AreJudgedBut [] image judged →
+                rest.entry ≡ unlisted judged →
+                AreShardsOf judged.map shards → AreBrokenShards judged.checked.items broken.entry.now →
+                IfOk result (λ r. IsReportBy image judged r.0.items r.1) }
+        { report_of(rt, alloc, rest, shards, broken) },
     );
     Ok((index?, report?))
 }
@@ -169,10 +161,10 @@ fn answer_of<R: Threads + Sync, D: PageSource>(
     requires { IsScan (D.image scan.disk.now) scan }
     ensures { IfOk result (IsScrubAnswer (D.image scan.entry.disk.now)) }
 {
-    let (judged, map) = judged_of(rt, alloc, scan, &[])?;
-    let shards = shards_of(alloc, &map)?;
+    let judged = judged_of(rt, alloc, scan)?;
+    let shards = shards_of(alloc, &judged.map)?;
     let broken = broken_shards(alloc, &judged.checked)?;
-    let (index, (report, is_clean)) = index_and_report(rt, alloc, judged, map, shards, &broken)?;
+    let (index, (report, is_clean)) = index_and_report(rt, alloc, judged, shards, &broken)?;
     Ok(ScrubAnswer {
         report,
         index,
@@ -213,13 +205,6 @@ pub fn scrub<D: PageSource, G: Gate, R: Threads + Wait + Sync>(
     Ok((answer, takings))
 }
 
-/// A law: an image has at most one list of planned extents.
-pub fn one_list_of_planned_extents()
-    ensures { (image : Image) (planned others : List ℕ) → ArePlannedExtents image planned →
-        ArePlannedExtents image others →
-        planned ≡ others }
-{}
-
 /// A law: the recovered index is an index run, whose entries are the shards of the map that aren't broken. So
 /// `read_run` reads it back as these entries.
 pub fn the_index_is_a_run()
@@ -243,9 +228,4 @@ pub fn each_image_has_a_report()
     ensures planned { (image : Image) → (planned : List ℕ) × ArePlannedExtents image planned }
     ensures takings { (image : Image) (workers : ℕ) →
         (takings : TakingsValue) × AreTakingsBy image workers takings }
-{}
-
-/// A law: each image has all that a scan finds as if extents had been reset.
-pub fn each_image_has_findings_under_resets()
-    ensures { (resets : List ℕ) (image : Image) → (found : Scrubbed) × IsScrubbedBut resets image found }
 {}

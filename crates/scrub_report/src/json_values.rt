@@ -5,9 +5,9 @@ ghost use Rattle.serde_json.specs.Data.{Data};
 ghost use Rattle.scrub_report.specs.Json.{list};
 ghost use Rattle.scrub_report.specs.steps.Tokens.{value_tokens};
 
-use crate::texts::id_text;
 use json::Writer;
 use scrub_disk::OutOfMemory;
+use scrub_found::texts::id_text;
 use scrub_run::ShardId;
 use std::alloc::Global;
 
@@ -79,7 +79,7 @@ impl WriteJson for Option<u64> {
 
 impl WriteJson for ShardId {
     ghost use Rattle.serde_json.specs.Data.{string};
-    ghost use Rattle.scrub_report.specs.Texts.{id_text};
+    ghost use Rattle.scrub_found.specs.Texts.{id_text};
 
     ghost shown = { λ id. string (id_text id) };
 

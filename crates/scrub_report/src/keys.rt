@@ -6,11 +6,11 @@ ghost use Rattle.scrub_report.specs.steps.Tokens.{first_keys, last_keys, members
 use crate::json_values::{WriteJson, write_list};
 use crate::listed::Listed;
 use crate::object::write_members;
-use crate::runs::RunRow;
 use crate::sizes::{write_geometry, write_super};
 use json::Writer;
 use scrub_check::{Candidate, Checked, Place, SharedPlace};
 use scrub_disk::{Geometry, OutOfMemory, PageSource};
+use scrub_found::RunRow;
 use scrub_run::ShardId;
 use scrub_super::Chosen;
 use std::alloc::Global;

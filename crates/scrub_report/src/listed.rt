@@ -1,18 +1,28 @@
 //! What the report lists of a disk, drawn from the judged locators. `report` writes it.
 
 ghost use Rattle.std.specs.Prelude.{◌≡◌, IfOk};
-ghost use Rattle.scrub_report.specs.steps.Lists.{AreDrawnFrom, AreListsOf, has_none, is_clean_listed};
+ghost use Rattle.scrub_report.specs.steps.Lists.{AreDrawnFrom, AreListsOf, is_clean_listed};
 
-use crate::clean::{are_clean_extents, is_clean_choice};
-use crate::parts::Judged;
-use crate::runs::RunRow;
-use crate::scanning::Scan;
-use crate::scrubbing::{are_read, liveness_and_twins};
 use crate::shards::Shards;
 use scrub_check::{Checked, Liveness, LocatorIndex, Place, dangling, hidden};
 use scrub_disk::{OutOfMemory, PageSource};
+use scrub_found::judging::liveness_and_twins_by;
+use scrub_found::{RunRow, Scan, is_clean};
 use std::alloc::Global;
 use std::thread::Threads;
+
+/// What the report is made of, without the shard map, of which the index is made meanwhile.
+#[derive(Drop)]
+pub(crate) struct Unlisted<'d, D: PageSource> {
+    /// What was scanned.
+    pub scan: Scan<'d, D>,
+    /// Whether a newer superblock or a newer binding may have been lost.
+    pub in_doubt: bool,
+    /// The index runs of the plan, in its order.
+    pub runs: Vec<RunRow>,
+    /// The named locators, each with its status.
+    pub checked: Vec<Checked>,
+}
 
 /// What the report lists of a disk, but for the broken shards. Neither the shard map is here nor the checked
 /// locators: only what is drawn from them.
@@ -64,19 +74,19 @@ fn drawn_from<R: Threads + Sync>(
 pub(crate) fn listed_of<'d, R: Threads + Sync, D: PageSource>(
     rt: &R,
     alloc: Global,
-    judged: Judged<'d, D>,
+    rest: Unlisted<'d, D>,
     shards: Shards,
 ) -> Result<Listed<'d, D>, OutOfMemory>
-    ensures { IfOk result (AreListsOf judged.entry shards) }
+    ensures { IfOk result (AreListsOf rest.entry shards) }
 {
-    let Judged {
+    let Unlisted {
         scan,
         in_doubt,
         runs,
         checked,
-    } = judged;
+    } = rest;
     let drawn = drawn_from(rt, alloc, checked)?;
-    let (liveness, twins) = liveness_and_twins(rt, alloc, &scan, &drawn.locators, in_doubt)?;
+    let (liveness, twins) = liveness_and_twins_by(rt, alloc, &scan, &drawn.locators, in_doubt)?;
     Ok(Listed {
         scan,
         runs,
@@ -88,19 +98,15 @@ pub(crate) fn listed_of<'d, R: Threads + Sync, D: PageSource>(
     })
 }
 
-/// Whether no locator dangles or is hidden, and no place is shared.
-fn has_none<D: PageSource>(listed: &Listed<'_, D>) -> bool
-    ensures { result ≡ has_none listed.now }
-{
-    listed.dangling.is_empty() && listed.hidden.is_empty() && listed.liveness.shared.is_empty()
-}
-
 /// Whether the disk is clean.
 pub(crate) fn is_clean_listed<D: PageSource>(listed: &Listed<'_, D>) -> bool
     ensures { result ≡ is_clean_listed listed.now }
 {
-    is_clean_choice(&listed.scan.chosen)
-        && are_clean_extents(&listed.scan.all)
-        && are_read(&listed.runs)
-        && has_none(listed)
+    let are_sound = listed.dangling.is_empty() && listed.hidden.is_empty();
+    is_clean(
+        &listed.scan,
+        &listed.runs,
+        are_sound,
+        &listed.liveness.shared,
+    )
 }

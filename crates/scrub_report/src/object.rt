@@ -5,10 +5,10 @@ ghost use Rattle.scrub_report.specs.Json.{with_keys};
 ghost use Rattle.scrub_report.specs.steps.Tokens.{members_tokens, value_tokens};
 
 use crate::json_values::{WriteJson, write_list};
-use crate::texts::{owner_text, state_text, status_text};
 use json::Writer;
 use scrub_check::{Owner, RunState, Status};
 use scrub_disk::OutOfMemory;
+use scrub_found::texts::{owner_text, state_text, status_text};
 use scrub_scan::Item;
 use std::alloc::Global;
 use uuid::Uuid;

@@ -4,8 +4,8 @@ use Rattle.std.specs.List.{flat_map}
 use Rattle.std.proofs.lemmas.List.{drop_at, flat_map_more, get_or_append_left, get_or_at}
 use Rattle.std.proofs.lemmas.List.Elements.{All-drop, All-head, All-push, All-tail}
 use Rattle.std.proofs.lemmas.List.Quantifiers.{all_pairs_push}
+use Rattle.list_facts.proofs.Slices.{same_front_and_rest}
 use Rattle.scrub_frame.specs.Locator.{locator_bytes}
-use Rattle.scrub_frame.proofs.Parts.{same_cut}
 use Rattle.scrub_frame.proofs.Locators.{length-locators, same_locators}
 use Rattle.scrub_run.specs.Entry.{EntryValue, entry_bytes, IsEntry, IsBelow}
 use Rattle.scrub_run.specs.Run.{RisesById}
@@ -22,14 +22,14 @@ pub same_entry : (e f : EntryValue) (r s : List ℕ) → IsEntry e → IsEntry f
 same_entry e f r s he hf same = (same_value e f ids.0 (same_locators e.locators f.locators he.each hf.each count spelled.0), spelled.1)
   where
     ids : (e.id.0 ≡ f.id.0) × (length e.locators ∷ (flat_map locator_bytes e.locators ++ r) ≡ length f.locators ∷ (flat_map locator_bytes f.locators ++ s))
-    ids = same_cut e.id.0 f.id.0 (length e.locators ∷ (flat_map locator_bytes e.locators ++ r)) (length f.locators ∷ (flat_map locator_bytes f.locators ++ s))
+    ids = same_front_and_rest e.id.0 f.id.0 (length e.locators ∷ (flat_map locator_bytes e.locators ++ r)) (length f.locators ∷ (flat_map locator_bytes f.locators ++ s))
         (he.sixteen ∙ sym hf.sixteen) (sym (entry_parts e r) ∙ same ∙ entry_parts f s)
 
     count : length e.locators ≡ length f.locators
     count = ap (λ t. get_or t 0 0) ids.1
 
     spelled : (flat_map locator_bytes e.locators ≡ flat_map locator_bytes f.locators) × (r ≡ s)
-    spelled = same_cut (flat_map locator_bytes e.locators) (flat_map locator_bytes f.locators) r s
+    spelled = same_front_and_rest (flat_map locator_bytes e.locators) (flat_map locator_bytes f.locators) r s
         (length-locators e.locators he.each ∙ ap (λ n. 60 * n) count ∙ sym (length-locators f.locators hf.each)) (ap (drop 1) ids.1)
 
 -- the entries ys are xs and then some more, which the rest of the bytes is

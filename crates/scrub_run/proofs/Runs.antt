@@ -5,10 +5,10 @@ use Rattle.std.proofs.lemmas.List.{append-nil, drop_at, nil_from_length, take_at
 use Rattle.byteorder.specs.Endian.{big_bytes, big_number}
 use Rattle.sha2.specs.Sha256.{sha256}
 use Rattle.sha2.proofs.Facts256.{length-sha256}
+use Rattle.list_facts.proofs.Slices.{same_front_and_rest}
 use Rattle.scrub_frame.proofs.Bytes.{bytes-injective, bytes-number_at}
 use Rattle.scrub_run.specs.Entry.{EntryValue, entry_bytes, IsEntry}
 use Rattle.scrub_run.specs.Run.{run_magic, run_body, IsRun}
-use Rattle.scrub_frame.proofs.Parts.{same_cut}
 use Rattle.scrub_run.proofs.Entries.{Continues, continues}
 
 -- two lists of as many entries with the same bytes are the same
@@ -23,11 +23,11 @@ same_entries xs ys hx hy count e = sym (go.whole ∙ ap (λ t. xs ++ t) (nil_fro
 
 -- the whole decides the part before the digest
 pub same_body : (a b : List ℕ) → a ++ sha256 a ≡ b ++ sha256 b → a ≡ b
-same_body a b e = (same_cut a b (sha256 a) (sha256 b) (omega (arith, ap length e, length-append a (sha256 a), length-append b (sha256 b), length-sha256 a, length-sha256 b)) e).0
+same_body a b e = (same_front_and_rest a b (sha256 a) (sha256 b) (omega (arith, ap length e, length-append a (sha256 a), length-append b (sha256 b), length-sha256 a, length-sha256 b)) e).0
 
 -- a head decides the count, and what follows it
 pub same_head : (n m : ℕ) (x y : List ℕ) → run_magic ++ (big_bytes 4 n ++ x) ≡ run_magic ++ (big_bytes 4 m ++ y) → (big_bytes 4 n ≡ big_bytes 4 m) × (x ≡ y)
-same_head n m x y e = same_cut (big_bytes 4 n) (big_bytes 4 m) x y refl (ap (drop 4) e)
+same_head n m x y e = same_front_and_rest (big_bytes 4 n) (big_bytes 4 m) x y refl (ap (drop 4) e)
 
 -- a payload is the run of at most one list of entries
 pub one_run_lem : (payload : List ℕ) (xs ys : List EntryValue) → IsRun payload xs → IsRun payload ys → xs ≡ ys
@@ -49,6 +49,7 @@ body_cut x s a d ha hd e = (
     before : length x - 32 ≡ length s
     before = omega (arith, ap length e, length-append s (sha256 s), length-sha256 s)
 
+-- fewer bytes than a digest are no run
 pub no_body : (x s : List ℕ) → length x < 32 → x ≡ s ++ sha256 s → ⊥
 no_body x s short e = omega (arith, short, ap length e, length-append s (sha256 s), length-sha256 s)
 

@@ -7,12 +7,14 @@ use Rattle.std.specs.declared.cmp.Ordering.{Ordering}
 use Rattle.std.specs.declared.cmp.Ordering.TheVariants.{Less, Equal, Greater}
 use Rattle.std.proofs.lemmas.Bool.{false≢true}
 use Rattle.std.proofs.lemmas.List.{take_at, drop_at, get_or_at}
-use Rattle.byteorder.specs.Endian.{big_bytes, big_number}
+use Rattle.byteorder.specs.Endian.{big_number}
 use Rattle.sha2.specs.Sha256.{sha256}
+use Rattle.list_facts.proofs.Decisions.{Decided, decided_all, decided_at_most, decided_both, decided_less, decided_like, decided_number, decided_numbers, decided_pairs}
+use Rattle.list_facts.proofs.Spelling.{parts_again, read_parts}
+use Rattle.scrub_frame.proofs.Bytes.{number-bytes}
 use Rattle.scrub_frame.specs.Locator.{locator_bytes, IsLocator}
-use Rattle.scrub_frame.proofs.Decisions.{Decided, decided_like, decided_both, decided_less, decided_at_most, decided_number, decided_numbers, decided_all, decided_pairs}
 use Rattle.scrub_frame.proofs.Locators.{length-locator_bytes, length-locators}
-use Rattle.scrub_frame.proofs.ReadAgain.{read_parts, read_locator, parts_again, number_again, locator_again, decided_locator}
+use Rattle.scrub_frame.proofs.ReadAgain.{read_locator, locator_again, decided_locator}
 use Rattle.scrub_run.specs.declared.shard_id.ShardId.{ShardId}
 use Rattle.scrub_run.specs.Entry.{EntryValue, entry_bytes, IsEntry, IsBelow}
 use Rattle.scrub_run.specs.Run.{run_body, run_bytes, RisesById, AreEntries, IsRun}
@@ -119,8 +121,9 @@ only_those payload es h =
   where
     count : big_number 4 (take 4 (drop 4 payload)) ≡ length es
     count =
-        ap (λ t. big_number 4 (take 4 (drop 4 t))) h.spelled ∙ number_again (length es) h.entries_of_run.count
+        ap (λ t. big_number 4 (take 4 (drop 4 t))) h.spelled ∙ number-bytes (length es) h.entries_of_run.count
 
+-- bytes are an index run, or aren't one
 pub some_run : (payload : List ℕ) →
     ((es : List EntryValue) × IsRun payload es) ⊎ ((es : List EntryValue) → IsRun payload es → ⊥)
 some_run payload = by (decided_run payload (entries_in payload))

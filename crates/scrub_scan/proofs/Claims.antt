@@ -1,7 +1,7 @@
 -- What a head, and what closes the frame that it claims, say of the frame between them.
-use Rattle.std.proofs.Common.{◌≡◌, ◌<◌, ◌+◌, ℕ, List, [], ◌++◌, map, length, arith, refl, sym, ◌∙◌, ap, subst, Option, Some, None}
-use Rattle.std.specs.List.{range_with_len}
+use Rattle.std.proofs.Common.{◌≡◌, ◌<◌, ◌+◌, ℕ, List, [], ◌++◌, length, arith, refl, sym, ◌∙◌, ap, subst, Option, Some, None}
 use Rattle.std.proofs.lemmas.List.FromFn.{get_or-map-range_with_len, length-map-range_with_len}
+use Rattle.scrub_super.proofs.BytesHere.{byte_or_zero, bytes_here}
 use Rattle.scrub_disk.specs.Image.{AreBytesAt}
 use Rattle.scrub_frame.specs.declared.form.Form.{Form}
 use Rattle.scrub_frame.specs.declared.form.Form.TheVariants.{Plain}
@@ -19,21 +19,12 @@ only_frame x p h claim f u b k =
     claimed_head x p f u b h.form h.uuid (head h.form h.uuid h.length) h.length k
     (length-head_of h.form h.uuid h.length claim.sixteen) claim.head_stands claim.sixteen claim.short refl
 
--- the byte at a place, or 0 if it can't be read
-abbrev byte_or_zero : Option ℕ → ℕ
-byte_or_zero (Some v) = v
-byte_or_zero None = 0
-
 there : (o : Option ℕ) → ¬ (o ≡ None) → o ≡ Some (byte_or_zero o)
 there (Some v) some = refl
 there None some = absurd (some refl)
 
--- n bytes from p on
-abbrev bytes_from : (ℕ → Option ℕ) → ℕ → ℕ → List ℕ
-bytes_from at p n = map (λ i. byte_or_zero (at i)) (range_with_len p n)
-
 -- they are at their place, if all of them can be read
-bytes_stand : (at : ℕ → Option ℕ) (p n : ℕ) → ¬ HasGap at p n → AreBytesAt at p (bytes_from at p n)
+bytes_stand : (at : ℕ → Option ℕ) (p n : ℕ) → ¬ HasGap at p n → AreBytesAt at p (bytes_here at p n)
 bytes_stand at p n whole k below =
     let few : k < n = omega (arith, below, length-map-range_with_len (λ i. byte_or_zero (at i)) p n) in
     there (at (p + k))
@@ -79,7 +70,7 @@ pub plain_frame : (x : Extent) (p : ℕ) (h : Head) → IsClaimedAt x p h → h.
     ¬ HasGap x.byte p (h.length + frame_overhead h.form) → HasPlainFrame x p h
 plain_frame x p h claim is whole =
     let n = h.length in
-    let b = bytes_from x.byte (p + head_size) n in
+    let b = bytes_here x.byte (p + head_size) n in
     let size : length b ≡ n = length-map-range_with_len (λ i. byte_or_zero (x.byte i)) (p + head_size) n in
     let round : frame_overhead h.form ≡ frame_overhead Plain = ap frame_overhead is in
     let between : AreBytesAt x.byte (p + head_size) b =

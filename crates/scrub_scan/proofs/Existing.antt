@@ -1,17 +1,17 @@
 -- Each place of an extent has a frame or none, and an item; so an extent has a tiling, an extent of an image has findings,
 -- and the planned extents of a plan have theirs.
-use Rattle.std.proofs.Common.{◌≡◌, ◌⊎◌, ◌<◌, ◌≤◌, ◌+◌, ◌-◌, ◌^◌, ℕ, zero, suc, List, [], ◌∷◌, ◌++◌, map, cond, length, get_or, All, arith, refl, sym, ◌∙◌, ap, Option, Some, None, inl, inr, slice_get}
+use Rattle.std.proofs.Common.{◌≡◌, ◌⊎◌, ◌<◌, ◌≤◌, ◌+◌, ◌-◌, ◌^◌, ℕ, zero, suc, List, [], ◌∷◌, ◌++◌, map, cond, length, get_or, All, arith, refl, sym, ◌∙◌, ap, Some, None, inl, inr, slice_get}
 use Rattle.std.proofs.lemmas.Bool.{cases_lt, ne_eqb}
 use Rattle.std.proofs.lemmas.Option.{slice_get-get_or}
 use Rattle.std.proofs.lemmas.List.Elements.{All-cons, All-nil}
 use Rattle.sha2.specs.Sha256.{sha256}
+use Rattle.list_facts.proofs.Decisions.{Decided, decided_at_most, decided_below, decided_both, decided_less, decided_like, decided_none, decided_number, decided_some}
 use Rattle.scrub_disk.specs.Image.{Image, AreBytesAt, unreadable_pages}
 use Rattle.scrub_frame.specs.declared.form.Form.{Form}
 use Rattle.scrub_frame.specs.declared.form.Form.TheVariants.{Plain, Sealed}
 use Rattle.scrub_frame.specs.Frame.{frame, head, magic, seal, mark, payload_start, head_size, frame_overhead}
 use Rattle.scrub_frame.specs.Matching.{form_in, length_in, uuid_in}
 use Rattle.scrub_frame.proofs.Claims.{IsHead, form-in, length-in, uuid-in}
-use Rattle.scrub_frame.proofs.Decisions.{Decided, decided_like, decided_both, decided_less, decided_at_most, decided_number, decided_below, decided_some}
 use Rattle.scrub_super.specs.Plan.{PlanValue, IsPlan, pointer_of}
 use Rattle.scrub_super.proofs.BytesHere.{bytes_here, length-bytes_here, exactly, decided_bytes_at}
 use Rattle.scrub_scan.specs.declared.item.Item.{Item}
@@ -85,14 +85,6 @@ module _ (x : Extent) (p : ℕ) where
           none (moved (form_in head_bytes) f (uuid_in head_bytes) u payload_bytes b is.0 is.1 is.2 k))
 
 -- ---- items
-
--- whether there is no byte
-pub decided_none : (o : Option ℕ) → Decided (o ≡ None)
-decided_none None = inl refl
-decided_none (Some v) = inr (λ e. absurd (some_none v e))
-  where
-    some_none : (a : ℕ) → Some a ≡ None → ⊥
-    some_none a e = cc
 
 decided_zero : (x : Extent) (p : ℕ) → Decided (IsZero x p)
 decided_zero x p =
@@ -175,11 +167,13 @@ items_from x pos zero p within reach =
 items_from x pos (suc m) p within reach =
     one_before x pos m p within reach (λ q low high. items_from x pos m q low high) (cases_lt p x.pointer)
 
+-- an extent has a tiling
 pub some_tiling : (x : Extent) → 0 < x.page → (items : List Item) × IsTiling x items
 some_tiling x pos =
     let all = items_from x pos x.pointer 0 (omega arith) (omega arith) in
     (all.0, record { joined = all.1.0; each = all.1.1 })
 
+-- an extent of an image has findings
 pub some_findings : (image : Image) (e w : ℕ) → (found : Findings) × IsFindings image e w found
 some_findings image e w =
     let tiled = some_tiling (extent_of image e w) (omega (arith, image.geometry.page_least)) in (
@@ -226,6 +220,7 @@ findings_from image plan (e ∷ es) at =
       All-cons (λ (f : Scanned). IsFindings image f.extent f.pointer f.findings) first rest.0 found.1 rest.3,
     )
 
+-- and so have all planned ones
 pub some_all_findings : (image : Image) (plan : PlanValue) → IsPlan plan → (all : List Scanned) × AreAllFindings image plan all
 some_all_findings image plan is =
     let found = findings_from image plan plan.planned (pointer_there plan is) in

@@ -5,7 +5,7 @@ use Rattle.std.proofs.lemmas.Bool.{cases_lt}
 use Rattle.std.proofs.lemmas.Option.{same_Some}
 use Rattle.std.proofs.lemmas.List.{get_or_append_left, get_or-take, get_or-drop, length-map, length-take-le, map-append, take_at, take_all}
 use Rattle.std.specs.List.{slice_range}
-use Rattle.std.proofs.lemmas.List.Elements.{All-head, All-tail, All-push}
+use Rattle.std.proofs.lemmas.List.Elements.{All-head, All-tail}
 use Rattle.sha2.specs.Sha256.{sha256}
 use Rattle.sha_lanes.specs.declared.batch.Batch.{Batch}
 use Rattle.scrub_disk.specs.Image.{AreBytesAt}
@@ -76,6 +76,7 @@ same_places (Torn start stop) digest = (refl, refl)
 same_places (Noise start stop) digest = (refl, refl)
 same_places (Lost start stop) digest = (refl, refl)
 
+-- no item is added or taken away
 pub length-settled_one : (items : List Item) (i : ℕ) (digest : List ℕ) → length (settled_one items i digest) ≡ length items
 length-settled_one [] i digest = refl
 length-settled_one (item ∷ items) zero digest = refl
@@ -149,9 +150,11 @@ added_to p batch all h false known digest added = (
   record { hashed = h.hashed; rest = h.rest; all_are = append-nil all ∙ h.all_are; digests = h.digests; gathers = added.1 },
 )
 
+-- payloads that stay as they are
 pub grows_none : (p : Payloads) → Grows p p
 grows_none p = λ all h. ([], subst (Has p) (sym (append-nil all)) h)
 
+-- and that grow twice
 pub grows_then : (p q r : Payloads) → Grows p q → Grows q r → Grows p r
 grows_then p q r first then = λ all h.
     let one = first all h in
@@ -215,16 +218,3 @@ settled_next items pending later before ps p batch has item false digest count w
           ap (λ l. settled (items ++ item ∷ []) l ps) (same refl) ∙ settled_push items item pending ps within
           ∙ sym (ap (λ x. settled items pending ps ++ x ∷ []) added.0);
     }
-
--- and the numbers are still of items
-pub within_more : (items : List Item) (pending later : List ℕ) (item : Item) (gathered : Bool) → All (λ i. i < length items) pending
-    → (gathered ≡ true → later ≡ pending ++ length items ∷ []) → (gathered ≡ false → later ≡ pending)
-    → All (λ i. i < length (items ++ item ∷ [])) later
-within_more items pending later item true within more same =
-    let long = length-append items (item ∷ []) in
-    rw (more refl)
-    (All-push (λ i. i < length (items ++ item ∷ [])) pending (length items)
-    (λ k d lt. let h = within k d lt in omega arith) (omega arith))
-within_more items pending later item false within more same =
-    let long = length-append items (item ∷ []) in
-    rw (same refl) (λ k d lt. let h = within k d lt in omega arith)

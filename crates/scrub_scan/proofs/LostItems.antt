@@ -1,14 +1,15 @@
 -- The unreadable pages that follow from a tiling: those whose ends its lost items reach.
-use Rattle.std.proofs.Common.{◌≡◌, ◌<◌, ◌≤◌, ◌+◌, ◌-◌, ◌*◌, ◌/◌, ◌++◌, ℕ, List, [], ◌∷◌, Bool, true, false, cond, suc, zero, length, filter, is_none, arith, refl, sym, ◌∙◌, ap, inl, inr, Option, Some, None, All, append_assoc}
-use Rattle.std.specs.List.{range_with_len, filter_map, cons_option}
+use Rattle.std.proofs.Common.{◌≡◌, ◌<◌, ◌≤◌, ◌+◌, ◌-◌, ◌*◌, ◌/◌, ◌++◌, ℕ, List, [], ◌∷◌, true, false, cond, length, is_none, arith, refl, sym, ◌∙◌, ap, inl, inr, Option, Some, None, All, append_assoc}
+use Rattle.std.specs.List.{filter_map, cons_option}
 use Rattle.std.proofs.Math.Nat.{mul-le-mul_left, div-mul-le_self}
 use Rattle.std.proofs.lemmas.Bool.{cases_lt, lt-ltb, le-ltb}
 use Rattle.std.proofs.lemmas.Nat.{le-div, div_below}
 use Rattle.std.proofs.lemmas.Option.{none-some}
 use Rattle.std.proofs.lemmas.List.{append-nil}
 use Rattle.std.proofs.lemmas.List.Elements.{All-head, All-tail}
+use Rattle.list_facts.proofs.Arithmetic.{div_rises, div_up_to_next_row, place_in_row}
+use Rattle.list_facts.proofs.Filters.{filter_range-none_more, filter_range-yes}
 use Rattle.scrub_disk.specs.Image.{Image, byte, extent_bytes, HasWholePages}
-use Rattle.scrub_disk.proofs.Filters.{filter_yes, filter_no}
 use Rattle.scrub_frame.specs.Frame.{frame, frame_overhead}
 use Rattle.scrub_frame.proofs.Frames.{length-frame, overhead}
 use Rattle.scrub_scan.specs.declared.item.Item.{Item}
@@ -21,18 +22,7 @@ use Rattle.scrub_scan.specs.steps.Pages.{IsTarget, target_of}
 use Rattle.scrub_scan.specs.Tiling.{Joins, IsTiling}
 use Rattle.scrub_scan.proofs.BytesAt.{page_byte}
 use Rattle.scrub_scan.proofs.Passing.{gap_byte}
-use Rattle.scrub_scan.proofs.PlacePages.{page_rises, place_in_page}
-use Rattle.scrub_scan.proofs.ReadPages.{next_at_most}
 use Rattle.scrub_scan.proofs.Tilings.{advances}
-
--- numbers none of which passes a test add nothing
-none_more : (p : ℕ → Bool) (a n : ℕ) → ((q : ℕ) → a ≤ q → q < a + n → p q ≡ false) →
-    filter p (range_with_len 0 (a + n)) ≡ filter p (range_with_len 0 a)
-none_more p a zero h = ap (λ k. filter p (range_with_len 0 k)) (let e : a + 0 ≡ a = omega arith in e)
-none_more p a (suc n) h =
-    ap (λ k. filter p (range_with_len 0 k)) (let e : a + suc n ≡ a + n + 1 = omega arith in e)
-    ∙ filter_no p (a + n) (h (a + n) (omega arith) (omega arith))
-    ∙ none_more p a n (λ q low high. h q low (omega (arith, high)))
 
 -- a page with a readable byte can be read
 readable_page : (image : Image) (e i page : ℕ) → page ≡ image.geometry.page → ¬ (byte image e i ≡ None) →
@@ -57,10 +47,10 @@ module _ (image : Image) (t : Target) (whole : HasWholePages image) (is : IsTarg
       ((q : ℕ) → a / t.page ≤ q → q < b / t.page → is_none (image.page t.extent q) ≡ false) →
       unreadable_below image t.extent (b / t.page) ≡ unreadable_below image t.extent (a / t.page) ++ []
   pages_readable a b up readable =
-      let rises : a / t.page ≤ b / t.page = page_rises a b t.page t.positive up in
+      let rises : a / t.page ≤ b / t.page = div_rises a b t.page t.positive up in
       let e : a / t.page + (b / t.page - a / t.page) ≡ b / t.page = omega (arith, rises) in
       ap (unreadable_below image t.extent) (sym e)
-      ∙ none_more (λ q. is_none (image.page t.extent q)) (a / t.page) (b / t.page - a / t.page)
+      ∙ filter_range-none_more (λ q. is_none (image.page t.extent q)) (a / t.page) (b / t.page - a / t.page)
       (λ q low high. readable q low (omega (arith, high, e)))
       ∙ sym (append-nil (unreadable_below image t.extent (a / t.page)))
 
@@ -69,7 +59,7 @@ module _ (image : Image) (t : Target) (whole : HasWholePages image) (is : IsTarg
       unreadable_below image t.extent (b / t.page) ≡ unreadable_below image t.extent (a / t.page) ++ []
   one_readable a b up within there =
       pages_readable a b up (λ q low high.
-      let same : a / t.page ≡ q = omega (arith, low, high, next_at_most a b t.page t.positive within) in
+      let same : a / t.page ≡ q = omega (arith, low, high, div_up_to_next_row a b t.page t.positive within) in
       ap (λ k. is_none (image.page t.extent k)) (sym same) ∙ readable_page image t.extent a t.page is.page there)
 
   -- a bound of the extent, in the target's own page size
@@ -88,7 +78,7 @@ module _ (image : Image) (t : Target) (whole : HasWholePages image) (is : IsTarg
       pages_readable start stop (omega (arith, overhead f, h.fits.2)) (λ q low high.
       let last : q ≤ (stop - 1) / t.page = le-div q (stop - 1) t.page t.positive
       (let next : q + 1 ≤ stop / t.page = omega (arith, high) in omega (arith, mul-le-mul_left t.page next, div-mul-le_self stop t.page, t.positive)) in
-      let here = place_in_page q start stop t.page t.positive (omega (arith, overhead f, h.fits.2)) low last in
+      let here = place_in_row q start stop t.page t.positive (omega (arith, overhead f, h.fits.2)) low last in
       let j : start + (here.0 - start) ≡ here.0 = omega (arith, here.1) in
       ap (λ r. is_none (image.page t.extent r)) (sym here.3)
       ∙ readable_page image t.extent here.0 t.page is.page (λ none.
@@ -106,13 +96,13 @@ module _ (image : Image) (t : Target) (whole : HasWholePages image) (is : IsTarg
       one_readable start stop (omega (arith, up.0)) (bound_at start stop h.fits.0) h.fits.2
   lost_in_item (Lost start stop) h =
       let up = advances (target_of image t) (Lost start stop) (omega (arith, t.positive, is.page)) h in
-      let next = next_at_most start stop t.page t.positive (bound_at start stop h.fits.0) in
-      let rises = page_rises start stop t.page t.positive (omega (arith, up.0)) in
+      let next = div_up_to_next_row start stop t.page t.positive (bound_at start stop h.fits.0) in
+      let rises = div_rises start stop t.page t.positive (omega (arith, up.0)) in
       elim (cases_lt (start / t.page) (stop / t.page)) [
         | inl passed ↦
             let e : stop / t.page ≡ start / t.page + 1 = omega (arith, passed, next) in
             ap (unreadable_below image t.extent) e
-            ∙ filter_yes (λ q. is_none (image.page t.extent q)) (start / t.page)
+            ∙ filter_range-yes (λ q. is_none (image.page t.extent q)) (start / t.page)
             (unreadable_page image t.extent start t.page whole is.page is.in_extents (omega (arith, h.below, is.in_extent)) h.fits.2)
             ∙ ap
             (λ b. unreadable_below image t.extent (start / t.page) ++ cons_option (cond b (Some (start / t.page)) None) [])

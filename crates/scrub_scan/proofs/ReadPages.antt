@@ -1,19 +1,16 @@
 -- Which pages the source was asked for, and that it was asked as many times.
-use Rattle.std.proofs.Common.{◌≡◌, ◌<◌, ◌≤◌, ◌+◌, ◌*◌, ◌/◌, ◌^◌, ◌==◌, ℕ, List, ◌∷◌, suc, arith, refl, sym, ap, ◌∙◌, inl, inr, Some}
+use Rattle.std.proofs.Common.{◌≡◌, ◌<◌, ◌≤◌, ◌+◌, ◌*◌, ◌/◌, ◌^◌, ◌==◌, ℕ, ◌∷◌, arith, refl, sym, ap, ◌∙◌, inl, inr, Some}
 use Rattle.std.specs.List.{Contains}
 use Rattle.std.proofs.lemmas.Bool.{cases_lt, eq-eqb}
 use Rattle.std.proofs.lemmas.Nat.{div_below}
 use Rattle.std.proofs.lemmas.Option.{IfSome_then}
 use Rattle.std.proofs.lemmas.List.Folds.{list_any_at}
 use Rattle.std.proofs.lemmas.Map.Steps.{le-length_from_below}
+use Rattle.list_facts.proofs.Elements.{Contains-behind}
 use Rattle.scrub_disk.specs.Image.{Image}
 use Rattle.scrub_scan.specs.declared.pages.Target.{Target}
 use Rattle.scrub_scan.specs.declared.pages.TwoPages.{TwoPages}
 use Rattle.scrub_scan.specs.steps.Pages.{HasRead, IsTarget, HasLoaded, ReadsFar}
-
--- what a list has, it still has with one more element in front
-later : (x : ℕ) (xs : List ℕ) (q : ℕ) → Contains xs q → Contains (x ∷ xs) q
-later x xs q h = (suc h.0, omega (arith, h.1), h.2)
 
 -- after a call for page q, which is the near one then
 pub near_read : (p r : TwoPages) (n q : ℕ) → r.near.number ≡ Some q → r.far.number ≡ p.far.number →
@@ -22,8 +19,8 @@ near_read p r n q near far count h = record {
   calls = q ∷ h.calls;
   each = λ small. omega (arith, count small, h.each (omega (arith, count small, small)));
   near = rw near (0, omega arith, refl);
-  far = rw far (IfSome_then p.far.number h.far (later q h.calls));
-  below = λ k hk. later q h.calls k (h.below k hk);
+  far = rw far (IfSome_then p.far.number h.far (Contains-behind q h.calls));
+  below = λ k hk. Contains-behind q h.calls k (h.below k hk);
 }
 
 -- and which is the far one
@@ -32,9 +29,9 @@ pub far_read : (p r : TwoPages) (n q : ℕ) → r.near.number ≡ p.near.number 
 far_read p r n q near far count h = record {
   calls = q ∷ h.calls;
   each = λ small. omega (arith, count small, h.each (omega (arith, count small, small)));
-  near = rw near (IfSome_then p.near.number h.near (later q h.calls));
+  near = rw near (IfSome_then p.near.number h.near (Contains-behind q h.calls));
   far = rw far (0, omega arith, refl);
-  below = λ k hk. later q h.calls k (h.below k hk);
+  below = λ k hk. Contains-behind q h.calls k (h.below k hk);
 }
 
 -- fewer pages
@@ -65,13 +62,6 @@ read_next p n has h = record {
       | inl near ↦ let c : Contains h.calls n = rw near at h.near in c
       | inr far ↦ let c : Contains h.calls n = rw far at h.far in c
     ]
-
--- a place up to the next page bound is on the same page, or at that bound
-pub next_at_most : (p stop page : ℕ) → 0 < page → stop ≤ (p / page + 1) * page → stop / page ≤ p / page + 1
-next_at_most p stop page positive within =
-    let below : stop / page < p / page + 1 + 1 =
-    div_below stop page (p / page + 1 + 1) positive (omega (arith, within, positive)) in
-    omega (arith, below)
 
 -- the pages before that of the pointer are pages of the extent
 pub pages_before : (image : Image) (t : Target) → IsTarget image t → t.pointer / t.page ≤ image.geometry.pages

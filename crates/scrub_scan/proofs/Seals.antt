@@ -3,10 +3,11 @@ use Rattle.std.proofs.Common.{◌≡◌, ◌<◌, ◌≤◌, ◌+◌, ◌*◌, �
 use Rattle.std.specs.List.{AllZip}
 use Rattle.std.proofs.Math.Nat.{mul-le-mul_right}
 use Rattle.std.proofs.lemmas.Bool.{cases_lt}
-use Rattle.std.proofs.Math.Seq.{drop-cons}
 use Rattle.std.proofs.lemmas.List.{get_or-map, get_or-take, length-map, length-take-le, length_push, take_all}
 use Rattle.std.proofs.lemmas.List.Elements.{All-head, All-tail, AllZip-get_or, AllZip-push}
 use Rattle.sha2.specs.Sha256.{sha256}
+use Rattle.list_facts.proofs.Arithmetic.{div_rises}
+use Rattle.list_facts.proofs.Slices.{drop_next}
 use Rattle.scrub_disk.specs.Image.{Image}
 use Rattle.scrub_scan.specs.declared.collected.Collected.{Collected}
 use Rattle.scrub_scan.specs.declared.item.Item.{Item}
@@ -18,7 +19,6 @@ use Rattle.scrub_scan.specs.steps.Gathering.{AgreesWith, Grows, Has, HasReadTo, 
 use Rattle.scrub_scan.specs.Item.{start_of, stop_of, IsItem}
 use Rattle.scrub_scan.specs.Tiling.{Joins}
 use Rattle.scrub_scan.proofs.Gathering.{length-settled_one, same_places, settled_one_is}
-use Rattle.scrub_scan.proofs.PlacePages.{page_rises}
 use Rattle.scrub_scan.proofs.ReadPages.{read_fewer}
 use Rattle.scrub_scan.proofs.Tilings.{Joins-push, advances}
 
@@ -85,9 +85,6 @@ settled_at high items i item d pending payload payloads lt is h =
     sym (get_or-take (suc i) (settled one pending payloads) i d (omega arith))
     ∙ ap (λ xs. get_or xs i d) (settled_front (suc i) high one pending payloads h)
     ∙ get_or-take (suc i) one i d (omega arith) ∙ settled_one_at items i item d (sha256 payload) lt is
-
-drop_next : {X : Type 0} (xs : List X) (k : ℕ) (d : X) → k < length xs → drop k xs ≡ get_or xs k d ∷ drop (k + 1) xs
-drop_next xs k d lt = drop-cons xs k d lt ∙ ap (λ n. get_or xs k d ∷ drop n xs) (let e : suc k ≡ k + 1 = omega arith in e)
 
 -- ---- what is left of a tiling
 
@@ -293,16 +290,13 @@ tiles_trusted x place from later items pending payloads none h = record {
 
 -- ---- as the collection has it
 
+-- what is said of a value holds if there is none
 pub if_none : (from : Option ℕ) (P : ℕ → Type 0) → from ≡ None → IfSome from P
 if_none None P none = tt
 if_none (Some s) P none = absurd (some_none s none)
   where
     some_none : (a : ℕ) → Some a ≡ None → ⊥
     some_none a e = cc
-
-pub not_some : (from : Option ℕ) → is_some from ≡ false → from ≡ None
-not_some None is = refl
-not_some (Some s) is = cc
 
 -- what is settled is collected
 pub settled_collected : (x : Extent) (place : ℕ) (p : Payloads) (c : Collected) → 0 < x.page → IsSettled x place p c → IsCollected x place p c
@@ -350,7 +344,7 @@ return_at : (from : Option ℕ) (right asked page k : ℕ) → 0 < page → IfSo
     → IsTrustedAt from right → asked ≤ right / page * k
 return_at None right asked page k positive h at = absurd at
 return_at (Some s) right asked page k positive h at =
-    let up : s / page * k ≤ right / page * k = mul-le-mul_right k (page_rises s right page positive at) in
+    let up : s / page * k ≤ right / page * k = mul-le-mul_right k (div_rises s right page positive at) in
     omega (arith, h, up)
 
 -- the tiling can go on from there
@@ -361,7 +355,7 @@ read_to image t p from place right h costs is = elim (cases_lt right place) [
       let back = return_at from right p.asked t.page (image.geometry.pages + 5) t.positive costs (is.1 less) in
       record {
         asked = h.asked;
-        read = read_fewer p (place / t.page) (right / t.page) (page_rises right place t.page t.positive is.0) h.read;
+        read = read_fewer p (place / t.page) (right / t.page) (div_rises right place t.page t.positive is.0) h.read;
         next = λ _. record { most = omega (arith, back); unread = λ _. back };
       }
   | inr same ↦ let e : place ≡ right = omega (arith, same, is.0) in subst (HasReadTo image t p) e h

@@ -8,6 +8,7 @@ use Rattle.std.proofs.lemmas.List.Folds.{list_all-append}
 use Rattle.std.proofs.lemmas.List.{get_or-map, length-map}
 use Rattle.std.proofs.lemmas.List.Elements.{All-map}
 use Rattle.std.proofs.lemmas.Simd.{map-map}
+use Rattle.list_facts.proofs.Zips.{All-seconds, AllZip-map_back}
 use Rattle.scrub_disk.specs.Image.{Image}
 use Rattle.scrub_super.specs.Plan.{PlanValue, pointer_of}
 use Rattle.scrub_scan.specs.declared.extent_result.ExtentResult.{ExtentResult}
@@ -63,26 +64,6 @@ zipped P (x ∷ xs) [] h full = absurd h
 zipped P (x ∷ xs) (None ∷ slots) h full = absurd (true≢false (sym full))
 zipped P (x ∷ xs) (Some y ∷ slots) h full = (h.0, zipped P xs slots h.1 full)
 
--- a fact of each pair's second
-pub zip_right : {A B : Type 0} (P : A → B → Type 0) (Q : B → Type 0) → ((a : A) (b : B) → P a b → Q b) →
-    (xs : List A) (ys : List B) → AllZip P xs ys → All Q ys
-zip_right P Q gives [] [] h k d below = absurd (omega (arith, below))
-zip_right P Q gives [] (y ∷ ys) h k d below = absurd h
-zip_right P Q gives (x ∷ xs) [] h k d below = absurd h
-zip_right P Q gives (x ∷ xs) (y ∷ ys) h zero d below = gives x y h.0
-zip_right P Q gives (x ∷ xs) (y ∷ ys) h (suc k) d below = zip_right P Q gives xs ys h.1 k d (omega (arith, below))
-
--- if each pair's second gives its first, so do all
-pub zip_map : {A B : Type 0} (P : A → B → Type 0) (f : B → A) → ((a : A) (b : B) → P a b → f b ≡ a) →
-    (xs : List A) (ys : List B) → AllZip P xs ys → map f ys ≡ xs
-zip_map P f gives [] [] h = refl
-zip_map P f gives [] (y ∷ ys) h = absurd h
-zip_map P f gives (x ∷ xs) [] h = absurd h
-zip_map P f gives (x ∷ xs) (y ∷ ys) h = both (gives x y h.0) (zip_map P f gives xs ys h.1)
-  where
-    both : {X : Type 0} {a b : X} {rest more : List X} → a ≡ b → rest ≡ more → (a ∷ rest) ≡ (b ∷ more)
-    both e h = cc
-
 -- so are the numbers of the extents
 pub slot_numbers : {D : Type 0} {s : _} (slots : List (Option (ExtentResult D s))) → AreFull slots →
     map (λ slot. option_map_or (λ r. r.extent) slot 0) slots ≡ extent_numbers (scanned_in slots)
@@ -104,7 +85,7 @@ module _ {D : Type 0} {s : _} (image : Image) (plan : PlanValue) (slots : List (
   -- each is of this image
   pub of_image : All (λ (r : ExtentResult D s). result_image r ≡ image) (held_in slots)
   of_image =
-      zip_right (IsPlannedResult image plan) (λ r. result_image r ≡ image) (λ e r h. h.image_is) plan.planned
+      All-seconds (IsPlannedResult image plan) (λ r. result_image r ≡ image) (λ e r h. h.image_is) plan.planned
       (held_in slots) pairs
 
   -- so that of the first is
@@ -121,15 +102,15 @@ module _ {D : Type 0} {s : _} (image : Image) (plan : PlanValue) (slots : List (
   all_found = record {
     extents =
         map-map (λ f. f.extent) (λ (r : ExtentResult D s). scanned r) (held_in slots)
-        ∙ zip_map (IsPlannedResult image plan) (λ (r : ExtentResult D s). r.extent) (λ e r h. h.extent_is) plan.planned (held_in slots) pairs;
+        ∙ AllZip-map_back (IsPlannedResult image plan) (λ (r : ExtentResult D s). r.extent) (λ e r h. h.extent_is) plan.planned (held_in slots) pairs;
     pointers =
         All-map (λ (f : Scanned). pointer_of plan f.extent ≡ Some f.pointer) (λ (r : ExtentResult D s). scanned r)
         (held_in slots)
-        (zip_right (IsPlannedResult image plan) (λ r. pointer_of plan r.extent ≡ Some r.pointer) (λ e r h. ap (pointer_of plan) h.extent_is ∙ h.pointer_is) plan.planned (held_in slots) pairs);
+        (All-seconds (IsPlannedResult image plan) (λ r. pointer_of plan r.extent ≡ Some r.pointer) (λ e r h. ap (pointer_of plan) h.extent_is ∙ h.pointer_is) plan.planned (held_in slots) pairs);
     findings =
         All-map (λ (f : Scanned). IsFindings image f.extent f.pointer f.findings) (λ (r : ExtentResult D s). scanned r)
         (held_in slots)
-        (zip_right (IsPlannedResult image plan) (λ r. IsFindings image r.extent r.pointer r.findings) (λ e r h. rw h.image_is at r.found) plan.planned (held_in slots) pairs);
+        (All-seconds (IsPlannedResult image plan) (λ r. IsFindings image r.extent r.pointer r.findings) (λ e r h. rw h.image_is at r.found) plan.planned (held_in slots) pairs);
   }
 
   -- and those of the image of the first one's source

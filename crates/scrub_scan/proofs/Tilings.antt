@@ -17,6 +17,7 @@ use Rattle.scrub_scan.specs.Item.{start_of, stop_of, IsItem, Fits}
 use Rattle.scrub_scan.specs.steps.OneFrame.{one_frame_at}
 use Rattle.scrub_scan.specs.Tiling.{Covers, IsInOneItem, IsTiling, Joins}
 
+-- one more item joins at the end
 pub Joins-push : (a : ℕ) (items : List Item) (item : Item) → Joins a (start_of item) items →
     Joins a (stop_of item) (items ++ item ∷ [])
 Joins-push a [] item h = (sym h, refl)
@@ -128,6 +129,7 @@ one_item x i j pos h k e =
     sym (put_at_start i) ∙ one_item_fits x (start_of i) i j (bound_above x (start_of i) pos h.below).0 first moved
     ∙ ap (λ p. put_at p j) e ∙ put_at_start j
 
+-- two tilings of an extent are the same
 pub one_tiling : (x : Extent) (is js : List Item) → 0 < x.page → IsTiling x is → IsTiling x js → is ≡ js
 one_tiling x is js pos h k = go 0 is js h.joined k.joined h.each k.each
   where
@@ -195,6 +197,7 @@ in_items x a (first ∷ items) pos joins each place low high =
         alone zero i is covers = absurd (omega (arith, past, covers.1, ap stop_of (same_Some first i is)))
         alone (suc n) i is covers = ap suc (rest.alone n i is covers)
 
+-- each place below the pointer is in one item
 pub in_one_item : (x : Extent) (items : List Item) → 0 < x.page → IsTiling x items → (place : ℕ) → place < x.pointer →
     IsInOneItem items place
 in_one_item x items pos tiled place below = in_items x 0 items pos tiled.joined tiled.each place (omega arith) below

@@ -28,7 +28,7 @@ use Rattle.scrub_check.specs.Named.{named_by_shard}
 use Rattle.scrub_check.specs.Spares.{asks_for_spares, copies_of, frames, is_copy_of, spares_of}
 use Rattle.scrub_check.specs.WholeScan.{IsWholeScan}
 use Rattle.scrub_listings.specs.Manifest.{is_without_spare}
-use Rattle.scrub_report.proofs.OneReader.{heads, no_tail, tails}
+use Rattle.scrub_found.proofs.OneReader.{heads, no_tail, tails}
 use Rattle.scrub_shard.specs.Bytes.{BytesValue}
 use Rattle.scrub_shard.specs.Shard.{HasContentOf, HasFirstPayload, HaveContentsOfEntry, IsBoundBy, IsLostInEntry, IsMapped, IsNowhere, IsPayloadFor, IsShardAnswer, Mapped, asks_for_nothing, first_lost, is_lost}
 use Rattle.scrub_shard.specs.declared.shard.ShardAnswer.TheVariants.{PayloadLost, Found}

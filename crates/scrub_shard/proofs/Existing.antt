@@ -16,9 +16,9 @@ use Rattle.scrub_check.specs.Named.{named_by_shard}
 use Rattle.scrub_check.specs.Spares.{frames, spares_by}
 use Rattle.scrub_check.specs.WholeScan.{IsWholeScan}
 use Rattle.scrub_check.proofs.StatusThere.{some_checked}
-use Rattle.scrub_report.specs.Scrubbed.{IsScrubbed, Scrubbed}
-use Rattle.scrub_report.proofs.Existing.{some_scrub}
-use Rattle.scrub_report.proofs.ResetPlans.{whole_but}
+use Rattle.scrub_found.specs.Scrubbed.{IsScrubbed, Scrubbed}
+use Rattle.scrub_found.proofs.Existing.{some_scrub}
+use Rattle.scrub_found.proofs.ResetPlans.{whole_but}
 use Rattle.scrub_shard.specs.Archive.{Answered, IsArchive, archive_of, members, run_remarks, shard_remarks, superblock_remarks}
 use Rattle.scrub_shard.specs.Shard.{HasFirstPayload, IsAnswerIn, IsAnswerOf, IsBoundBy, IsMapped, IsShardAnswer, Mapped, asks_for_nothing}
 use Rattle.scrub_shard.specs.steps.Payloads.{AreReadable, CanBeRead, HasPayloadLeft, IsAnswerWith, IsPayloadBy, is_lost_by}

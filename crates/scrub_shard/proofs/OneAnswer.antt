@@ -24,8 +24,8 @@ use Rattle.scrub_check.specs.ChunkRun.{HasPayloadThere}
 use Rattle.scrub_check.specs.Named.{named_by_shard}
 use Rattle.scrub_check.specs.Spares.{spares_of}
 use Rattle.scrub_check.proofs.Payloads.{one_payload}
-use Rattle.scrub_report.proofs.OneIndex.{one_list_of_checked, one_list_of_runs, read_runs_are_runs}
-use Rattle.scrub_report.proofs.OneReader.{one_plan, one_reader}
+use Rattle.scrub_found.proofs.OneIndex.{one_list_of_checked, one_list_of_runs, read_runs_are_runs}
+use Rattle.scrub_found.proofs.OneReader.{one_plan, one_reader}
 use Rattle.scrub_shard.specs.Bytes.{BytesValue}
 use Rattle.scrub_shard.specs.Shard.{AreBytesFor, HasFirstPayload, IsAnswerBy, IsAnswerIn, IsAnswerOf, IsBoundBy, IsMapped, IsPayloadFor, IsShardAnswer, Mapped, asks_for_nothing}
 use Rattle.scrub_shard.specs.declared.shard.ShardAnswer.{ShardAnswer}

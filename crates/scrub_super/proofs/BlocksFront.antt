@@ -2,38 +2,58 @@
 use Rattle.std.proofs.Common.{◌≡◌, ◌<◌, ◌≤◌, ◌+◌, ◌-◌, ◌*◌, ◌/◌, ◌^◌, ◌⊎◌, ℕ, zero, suc, Bool, true, false, cond, List, [], ◌∷◌, ◌++◌, length, take, get_or, slice_get, arith, refl, sym, ◌∙◌, ap, subst, inl, inr, Option, Some, None, IfSome, length-append}
 use Rattle.std.proofs.lemmas.Bool.{cases_lt, false≢true, false_from_ne_true}
 use Rattle.std.proofs.lemmas.Option.{slice_get_within, slice_get-get_or, slice_get_past, none-some}
-use Rattle.std.proofs.lemmas.List.{length-take-le, get_or_append_left, get_or-append_right}
+use Rattle.std.proofs.lemmas.List.{length-take-le, get_or-take, get_or_append_left, get_or-append_right}
 use Rattle.std.proofs.lemmas.List.Elements.{All-push, Contains-push, Contains-append_left}
 use Rattle.std.proofs.Math.Seq.{get_or-append_seam}
 use Rattle.std.proofs.lemmas.List.{get_or-append-add}
 use Rattle.scrub_disk.specs.Image.{AreBytesAt}
 use Rattle.scrub_disk.specs.Limits.{max_extent_bytes}
 use Rattle.scrub_disk.specs.Raw.{MayFailIn}
+use Rattle.scrub_disk.specs.steps.Ahead.{FilledFrom, IsFilled, StandsBetween}
 use Rattle.scrub_super.specs.Blocks.{IsMarked, LacksByte, byte_left, LosesBlocks}
 use Rattle.scrub_super.specs.steps.BlocksRead.{IsBlockRead, AreBlockMarks, AreBlocksRead, AreAllRead, BeginsWith}
 
 -- ---- one block
 
+-- the bytes at the front of a buffer, as a list of their own
+taken_at : (bytes : List ℕ) (offset n : ℕ) (out : List ℕ) → n ≤ length out → StandsBetween bytes offset 0 n out →
+    AreBytesAt (slice_get bytes) offset (take n out)
+taken_at bytes offset n out le stands k hk =
+    let small : k < n = omega (arith, hk, length-take-le n out le) in
+    stands k (omega arith) small ∙ ap Some (sym (get_or-take n out k 0 small))
+
+-- a buffer is filled with bytes that are known to be at its front
+pub filled_front : (bytes : List ℕ) (offset n : ℕ) (out : List ℕ) → n ≤ length out →
+    AreBytesAt (slice_get bytes) offset (take n out) → (n < length out → length bytes ≤ offset + n) →
+    IsFilled (Some bytes) offset out n
+filled_front bytes offset n out le stands ends = record {
+  within = le;
+  known = record {
+    given = λ k low small. stands k (omega (arith, small, length-take-le n out le)) ∙ ap Some (get_or-take n out k 0 small);
+    ended = ends;
+  };
+}
+
 -- a block that was read, which is lost only if its first lacking byte was read
 pub block_read : (fails : ℕ → ℕ → Bool) (raw : Option (List ℕ)) (offset lacking before after n : ℕ) (is_lost : Bool) (out : List ℕ) →
-    n ≤ length out → length out ≡ 512 →
-    IfSome raw (λ bytes. AreBytesAt (slice_get bytes) offset (take n out)) →
-    (n < length out → IfSome raw (λ bytes. length bytes ≤ offset + n)) →
+    length out ≡ 512 → IsFilled raw offset out n →
     (is_lost ≡ true → lacking < n) → (lacking < n → is_lost ≡ true) →
     IfSome raw (λ bytes. IsBlockRead bytes fails offset lacking before after out (record { len = n; is_lost = is_lost }))
-block_read fails None offset lacking before after n is_lost out le size stands ends only all = tt
-block_read fails (Some bytes) offset lacking before after n is_lost out le size stands ends only all = record {
-  read = λ _. stands;
-  ended = λ short. ends (omega (arith, short, size));
-  lacks = λ in_block low. elim (cases_lt lacking n) [
-    | inl there ↦ all there
-    | inr behind ↦ absurd (omega (arith, ends (omega (arith, behind, in_block, size)), low, behind))
-  ];
-  only = λ lost.
-      let there : lacking < n = only lost in
-      let byte = stands lacking (omega (arith, there, length-take-le n out le)) in
-      inl (omega (arith, there, le, size), slice_get_within bytes (offset + lacking) _ byte);
-}
+block_read fails None offset lacking before after n is_lost out size filled only all = tt
+block_read fails (Some bytes) offset lacking before after n is_lost out size filled only all =
+    let known : FilledFrom bytes offset out n = filled.known in
+    record {
+      read = λ _. taken_at bytes offset n out filled.within known.given;
+      ended = λ short. known.ended (omega (arith, short, size));
+      lacks = λ in_block low. elim (cases_lt lacking n) [
+        | inl there ↦ all there
+        | inr behind ↦ absurd (omega (arith, known.ended (omega (arith, behind, in_block, size)), low, behind))
+      ];
+      only = λ lost.
+          let there : lacking < n = only lost in
+          let byte = known.given lacking (omega arith) there in
+          inl (omega (arith, there, filled.within, size), slice_get_within bytes (offset + lacking) _ byte);
+    }
 
 -- ---- marks
 
@@ -225,6 +245,7 @@ pub left_at : (bytes : List ℕ) (lost : List Bool) (i : ℕ) → (IsMarked lost
     byte_left bytes lost i ≡ slice_get bytes i
 left_at bytes lost i unmarked = rw (false_from_ne_true (get_or lost (i / 512) false) unmarked)
 
+-- a byte that is left is there, and its block isn't lost
 pub left_there : (bytes : List ℕ) (lost : List Bool) (i x : ℕ) → byte_left bytes lost i ≡ Some x →
     (IsMarked lost (i / 512) → ⊥) × (slice_get bytes i ≡ Some x)
 left_there bytes lost i x is = by (get_or lost (i / 512) false) refl is

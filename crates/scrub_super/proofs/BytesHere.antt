@@ -4,8 +4,8 @@ use Rattle.std.specs.List.{range_with_len}
 use Rattle.std.proofs.lemmas.List.{append-nil, drop_all}
 use Rattle.std.proofs.lemmas.List.FromFn.{get_or-map-range_with_len, length-map-range_with_len}
 use Rattle.std.proofs.lemmas.List.Prefix.{front_from_reads}
+use Rattle.list_facts.proofs.Decisions.{Decided, decided_below, decided_some}
 use Rattle.scrub_disk.specs.Image.{AreBytesAt}
-use Rattle.scrub_frame.proofs.Decisions.{Decided, decided_below, decided_some}
 
 -- the byte at a place, or 0 if it can't be read
 abbrev pub byte_or_zero : Option ℕ → ℕ
@@ -16,6 +16,7 @@ byte_or_zero None = 0
 abbrev pub bytes_here : (ℕ → Option ℕ) → ℕ → ℕ → List ℕ
 bytes_here at p n = map (λ i. byte_or_zero (at i)) (range_with_len p n)
 
+-- they are n
 pub length-bytes_here : (at : ℕ → Option ℕ) (p n : ℕ) → length (bytes_here at p n) ≡ n
 length-bytes_here at p n = length-map-range_with_len (λ i. byte_or_zero (at i)) p n
 

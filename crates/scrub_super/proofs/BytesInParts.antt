@@ -3,7 +3,7 @@
 use Rattle.std.proofs.Common.{◌≡◌, ◌≤◌, ◌+◌, ℕ, List, ◌++◌, length, take, drop, arith, ap, append_assoc, length-append, take-append-drop, drop-drop}
 use Rattle.std.proofs.Math.Seq.{take-add}
 use Rattle.std.proofs.lemmas.List.{take_at}
-use Rattle.scrub_frame.proofs.Bytes.{part_at}
+use Rattle.list_facts.proofs.Slices.{part_at}
 use Rattle.scrub_frame.specs.Frame.{digest_size}
 
 -- the parts, at their places in the bytes
@@ -15,6 +15,7 @@ pub record AreParts (x head pointers retired runs digest : List ℕ) (a p t r : 
   pub runs_are : take r (drop (a + p + t) x) ≡ runs
   pub digest_is : take digest_size (drop (a + p + t + r) x) ≡ digest
 
+-- bytes that are written part by part have these parts
 pub parts_of : {x head pointers retired runs digest : List ℕ} (rest : List ℕ) {a p t r : ℕ} →
     length head ≡ a → length pointers ≡ p → length retired ≡ t → length runs ≡ r → length digest ≡ digest_size →
     x ≡ (head ++ (pointers ++ (retired ++ runs))) ++ digest ++ rest →

@@ -6,6 +6,7 @@ use Rattle.std.proofs.lemmas.Option.{same_Some, none-some}
 use Rattle.std.proofs.lemmas.List.{get_or-drop}
 use Rattle.std.proofs.lemmas.List.Prefix.{front_from_reads}
 use Rattle.std.proofs.lemmas.Nat.{div_below}
+use Rattle.list_facts.proofs.Filters.{filter_range-agree}
 use Rattle.scrub_disk.specs.declared.geometry.Geometry.{Geometry}
 use Rattle.scrub_disk.specs.Image.{Image, byte, extent_bytes}
 use Rattle.scrub_disk.proofs.HeldBytes.{byte-unreadable}
@@ -23,7 +24,6 @@ use Rattle.scrub_super.specs.steps.RecordsSeen.{StandsFrom, IsNewestFrom, AreSee
 use Rattle.scrub_super.proofs.NewestRecords.{from_conditions, rank_from_conditions, records_of_pages}
 use Rattle.scrub_super.proofs.OneRecord.{one_record_lem}
 use Rattle.scrub_super.proofs.Standing.{byte_held, some_bytes}
-use Rattle.scrub_disk.proofs.Filters.{filter_same}
 
 module _ {image : Image} {bytes : List ℕ} {readable : List Bool} (h : IsBuffered image 0 bytes readable) where
   -- a readable byte is held
@@ -75,7 +75,7 @@ module _ {image : Image} {bytes : List ℕ} {readable : List Bool} (h : IsBuffer
       bad ≡ filter (λ g. not (get_or readable g false)) (range_with_len 0 n) → bad ≡ unreadable_pages image 0
   bad_pages_are hn e =
       (rw (hn, h.count) at e)
-      ∙ filter_same (λ g. not (get_or readable g false)) (λ g. is_none (image.page 0 g)) 0 image.geometry.pages
+      ∙ filter_range-agree (λ g. not (get_or readable g false)) (λ g. is_none (image.page 0 g)) 0 image.geometry.pages
       (λ g low high. rw (h.pages g (omega (arith, high))) (by_mark (get_or readable g false) _))
     where
       by_mark : (b : Bool) (s : List ℕ) → not b ≡ is_none (cond b (Some s) None)
@@ -92,6 +92,7 @@ pages_found found = record {
   );
 }
 
+-- how new a record is, by those that were found
 pub rank_found : {image : Image} {f : RecordsSeen} → AreSeenFrom (StandsFrom image) 0 f → (n : ℕ) (rank : Rank) →
     IsRankByConditions image n rank → IsRank image n rank
 rank_found found n rank is = let rs = records_of_pages (pages_found found) in rank_from_conditions rs.1 n rank is

@@ -1,18 +1,14 @@
 -- Ascending extents: read one after another, and searched.
-use Rattle.std.proofs.Common.{◌≡◌, ◌<◌, ◌≤◌, ◌+◌, ◌*◌, ◌-◌, ◌==◌, ◌++◌, ℕ, zero, suc, List, [], ◌∷◌, true, false, cond, length, take, drop, length-drop, get_or, arith, refl, sym, ◌∙◌, ap, Result, Ok, Err, is_ok, nat_cmp, inl, inr, MatchResult}
+use Rattle.std.proofs.Common.{◌≡◌, ◌<◌, ◌≤◌, ◌+◌, ◌*◌, ◌-◌, ◌==◌, ◌++◌, ℕ, zero, suc, List, [], ◌∷◌, true, false, cond, length, take, drop, length-drop, arith, refl, ◌∙◌, ap, inl, inr}
 use Rattle.std.specs.List.{list_any}
-use Rattle.std.specs.List.Sorted.{IsStrictlyIncreasing, IsBinarySearchResult}
 use Rattle.std.proofs.Math.Numerals.{add-one}
-use Rattle.std.proofs.lemmas.Bool.{cases_lt, cases_eq}
-use Rattle.std.proofs.lemmas.Bool.Decides.{nat_tests}
-use Rattle.std.proofs.lemmas.List.{map-id, append-nil, get_or_default, take_all}
+use Rattle.std.proofs.lemmas.Bool.{cases_eq}
+use Rattle.std.proofs.lemmas.List.{map-id, append-nil, take_all}
 use Rattle.std.proofs.lemmas.List.FromFn.{filter_of_map_range_with_len_more}
-use Rattle.std.proofs.lemmas.List.Folds.{list_any_at, list_any_none}
-use Rattle.std.proofs.lemmas.List.Kept.{AllPairs-from_increasing}
-use Rattle.std.proofs.lemmas.List.Sorted.{searched}
 use Rattle.byteorder.specs.Endian.{big_number}
 use Rattle.scrub_super.specs.Planned.{is_in_use, extents_in_use}
 use Rattle.scrub_super.specs.steps.RecordRead.{number_in, SpellExtents}
+pub use Rattle.list_facts.proofs.Searches.{found_among_rising as found_extent}
 
 -- the first i numbers rise, each among 1 up to E, and the last of them is known
 pub record RiseTo (extents : ℕ) (bytes : List ℕ) (i last : ℕ) : Type 0 where
@@ -28,6 +24,7 @@ pub read_number : (x : List ℕ) (i : ℕ) {n : ℕ} → n ≡ big_number 4 (tak
 read_number x i is =
     is ∙ ap (big_number 4) (take_all (length x - 4 * i) (drop (4 * i) x) (omega (arith, length-drop (4 * i) x)))
 
+-- one more number, above the last
 pub rise_more : {e : ℕ} {x : List ℕ} {i last n : ℕ} → RiseTo e x i last → n ≡ number_in x i → last < n → n < e →
     RiseTo e x (i + 1) n
 rise_more {i = i} h is above within = record {
@@ -54,31 +51,10 @@ not_above zero h is fits low s = omega (arith, h.none refl, is, low, s.from_one 
 not_above (suc i) h is fits low s =
     omega (arith, h.last_is i (add-one i), rw (← add-one i) at is, low, s.rising i (omega (arith, fits)))
 
+-- a number that is no extent, so the numbers aren't extents
 pub not_below : {e : ℕ} {x : List ℕ} (i : ℕ) {n : ℕ} → n ≡ number_in x i → 4 * i + 4 ≤ length x → e ≤ n →
     SpellExtents e x → ⊥
 not_below i is fits high s = omega (arith, is, high, s.below i fits)
-
--- a search among ascending numbers
-pub found_extent : (xs : List ℕ) (n : ℕ) (r : Result ℕ ℕ) → IsStrictlyIncreasing xs →
-    IsBinarySearchResult (λ y. nat_cmp y n) xs r → is_ok r ≡ list_any (λ m. m == n) xs
-found_extent xs n r rising result = by r (searched xs n r result falls)
-  where
-    falls : (i j : ℕ) → i ≤ j → j < length xs → get_or xs i 0 ≤ get_or xs j 0
-    falls i j low here = elim (cases_eq i j) [
-      | inl same ↦ rw same (omega arith)
-      | inr other ↦ omega (arith, AllPairs-from_increasing xs rising i j 0 (omega arith) here)
-    ]
-
-    by : (o : Result ℕ ℕ) →
-        MatchResult o (λ i. (i < length xs) × (get_or xs i 0 ≡ n))
-        (λ i. (i ≤ length xs) × ((k : ℕ) → k < i → get_or xs k 0 < n) × ((k : ℕ) → i ≤ k → k < length xs → n < get_or xs k 0))
-        →
-        is_ok o ≡ list_any (λ m. m == n) xs
-    by (Ok i) at = sym (list_any_at (λ m. m == n) xs i 0 at.0 (grind (arith, nat_tests, at.1)))
-    by (Err i) at = sym (list_any_none (λ m. m == n) xs (λ k d below. rw (get_or_default xs k d 0 below) (elim (cases_lt k i) [
-      | inl less ↦ let low : get_or xs k 0 < n = at.1 k less in grind (arith, nat_tests)
-      | inr more ↦ let high : n < get_or xs k 0 = at.2 k more below in grind (arith, nat_tests)
-    ])))
 
 -- the extents in use, with one more
 module _ (retired : List ℕ) (i j : ℕ) (next : j ≡ i + 1) (low : 1 ≤ i) where

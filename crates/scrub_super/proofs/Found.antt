@@ -7,6 +7,7 @@ use Rattle.std.proofs.lemmas.Grind.{same_number_lists}
 use Rattle.byteorder.specs.Endian.{big_bytes, big_number}
 use Rattle.byteorder.specs.Numbers.{big_from-lt}
 use Rattle.sha2.specs.Sha256.{sha256}
+use Rattle.list_facts.proofs.Spelling.{AreBytes, AreBytes-drop, AreBytes-take, flat_map-read_parts, get_or-read_parts, length-read_parts, read_parts}
 use Rattle.scrub_disk.specs.declared.geometry.Geometry.{Geometry}
 use Rattle.scrub_frame.specs.declared.locator.Locator.{Locator}
 use Rattle.scrub_frame.specs.Locator.{locator_bytes, IsLocator}
@@ -21,7 +22,6 @@ use Rattle.scrub_super.specs.steps.Limits.{ArePointers}
 use Rattle.scrub_super.specs.steps.RecordRead.{record_head_size, retired_count, runs_place, digest_place, pointer_bytes, retired_bytes, run_locator_bytes, kind_by, IsHead, BeginsWithSome, number_in, SpellExtents}
 use Rattle.scrub_super.proofs.BytesInParts.{four_parts}
 use Rattle.scrub_super.proofs.Listed.{AreSmall, count_in, pointers_in, small_count, small_pointers, small_listed, same_numbers, same_listed}
-use Rattle.scrub_super.proofs.Parts.{AreBytes, AreBytes-drop, AreBytes-take, values, length-values, get_or-values, flat_map-values}
 use Rattle.scrub_super.proofs.RecordParts.{body_behind, AreRecordParts, record_of_parts, is_head, known_parts}
 
 -- ---- numbers and locators, by the bytes that spell them
@@ -66,22 +66,22 @@ pub numbers_spelled : (x ws : List ℕ) (n : ℕ) → length x ≡ 4 * n → len
     ((k : ℕ) → k < length ws → get_or ws k 0 ≡ number_in x k) → flat_map (big_bytes 4) ws ≡ x
 numbers_spelled x ws n l count h each =
     ap (flat_map (big_bytes 4))
-    (same_number_lists ws (values (big_number 4) 4 n x) (count ∙ sym (length-values (big_number 4) 4 n x))
-    (λ k hk. each k hk ∙ sym (number-take (drop (4 * k) x)) ∙ sym (get_or-values (big_number 4) 4 n k 0 x (omega arith))))
-    ∙ flat_map-values (big_bytes 4) (big_number 4) 4 n x number_spelled l h
+    (same_number_lists ws (read_parts (big_number 4) 4 n x) (count ∙ sym (length-read_parts (big_number 4) 4 n x))
+    (λ k hk. each k hk ∙ sym (number-take (drop (4 * k) x)) ∙ sym (get_or-read_parts (big_number 4) 4 n k 0 x (omega arith))))
+    ∙ flat_map-read_parts (big_bytes 4) (big_number 4) 4 n x number_spelled l h
 
 -- ---- lists of numbers and of locators
 
 -- the n numbers that bytes spell
 abbrev numbers : ℕ → List ℕ → List ℕ
-numbers n part = values (big_number 4) 4 n part
+numbers n part = read_parts (big_number 4) 4 n part
 
 module _ (n : ℕ) (part : List ℕ) where
   length-numbers : length (numbers n part) ≡ n
-  length-numbers = length-values (big_number 4) 4 n part
+  length-numbers = length-read_parts (big_number 4) 4 n part
 
   get_or-numbers : (k d : ℕ) → k < n → get_or (numbers n part) k d ≡ number_in part k
-  get_or-numbers k d here = get_or-values (big_number 4) 4 n k d part here ∙ number-take (drop (4 * k) part)
+  get_or-numbers k d here = get_or-read_parts (big_number 4) 4 n k d part here ∙ number-take (drop (4 * k) part)
 
 -- each of the pointers that bytes spell is within the limit
 pointers_fit : (g : Geometry) (part : List ℕ) (most : ℕ) → most ≡ g.page * g.pages → length part ≡ 4 * (g.extents - 1) →
@@ -108,10 +108,10 @@ extents_fit e t part l h = record {
 }
 
 locators_fit : (r : ℕ) (part : List ℕ) → length part ≡ 60 * r → AreBytes part →
-    All IsLocator (values locator_of 60 r part)
+    All IsLocator (read_parts locator_of 60 r part)
 locators_fit r part l bytes k d hk =
-    let here : k < r = omega (arith, length-values locator_of 60 r part) in
-    rw (get_or-values locator_of 60 r k d part here)
+    let here : k < r = omega (arith, length-read_parts locator_of 60 r part) in
+    rw (get_or-read_parts locator_of 60 r k d part here)
     (locator_fits _ (length_part part (60 * k) 60 (omega arith)) (bytes_part part (60 * k) 60 (omega arith) bytes))
 
 -- the list that a head announces, as bytes spell it
@@ -130,7 +130,7 @@ listed_fit e (Some t) part l h = extents_fit e t part l h
 listed_spelled : (k : Option ℕ) (part : List ℕ) → length part ≡ 4 * retired_count k → AreBytes part →
     flat_map (big_bytes 4) (unwrap_or (listed_values k part) []) ≡ part
 listed_spelled None part l h = sym (nil_from_length part (omega (arith, l)))
-listed_spelled (Some t) part l h = flat_map-values (big_bytes 4) (big_number 4) 4 t part number_spelled l h
+listed_spelled (Some t) part l h = flat_map-read_parts (big_bytes 4) (big_number 4) 4 t part number_spelled l h
 
 -- ---- the record
 
@@ -150,12 +150,12 @@ record_found {g} x {n} {r} {k} bytes head at enough hps hts hbody hrest limit wi
         pointer_count = pointers.count;
         pointers_within = pointers.within;
         retired = retired;
-        run_count = omega (arith, head.few, length-values locator_of 60 r rs);
+        run_count = omega (arith, head.few, length-read_parts locator_of 60 r rs);
         each_run = runs;
       })
       parts;
   generation = refl;
-  count = length-values locator_of 60 r rs;
+  count = length-read_parts locator_of 60 r rs;
   listed = count_listed k ts;
 }
   where
@@ -173,7 +173,7 @@ record_found {g} x {n} {r} {k} bytes head at enough hps hts hbody hrest limit wi
       generation = n;
       pointers = numbers (g.extents - 1) ps;
       retired = listed_values k ts;
-      runs = values locator_of 60 r rs;
+      runs = read_parts locator_of 60 r rs;
     }
 
     room : digest_place g r k + digest_size ≤ length x
@@ -202,14 +202,14 @@ record_found {g} x {n} {r} {k} bytes head at enough hps hts hbody hrest limit wi
 
     hp : flat_map (big_bytes 4) c.pointers ≡ ps
     hp =
-        flat_map-values (big_bytes 4) (big_number 4) 4 _ ps number_spelled p_long
+        flat_map-read_parts (big_bytes 4) (big_number 4) 4 _ ps number_spelled p_long
         (bytes_part x _ _ (omega (arith, room)) bytes)
 
     ht : flat_map (big_bytes 4) (retired_in c) ≡ ts
     ht = listed_spelled k ts t_long (bytes_part x _ _ (omega (arith, room)) bytes)
 
     hr : flat_map locator_bytes c.runs ≡ rs
-    hr = flat_map-values locator_bytes locator_of 60 r rs locator_spelled r_long r_bytes
+    hr = flat_map-read_parts locator_bytes locator_of 60 r rs locator_spelled r_long r_bytes
 
     whole : body_behind g n r k c ≡ take (digest_place g r k) x
     whole =
@@ -217,7 +217,7 @@ record_found {g} x {n} {r} {k} bytes head at enough hps hts hbody hrest limit wi
         (four_parts x (record_head_size k) (4 * (g.extents - 1)) (4 * retired_count k) (60 * r))
 
     parts : AreRecordParts g x n (length c.runs) (count_in c) c
-    parts = rw (count_listed k ts, length-values locator_of 60 r rs) (record {
+    parts = rw (count_listed k ts, length-read_parts locator_of 60 r rs) (record {
       enough = room;
       head_is = head.spelled;
       pointers_are = sym hp;
@@ -226,6 +226,7 @@ record_found {g} x {n} {r} {k} bytes head at enough hps hts hbody hrest limit wi
       digest_is = (rw (hrest, hbody, at) at digest) ∙ ap sha256 (sym whole);
     })
 
+-- a list of retired extents has fewer than 2^16
 pub small_some : {g : Geometry} {x : List ℕ} {n r : ℕ} {k : Option ℕ} → BeginsWithSome g x n r k →
     retired_count k < 2 ^ 16
 small_some {g} some = rw some.listed at (small_count g some.contents.retired some.begins.contents.retired)

@@ -1,5 +1,6 @@
 -- What was found in the front of a raw image is what the raw image holds, and there is one answer.
 use Rattle.std.proofs.Common.{◌≡◌, ◌<◌, ◌+◌, ℕ, Bool, List, arith, refl, sym, ◌∙◌, Option, Some, None, IfSome}
+use Rattle.list_facts.proofs.Rising.{one_rising_by}
 use Rattle.scrub_disk.specs.Limits.{max_extent_bytes}
 use Rattle.scrub_super.specs.declared.unknown_sizes.FoundRecord.{FoundRecord}
 use Rattle.scrub_super.specs.declared.unknown_sizes.LostBytes.{LostBytes}
@@ -7,7 +8,6 @@ use Rattle.scrub_super.specs.Blocks.{byte_left}
 use Rattle.scrub_super.specs.steps.BlocksRead.{AreBlockMarks, AreAllRead}
 use Rattle.scrub_super.specs.UnknownSizes.{IsFoundRecord, AreFoundRecords, AreLostRanges, AreFoundByOwnSizes, AreFoundInSome, AreFoundWith}
 use Rattle.scrub_super.proofs.BlocksFront.{same_left, loses_blocks}
-use Rattle.scrub_super.proofs.RisingLists.{one_rising_by}
 
 -- a record depends only on the bytes below 2^26
 pub same_record : (at also : ℕ → Option ℕ) (r : FoundRecord) → ((i : ℕ) → i < max_extent_bytes → at i ≡ also i) →
@@ -61,6 +61,7 @@ found_known (Some known) lacking failures all blocks hr hl own = record {
   found = found_in known lacking failures all blocks hr hl;
 }
 
+-- records and lost ranges that are found are one answer
 pub one_answer_lem : (bytes : List ℕ) (lost : List Bool) (a b : List FoundRecord) (r s : List LostBytes) →
     AreFoundByOwnSizes bytes lost a r → AreFoundByOwnSizes bytes lost b s → (a ≡ b) × (r ≡ s)
 one_answer_lem bytes lost a b r s x y = (

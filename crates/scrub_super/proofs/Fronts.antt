@@ -44,14 +44,17 @@ one_front {j = j} h i =
     let q = front_read j (front_magic j h) refl refl i in
     (q.0, sym p.1 ∙ q.1, sym p.2 ∙ q.2)
 
+-- how long a head is
 pub length_head : (g : Geometry) (n r : ℕ) (k : Option ℕ) → length (head_bytes g n r k) ≡ record_head_size k
 length_head g n r None = refl
 length_head g n r (Some t) = refl
 
+-- a head has at most 28 bytes
 pub head_sizes : (k : Option ℕ) → record_head_size k ≤ 28
 head_sizes None = omega arith
 head_sizes (Some t) = omega arith
 
+-- and at least 26
 pub least_head : (k : Option ℕ) → 26 ≤ record_head_size k
 least_head None = omega arith
 least_head (Some t) = omega arith

@@ -28,6 +28,7 @@ power-prop p = hlevel props
 le-prop : (m n : ℕ) → IsProp (m ≤ n)
 le-prop m n = hlevel props
 
+-- three numbers determine a geometry
 pub same_geometry : (g h : Geometry) → g.page ≡ h.page → g.pages ≡ h.pages → g.extents ≡ h.extents → g ≡ h
 same_geometry g h p n e = λ i. record {
   page = p i;

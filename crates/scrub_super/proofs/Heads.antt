@@ -7,11 +7,11 @@ use Rattle.std.proofs.lemmas.List.{length-take-le}
 use Rattle.std.proofs.lemmas.Nat.{be_bytes_2}
 use Rattle.byteorder.specs.Endian.{big_bytes, big_number}
 use Rattle.byteorder.specs.Numbers.{big_from-lt}
+use Rattle.list_facts.proofs.Spelling.{AreBytes, AreBytes-drop, AreBytes-take}
 use Rattle.scrub_disk.specs.declared.geometry.Geometry.{Geometry}
 use Rattle.scrub_super.specs.declared.kind.RecordKind.{RecordKind}
 use Rattle.scrub_super.specs.declared.kind.RecordKind.TheVariants.{Ssb2}
 use Rattle.scrub_super.specs.steps.RecordRead.{IsFront, IsHead, front_bytes, head_bytes}
-use Rattle.scrub_super.proofs.Parts.{AreBytes, AreBytes-drop, AreBytes-take}
 
 -- two bytes are spelled by the number that they spell
 two_bytes : (y : List ℕ) (t : ℕ) → length y ≡ 2 → AreBytes y → t ≡ big_number 2 y → big_bytes 2 t ≡ y

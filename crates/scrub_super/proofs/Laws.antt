@@ -4,12 +4,12 @@ use Rattle.std.proofs.lemmas.Bool.{cases_lt}
 use Rattle.std.proofs.lemmas.Option.{same_Some}
 use Rattle.std.proofs.lemmas.List.{append-nil}
 use Rattle.std.proofs.lemmas.List.Prefix.{front_from_reads}
+use Rattle.list_facts.proofs.Rising.{one_rising_by}
 use Rattle.scrub_disk.specs.Image.{Image}
 use Rattle.scrub_super.specs.Contents.{Contents}
 use Rattle.scrub_super.specs.Record.{record_bytes}
 use Rattle.scrub_super.specs.Chosen.{AreRecords, Choice, IsChoice, RecordStandsAt, newest}
 use Rattle.scrub_super.proofs.OneRecord.{one_record_lem}
-use Rattle.scrub_super.proofs.RisingLists.{one_rising_by}
 
 -- if one record is as long as the other or longer
 longer_record : {image : Image} {g : ℕ} (c d : Contents) →
@@ -28,6 +28,7 @@ longer_record {image} c d fits h k = one_record_lem image.geometry whole c d
     whole : List ℕ
     whole = record_bytes image.geometry c
 
+-- two records on one page are the same
 pub one_record_on_page : (image : Image) (g : ℕ) (c d : Contents) → RecordStandsAt image g c →
     RecordStandsAt image g d → c ≡ d
 one_record_on_page image g c d h k = elim (cases_lt (length (record_bytes image.geometry c)) (length (record_bytes image.geometry d))) [
@@ -37,12 +38,14 @@ one_record_on_page image g c d h k = elim (cases_lt (length (record_bytes image.
 
 -- ---- the choice
 
+-- two lists of an image's records are the same
 pub one_list_of_records : {image : Image} {rs ss : List (ℕ × Contents)} → AreRecords image rs → AreRecords image ss → rs ≡ ss
 one_list_of_records {image} {rs} {ss} x y =
     one_rising_by (λ (r : ℕ × Contents). r.0) rs ss x.rising y.rising
     (λ r there. (y.exact r.0 r.1).1 ((x.exact r.0 r.1).0 there))
     (λ r there. (x.exact r.0 r.1).1 ((y.exact r.0 r.1).0 there))
 
+-- and so are two choices of it
 pub one_choice_lem : (image : Image) (a b : Choice) → IsChoice image a → IsChoice image b → a ≡ b
 one_choice_lem image a b x y =
     let valid : x.valid ≡ y.valid = one_list_of_records x.are y.are in

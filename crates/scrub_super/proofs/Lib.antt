@@ -1,35 +1,42 @@
 -- Lemmas on records, the choice and the plan.
-pub mod Parts
+
+-- the bytes of a record: its parts, how it is read and written
 pub mod BytesInParts
 pub mod Fronts
+pub mod Heads
 pub mod Listed
 pub mod RecordParts
 pub mod OneRecord
 pub mod Refused
 pub mod Found
 pub mod Written
-pub mod Heads
+-- extents, the plan and its resets
 pub mod Extents
 pub mod Plans
 pub mod PlanParts
 pub mod Resets
+-- the records of extent 0, and the one that is used
 pub mod Standing
 pub mod RecordsSeenSteps
 pub mod Steps
 pub mod Choices
 pub mod Laws
 pub mod NewestRecords
+-- what each page of extent 0 is
 pub mod PageLaws
 pub mod SameExtentZero
 pub mod PageSteps
-pub mod RisingLists
+-- records of any sizes in a raw image
 pub mod Geometries
 pub mod BlocksFront
 pub mod UnknownSizesSteps
 pub mod LostRuns
 pub mod FoundByOwnSizes
+-- that there is an answer
 pub mod BytesHere
 pub mod RecordsThere
 pub mod PlansFit
 pub mod PagesThere
 pub mod SizesThere
+-- what `list_facts` has, for crates that import it from here
+pub mod RisingLists

@@ -4,12 +4,12 @@ use Rattle.std.specs.List.{Contains, AllPairs}
 use Rattle.std.proofs.lemmas.Bool.{cases_lt, false≢true}
 use Rattle.std.proofs.lemmas.List.{append-nil}
 use Rattle.std.proofs.lemmas.List.Elements.{Contains-push, Contains-push_cases, Contains-append_left}
+use Rattle.list_facts.proofs.Rising.{rises_more}
 use Rattle.scrub_super.specs.declared.unknown_sizes.LostBytes.{LostBytes}
 use Rattle.scrub_super.specs.Blocks.{IsMarked, IsLostRun}
 use Rattle.scrub_super.specs.steps.BlocksRead.{ended_run}
 use Rattle.scrub_super.specs.UnknownSizes.{AreLostRanges}
 use Rattle.scrub_super.proofs.BlocksFront.{mark_within}
-use Rattle.scrub_super.proofs.RisingLists.{rises_more}
 
 -- all blocks from `first` up to a block are lost, and the one before `first` isn't
 pub record RunsFrom (lost : List Bool) (first block : ℕ) : Type 0 where
@@ -140,6 +140,7 @@ run_within {lost} {stop = stop} run =
     let last : IsMarked lost (stop - 1) = run.all (stop - 1) (omega (arith, run.some)) (omega (arith, run.some)) in
     omega (arith, run.some, mark_within lost (stop - 1) last)
 
+-- past all blocks, the runs are all lost ranges
 pub all_runs : {lost : List Bool} {block : ℕ} {ranges : List LostBytes} → length lost ≤ block →
     AreRunsTo lost block ranges → AreLostRanges lost ranges
 all_runs enough h = record {

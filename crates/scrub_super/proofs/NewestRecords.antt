@@ -1,15 +1,16 @@
 -- The choice by the list of all valid records, and by conditions on all of them: each says what the other says.
 use Rattle.std.proofs.Common.{◌≡◌, ◌≢◌, ◌⊎◌, ◌↔◌, ◌<◌, ◌≤◌, ◌+◌, ℕ, suc, List, [], ◌∷◌, Bool, true, false, cond, length, get_or, map, arith, refl, sym, ◌∙◌, ap, Option, Some, None, IfSome, IsTrue, inl, inr, not, nat_lt, slice_get, option_map}
-use Rattle.std.specs.Prelude.{filter}
 use Rattle.std.specs.List.{All, AllPairs, Contains, list_any}
 use Rattle.std.specs.List.Sorted.{IsStrictlyIncreasing}
 use Rattle.std.proofs.lemmas.Bool.{cases_lt, false≢true, false_from_ne_true, lt-ltb, ltb-true, not-true, not_from_false, or_cases, true_from_ne_false}
 use Rattle.std.proofs.lemmas.Bool.Decides.{same_from_decides}
 use Rattle.std.proofs.lemmas.List.{get_or-map, length-map}
-use Rattle.std.proofs.lemmas.List.Elements.{All-cons, All-contains, All-contains_itself, All-filter, All-nil, filter_passes}
+use Rattle.std.proofs.lemmas.List.Elements.{All-cons, All-contains, All-contains_itself, All-nil}
 use Rattle.std.proofs.lemmas.List.Folds.{list_any_at}
 use Rattle.std.proofs.lemmas.List.Kept.{AllPairs-filter, AllPairs-from_increasing}
 use Rattle.std.proofs.lemmas.Option.{get_or_from_slice_get, none-some, same_Some, slice_get_within, slice_get-get_or}
+use Rattle.list_facts.proofs.Elements.{Contains-filter, Contains-cases, Contains-from_filter}
+use Rattle.list_facts.proofs.Rising.{first_below_rest}
 use Rattle.scrub_disk.specs.Image.{Image}
 use Rattle.scrub_super.specs.declared.pages.Rank.{Rank}
 use Rattle.scrub_super.specs.declared.pages.Rank.TheVariants.{Tie, Counts, Older}
@@ -19,7 +20,6 @@ use Rattle.scrub_super.specs.Chosen.{AreRecords, Choice, IsChoice, RecordStandsA
 use Rattle.scrub_super.specs.Pages.{IsRank}
 use Rattle.scrub_super.specs.steps.ByConditions.{AreRecordPages, IsChoiceByConditions, IsChosen, IsGreatest, IsNewestRecord, IsRankByConditions, IsTie}
 use Rattle.scrub_super.proofs.Laws.{one_record_on_page}
-use Rattle.scrub_super.proofs.RisingLists.{contains_cases, first_below}
 
 -- ---- lists that rise by page
 
@@ -30,10 +30,10 @@ Rises = AllPairs (λ r s. r.0 < s.0)
 first_is : (rs : List (ℕ × Contents)) (r : ℕ × Contents) → Rises rs → Contains rs r →
     ((s : ℕ × Contents) → Contains rs s → r.0 ≤ s.0) → slice_get rs 0 ≡ Some r
 first_is [] r up there lowest = absurd (omega (arith, there.1))
-first_is (x ∷ xs) r up there lowest = elim (contains_cases x xs r there) [
+first_is (x ∷ xs) r up there lowest = elim (Contains-cases x xs r there) [
   | inl here ↦ ap Some here
   | inr later ↦
-      absurd (omega (arith, first_below (λ (s : ℕ × Contents). s.0) x r xs up later, lowest x (0, omega arith, refl)))
+      absurd (omega (arith, first_below_rest (λ (s : ℕ × Contents). s.0) x r xs up later, lowest x (0, omega arith, refl)))
 ]
 
 first_lowest : (rs : List (ℕ × Contents)) (r s : ℕ × Contents) → Rises rs → slice_get rs 0 ≡ Some r → Contains rs s →
@@ -41,10 +41,10 @@ first_lowest : (rs : List (ℕ × Contents)) (r s : ℕ × Contents) → Rises r
 first_lowest [] r s up is there = absurd (omega (arith, there.1))
 first_lowest (x ∷ xs) r s up is there =
     let e : x ≡ r = same_Some x r is in
-    elim (contains_cases x xs s there) [
+    elim (Contains-cases x xs s there) [
       | inl here ↦ omega (arith, ap (λ (t : ℕ × Contents). t.0) here, ap (λ (t : ℕ × Contents). t.0) e)
       | inr later ↦
-          omega (arith, first_below (λ (t : ℕ × Contents). t.0) x s xs up later, ap (λ (t : ℕ × Contents). t.0) e)
+          omega (arith, first_below_rest (λ (t : ℕ × Contents). t.0) x s xs up later, ap (λ (t : ℕ × Contents). t.0) e)
     ]
 
 first_among : (rs : List (ℕ × Contents)) (r : ℕ × Contents) → slice_get rs 0 ≡ Some r → Contains rs r
@@ -55,12 +55,12 @@ two_among : (rs : List (ℕ × Contents)) → Rises rs → 1 < length rs →
 two_among [] up two = absurd (omega (arith, two))
 two_among (x ∷ []) up two = absurd (omega (arith, two))
 two_among (x ∷ y ∷ ys) up two =
-    (x, y, (0, omega arith, refl), (1, omega arith, refl), first_below (λ (t : ℕ × Contents). t.0) x y (y ∷ ys) up (0, omega arith, refl))
+    (x, y, (0, omega arith, refl), (1, omega arith, refl), first_below_rest (λ (t : ℕ × Contents). t.0) x y (y ∷ ys) up (0, omega arith, refl))
 
 two_if_apart : (rs : List (ℕ × Contents)) (r s : ℕ × Contents) → r.0 ≢ s.0 → Contains rs r → Contains rs s → 1 < length rs
 two_if_apart [] r s apart a b = absurd (omega (arith, a.1))
 two_if_apart (x ∷ y ∷ ys) r s apart a b = omega arith
-two_if_apart (x ∷ []) r s apart a b = by (contains_cases x [] r a) (contains_cases x [] s b)
+two_if_apart (x ∷ []) r s apart a b = by (Contains-cases x [] r a) (Contains-cases x [] s b)
   where
     by : (x ≡ r) ⊎ Contains [] r → (x ≡ s) ⊎ Contains [] s → 1 < length (x ∷ [])
     by (inl here) (inl there) = absurd (apart (ap (λ (t : ℕ × Contents). t.0) (sym here ∙ there)))
@@ -83,25 +83,6 @@ rise_by_pages rs pages are up i j d hi hj =
       get_or-map (λ (r : ℕ × Contents). r.0) rs i d d.0 (omega (arith, hi, hj)),
       get_or-map (λ (r : ℕ × Contents). r.0) rs j d d.0 hj,
     ) at (AllPairs-from_increasing (map (λ (r : ℕ × Contents). r.0) rs) (rw (sym are) at up) i j d.0 hi (omega (arith, hj, long)))
-
--- ---- elements that pass a test
-
-kept : {X : Type 0} (p : X → Bool) (xs : List X) (x : X) → Contains xs x → p x ≡ true → Contains (filter p xs) x
-kept p [] x there passes = there
-kept {X} p (y ∷ ys) x there passes = by (p y) refl (contains_cases y ys x there) (λ later. kept p ys x later passes)
-  where
-    by : (b : Bool) → p y ≡ b → (y ≡ x) ⊎ Contains ys x → (Contains ys x → Contains (filter p ys) x) →
-        Contains (cond b (y ∷ filter p ys) (filter p ys)) x
-    by true e (inl here) rest = (0, omega arith, here)
-    by true e (inr later) rest = let c = rest later in (suc c.0, omega (arith, c.1), c.2)
-    by false e (inl here) rest = absurd (false≢true (sym e ∙ ap p here ∙ passes))
-    by false e (inr later) rest = rest later
-
-kept_from : {X : Type 0} (p : X → Bool) (xs : List X) (x : X) → Contains (filter p xs) x → Contains xs x × (p x ≡ true)
-kept_from p xs x there = (
-  All-contains (Contains xs) (filter p xs) x (All-filter p (Contains xs) xs (All-contains_itself xs)) there,
-  All-contains (λ y. p y ≡ true) (filter p xs) x (filter_passes p xs) there,
-)
 
 -- ---- greater generations
 
@@ -138,7 +119,7 @@ top_of : (x : ℕ × Contents) (xs : List (ℕ × Contents)) →
 top_of x [] = (
   x,
   (0, omega arith, refl),
-  λ r there. elim (contains_cases x [] r there) [
+  λ r there. elim (Contains-cases x [] r there) [
     | inl here ↦ omega (arith, ap (λ (t : ℕ × Contents). t.1.generation) here)
     | inr later ↦ absurd (omega (arith, later.1))
   ],
@@ -149,7 +130,7 @@ top_of x (y ∷ ys) =
       | inl above ↦ (
         x,
         (0, omega arith, refl),
-        λ r there. elim (contains_cases x (y ∷ ys) r there) [
+        λ r there. elim (Contains-cases x (y ∷ ys) r there) [
           | inl here ↦ omega (arith, ap (λ (s : ℕ × Contents). s.1.generation) here)
           | inr later ↦ omega (arith, t.2 r later, above)
         ],
@@ -157,7 +138,7 @@ top_of x (y ∷ ys) =
       | inr below ↦ (
         t.0,
         (suc t.1.0, omega (arith, t.1.1), t.1.2),
-        λ r there. elim (contains_cases x (y ∷ ys) r there) [
+        λ r there. elim (Contains-cases x (y ∷ ys) r there) [
           | inl here ↦ omega (arith, ap (λ (s : ℕ × Contents). s.1.generation) here, below)
           | inr later ↦ t.2 r later
         ],
@@ -169,13 +150,13 @@ top_of x (y ∷ ys) =
 newest_from : (rs : List (ℕ × Contents)) (r : ℕ × Contents) → Contains (newest rs) r →
     Contains rs r × (is_older rs r.1.generation ≡ false)
 newest_from rs r there =
-    let x = kept_from (λ (s : ℕ × Contents). not (is_older rs s.1.generation)) rs r there in
+    let x = Contains-from_filter (λ (s : ℕ × Contents). not (is_older rs s.1.generation)) rs r there in
     (x.0, not-true (is_older rs r.1.generation) x.1)
 
 among_newest : (rs : List (ℕ × Contents)) (r : ℕ × Contents) → Contains rs r → is_older rs r.1.generation ≡ false →
     Contains (newest rs) r
 among_newest rs r there top =
-    kept (λ (s : ℕ × Contents). not (is_older rs s.1.generation)) rs r there (not_from_false (is_older rs r.1.generation) top)
+    Contains-filter (λ (s : ℕ × Contents). not (is_older rs s.1.generation)) rs r (not_from_false (is_older rs r.1.generation) top) there
 
 some_newest : (rs : List (ℕ × Contents)) (r : ℕ × Contents) → Contains rs r → slice_get (newest rs) 0 ≡ None → ⊥
 some_newest [] r there none = omega (arith, there.1)
@@ -289,6 +270,7 @@ module _ {image : Image} {records : List (ℕ × Contents)} (are : AreRecords im
             get_or-map (λ (s : ℕ × Contents). s.0) records there.0 (q, x.0) q there.1 ∙ ap (λ (s : ℕ × Contents). s.0) there.2,
           )
 
+-- a choice meets the conditions
 pub by_conditions : {image : Image} {choice : Choice} → IsChoice image choice → IsChoiceByConditions image choice
 by_conditions {image} {choice} x = record {
   geometry = x.geometry;
@@ -341,6 +323,7 @@ module _ {image : Image} where
           one_record_on_page image q r.1 c (rw page at (on.2 on_page.0 (q, c) within)) s in
           (on_page.0, within, λ i. (page i, same i))
 
+-- what meets the conditions is a choice
 pub from_conditions : {image : Image} {choice : Choice} → IsChoiceByConditions image choice → IsChoice image choice
 from_conditions {image} {choice} x =
     let rs = records_of_pages x.records.1 in
@@ -358,6 +341,7 @@ from_conditions {image} {choice} x =
 
 -- ---- how new a record is
 
+-- a rank by the conditions is one by the list
 pub rank_from_conditions : {image : Image} {records : List (ℕ × Contents)} → AreRecords image records → (n : ℕ) (rank : Rank) →
     IsRankByConditions image n rank → IsRank image n rank
 rank_from_conditions {image} {records} are n rank is = (records, are, by rank is)
@@ -381,6 +365,7 @@ rank_from_conditions {image} {records} are n rank is = (records, are, by rank is
         (true_from_ne_false (is_older records n) (λ top. x (greatest_by are n top)))
         )
 
+-- and the other way round
 pub rank_by_conditions : {image : Image} (n : ℕ) (rank : Rank) → IsRank image n rank → IsRankByConditions image n rank
 rank_by_conditions {image} n rank x =
     rw x.2 (by (is_older x.0 n) (nat_lt 1 (length (newest x.0))) refl refl)

@@ -7,6 +7,7 @@ use Rattle.scrub_super.specs.Record.{BeginsWithRecord}
 use Rattle.scrub_super.proofs.Listed.{pointers_in, small_pointers, small_listed, same_numbers, same_listed}
 use Rattle.scrub_super.proofs.RecordParts.{record_parts, known_parts, is_head, record_head}
 
+-- bytes begin with one record at most
 pub one_record_lem : (g : Geometry) (x : List ℕ) (c d : Contents) → BeginsWithRecord g x c → BeginsWithRecord g x d →
     c ≡ d
 one_record_lem g x c d h k =

@@ -132,6 +132,7 @@ one_superblock_page image q (Damaged k) b x y = damaged_alone image q b k x y
 one_superblock_page image q Stray b x y = stray_alone image q b x y
 one_superblock_page image q Held b x y = held_alone image q b x y
 
+-- two lists of what the pages hold are the same
 pub one_list_of_pages : (image : Image) (a b : List SuperblockPage) → AreSuperblockPages image a →
     AreSuperblockPages image b → a ≡ b
 one_list_of_pages image a b x y =

@@ -252,6 +252,7 @@ known_of {image} {q = q} {start} {reach = reach} h here hs ht hp r stray = recor
 
 -- ---- what the pages hold
 
+-- one more page, with those before it
 pub each_more : (image : Image) (old : List SuperblockPage) {new : List SuperblockPage} {q : ℕ} (page : SuperblockPage) →
     length old ≡ q → new ≡ old ++ page ∷ [] →
     ((r : ℕ) (p : SuperblockPage) → slice_get old r ≡ Some p → IsSuperblockPage image r p) →

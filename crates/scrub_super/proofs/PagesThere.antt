@@ -5,8 +5,8 @@ use Rattle.std.specs.List.{list_any, range_with_len}
 use Rattle.std.proofs.Math.Nat.{le-mul_of_pos_right}
 use Rattle.std.proofs.lemmas.List.FromFn.{get_or-map-range_with_len, length-map-range_with_len}
 use Rattle.std.proofs.lemmas.Option.{get_or_from_slice_get, none-some, same_Some, slice_get_within}
+use Rattle.list_facts.proofs.Decisions.{Decided, decided_at_most, decided_below, decided_both, decided_less, decided_like, decided_not, decided_number, decided_numbers, some_below}
 use Rattle.scrub_disk.specs.Image.{Image}
-use Rattle.scrub_frame.proofs.Decisions.{Decided, decided_at_most, decided_below, decided_both, decided_less, decided_like, decided_not, decided_number, decided_numbers, some_below}
 use Rattle.scrub_super.specs.declared.kind.RecordKind.{RecordKind}
 use Rattle.scrub_super.specs.declared.kind.RecordKind.TheVariants.{Ssb1, Ssb2}
 use Rattle.scrub_super.specs.declared.pages.Rank.{Rank}
@@ -60,6 +60,7 @@ start_below : (page start i : ℕ) → 0 < page → start * page ≤ i → start
 start_below page start i some from =
     let most : start ≤ start * page = le-mul_of_pos_right start some in omega (arith, most, from)
 
+-- whether a record holds a byte
 pub decided_held : (image : Image) (i : ℕ) → Decided (IsHeldByte image i)
 decided_held image i = by (some_below (Holds image i) (decided_holds image i) (suc i))
   where
@@ -139,6 +140,7 @@ some_page image q = by_bytes (image.page 0 q) refl
                 by_stray true is = (Stray, (bytes, recordless, none_loose, is))
                 by_stray false is = (Held, (bytes, recordless, none_loose, is))
 
+-- an image has a list of what its pages of extent 0 hold
 pub some_pages : (image : Image) → (pages : List SuperblockPage) × AreSuperblockPages image pages
 some_pages image = (
   map (λ q. (some_page image q).0) (range_with_len 0 n),

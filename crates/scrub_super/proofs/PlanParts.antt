@@ -30,26 +30,3 @@ plan_parts choice plan is = record {
       pointers = ap (λ (p : PlanValue). p.pointers) is;
       runs = ap (λ (p : PlanValue). p.runs) is;
     }
-
--- and what has these parts is the plan of the choice
-pub whole_plan : (choice : Choice) (plan : PlanValue) → IsPlanInParts choice plan → plan ≡ plan_of choice
-whole_plan choice plan is = by choice.superblock is.by
-  where
-    by : (o : Option Contents) → MatchOption o (IsPlanWithout plan choice.geometry) (IsPlanBy plan) →
-        plan ≡ plan_of (record choice { superblock = o })
-    by None without = λ i. record {
-      geometry = is.geometry i;
-      planned = (is.all ∙ ap (extents_in_use choice.geometry.extents) without.retired) i;
-      retired = without.retired i;
-      pointers = without.pointers i;
-      runs = without.runs i;
-      has_superblock = without.has i;
-    }
-    by (Some c) with = λ i. record {
-      geometry = is.geometry i;
-      planned = (is.all ∙ ap (extents_in_use choice.geometry.extents) with.retired) i;
-      retired = with.retired i;
-      pointers = with.pointers i;
-      runs = with.runs i;
-      has_superblock = with.has i;
-    }

@@ -1,11 +1,12 @@
 -- The lists of a plan.
-use Rattle.std.proofs.Common.{◌≡◌, ◌<◌, ◌≤◌, ◌+◌, ◌*◌, ◌-◌, ℕ, List, [], ◌∷◌, true, filter, length, get_or, arith, refl, ap, subst, All, replicate, Option, Some, None, IfSome}
+use Rattle.std.proofs.Common.{◌≡◌, ◌<◌, ◌≤◌, ◌+◌, ◌*◌, ◌-◌, ℕ, List, [], ◌∷◌, true, filter, length, get_or, arith, refl, ap, All, replicate, Option, Some, None, IfSome}
 use Rattle.std.specs.List.{Contains, range_with_len}
 use Rattle.std.specs.List.Sorted.{IsStrictlyIncreasing}
 use Rattle.std.proofs.lemmas.List.{get_or-replicate, length-replicate}
 use Rattle.std.proofs.lemmas.List.Elements.{All-filter, filter_passes}
 use Rattle.std.proofs.lemmas.List.Kept.{IsStrictlyIncreasing-filter}
 use Rattle.std.proofs.lemmas.List.FromFn.{length-range_with_len, get_or-range_with_len}
+use Rattle.list_facts.proofs.Elements.{All-of_contained}
 use Rattle.scrub_disk.specs.declared.geometry.Geometry.{Geometry}
 use Rattle.scrub_frame.specs.declared.locator.Locator.{Locator}
 use Rattle.scrub_super.specs.Planned.{ArePlanned, AreRetired, is_in_use, extents_in_use}
@@ -44,17 +45,13 @@ all_kept e = kept (range_with_len 1 (e - 1))
 pub all_in_use : (e : ℕ) (retired : List ℕ) → All (λ x. is_in_use retired x ≡ true) (extents_in_use e retired)
 all_in_use e retired = filter_passes (is_in_use retired) (range_with_len 1 (e - 1))
 
--- what holds of each of the planned extents holds of some of them
-pub some_of : {X : Type 0} (P : X → Type 0) (xs ys : List X) → All P xs → All (Contains xs) ys → All P ys
-some_of P xs ys h each = λ k d hk. let there = each k d hk in subst P there.2 (h there.0 (get_or ys k d) there.1)
-
 -- some of the planned extents can be planned
 pub some_planned : {e : ℕ} {xs ys : List ℕ} → ArePlanned e xs → IsStrictlyIncreasing ys → All (Contains xs) ys →
     ArePlanned e ys
 some_planned {e} {xs} {ys} h rising each = record {
   rising = rising;
-  from_one = some_of (λ n. 1 ≤ n) xs ys h.from_one each;
-  below = some_of (λ n. n < e) xs ys h.below each;
+  from_one = All-of_contained (λ n. 1 ≤ n) xs ys h.from_one each;
+  below = All-of_contained (λ n. n < e) xs ys h.below each;
 }
 
 -- pointers that are all the extent's size
@@ -65,9 +62,11 @@ full_pointers g n size hn hs = record {
   within = λ k d hk. rw (get_or-replicate n k size d (omega (arith, hk, length-replicate n size))) (omega arith);
 }
 
+-- no extent is retired
 pub none_retired : (e : ℕ) (xs : List ℕ) → xs ≡ [] → AreRetired e xs
 none_retired e xs is = rw is (listed_extents e None tt)
 
+-- and there are no runs
 pub no_runs : {rs : List Locator} → rs ≡ [] → AreRunLocators rs
 no_runs e = rw e (record { count = omega arith; each = λ k d hk. absurd (omega (arith, hk)) })
 

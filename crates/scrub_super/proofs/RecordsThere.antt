@@ -1,20 +1,19 @@
 -- Whether a record begins on a page is decided: it is the one that the bytes there spell, with a list of retired extents or
 -- without. So an image has its list of valid records, and a choice.
-use Rattle.std.proofs.Common.{◌≡◌, ◌⊎◌, ◌<◌, ◌≤◌, ◌+◌, ◌-◌, ◌*◌, ◌^◌, ℕ, zero, suc, List, [], ◌∷◌, ◌++◌, length, take, drop, get_or, All, AllPairs, Contains, arith, refl, sym, ◌∙◌, ap, subst, Option, Some, None, IfSome, inl, inr, option_map, slice_get, nat_lt}
+use Rattle.std.proofs.Common.{◌≡◌, ◌⊎◌, ◌<◌, ◌≤◌, ◌+◌, ◌-◌, ◌*◌, ◌^◌, ℕ, List, [], length, take, drop, All, AllPairs, arith, refl, sym, ◌∙◌, ap, subst, Option, Some, None, IfSome, inl, inr, option_map, slice_get, nat_lt}
 use Rattle.std.specs.List.{flat_map}
 use Rattle.std.specs.Option.{unwrap_or}
-use Rattle.std.proofs.lemmas.List.Elements.{Contains-append_left, Contains-get_or, Contains-push, Contains-push_cases}
 use Rattle.std.proofs.lemmas.List.Kept.{AllPairs-from_increasing}
-use Rattle.std.proofs.lemmas.List.Quantifiers.{all_pairs_push}
-use Rattle.std.proofs.lemmas.Bool.{cases_lt}
 use Rattle.byteorder.specs.Endian.{big_bytes, big_number}
 use Rattle.byteorder.specs.Numbers.{big_number-reads_back}
+use Rattle.list_facts.proofs.Decisions.{AreThoseBelow, Decided, decided_all, decided_at_most, decided_both, decided_less, decided_like, decided_number, decided_pairs, those_below}
+use Rattle.list_facts.proofs.Spelling.{list_again, read_parts}
+use Rattle.scrub_frame.proofs.Bytes.{number-bytes}
 use Rattle.scrub_disk.specs.declared.geometry.Geometry.{Geometry}
 use Rattle.scrub_disk.specs.Image.{Image, byte, AreBytesAt, unreadable_pages}
 use Rattle.scrub_frame.specs.Locator.{locator_bytes, IsLocator}
-use Rattle.scrub_frame.proofs.Decisions.{Decided, decided_like, decided_both, decided_less, decided_at_most, decided_number, decided_all, decided_pairs}
 use Rattle.scrub_frame.proofs.Locators.{length-locator_bytes}
-use Rattle.scrub_frame.proofs.ReadAgain.{read_parts, read_locator, list_again, number_again, locator_again, decided_locator}
+use Rattle.scrub_frame.proofs.ReadAgain.{read_locator, locator_again, decided_locator}
 use Rattle.scrub_super.specs.Contents.{Contents}
 use Rattle.scrub_super.specs.Planned.{AreChunkExtents}
 use Rattle.scrub_super.specs.Record.{record_bytes, AreContents, BeginsWithRecord}
@@ -44,6 +43,7 @@ decided_listed : (e : ℕ) (o : Option (List ℕ)) → Decided (IfSome o (AreChu
 decided_listed e None = inl tt
 decided_listed e (Some ns) = decided_extents e ns
 
+-- whether contents keep their limits
 pub decided_contents : (g : Geometry) (c : Contents) → Decided (AreContents g c)
 decided_contents g c =
     let pointers : Decided ((length c.pointers + 1 ≡ g.extents) × All (λ w. w ≤ g.page * g.pages) c.pointers) =
@@ -102,7 +102,7 @@ contents_in g x k = record {
 
 numbers_again : (xs : List ℕ) (n : ℕ) (y : List ℕ) → AreSmall xs → n ≡ length xs → y ≡ flat_map (big_bytes 4) xs →
     read_numbers n y ≡ xs
-numbers_again xs n y small = list_again (big_bytes 4) (λ w. w < 2 ^ 32) (big_number 4) 4 xs n y (λ v h. refl) number_again small
+numbers_again xs n y small = list_again (big_bytes 4) (λ w. w < 2 ^ 32) (big_number 4) 4 xs n y (λ v h. refl) number-bytes small
 
 listed_again : (z : List ℕ) (o : Option (List ℕ)) → IfSome o AreSmall →
     take (4 * retired_count (option_map length o)) z ≡ flat_map (big_bytes 4) (unwrap_or o []) →
@@ -213,56 +213,6 @@ record_there image q = by (decided_record image q plain) (decided_record image q
 
 -- ---- all of them
 
--- the numbers below n with a property that is decided, ascending
-pub record AreThoseBelow (P : ℕ → Type 0) (n : ℕ) (qs : List ℕ) : Type 0 where
-  pub rising : AllPairs (λ a b. a < b) qs
-  pub each : (q : ℕ) → Contains qs q → (q < n) × P q
-  pub all : (q : ℕ) → q < n → P q → Contains qs q
-
-pub those_below : (P : ℕ → Type 0) → ((q : ℕ) → P q ⊎ (P q → ⊥)) → (n : ℕ) → (qs : List ℕ) × AreThoseBelow P n qs
-those_below P decided zero = (
-  [],
-  record {
-    rising = λ i j d lt here. absurd (omega (arith, here));
-    each = λ q there. absurd (omega (arith, there.1));
-    all = λ q low has. absurd (omega (arith, low));
-  },
-)
-those_below P decided (suc n) = by (those_below P decided n) (decided n)
-  where
-    by : (qs : List ℕ) × AreThoseBelow P n qs → P n ⊎ (P n → ⊥) → (qs : List ℕ) × AreThoseBelow P (suc n) qs
-    by before (inl has) = (
-      before.0 ++ n ∷ [],
-      record {
-        rising = all_pairs_push (λ a b. a < b) before.0 n before.1.rising
-            (λ k d here. (before.1.each (get_or before.0 k d) (Contains-get_or before.0 k d here)).0);
-        each = λ q there. from q (Contains-push_cases before.0 n q there);
-        all = λ q low has. to q low has (cases_lt q n);
-      },
-    )
-      where
-        from : (q : ℕ) → Contains before.0 q ⊎ (n ≡ q) → (q < suc n) × P q
-        from q (inl there) = let x = before.1.each q there in (omega (arith, x.0), x.1)
-        from q (inr is) = (omega (arith, is), subst P is has)
-
-        to : (q : ℕ) → q < suc n → P q → (q < n) ⊎ (n ≤ q) → Contains (before.0 ++ n ∷ []) q
-        to q low has (inl less) = Contains-append_left before.0 (n ∷ []) q (before.1.all q less has)
-        to q low has (inr high) =
-            let e : n ≡ q = omega (arith, low, high) in
-            subst (λ (r : ℕ). Contains (before.0 ++ n ∷ []) r) e (Contains-push before.0 n)
-    by before (inr none) = (
-      before.0,
-      record {
-        rising = before.1.rising;
-        each = λ q there. let x = before.1.each q there in (omega (arith, x.0), x.1);
-        all = λ q low has. at q low has (cases_lt q n);
-      },
-    )
-      where
-        at : (q : ℕ) → q < suc n → P q → (q < n) ⊎ (n ≤ q) → Contains before.0 q
-        at q low has (inl less) = before.1.all q less has
-        at q low has (inr high) = let e : q ≡ n = omega (arith, low, high) in absurd (none (subst P e has))
-
 record_pages : (image : Image) → (pages : List ℕ) × AreRecordPages image pages
 record_pages image = (
   those.0,
@@ -282,6 +232,7 @@ record_pages image = (
         by q (inl s) = inl s
         by q (inr none) = inr (λ s. none s.0 s.1)
 
+-- an image has a choice
 pub some_choice : (image : Image) → (choice : Choice) × IsChoice image choice
 some_choice image =
     let valid = records_of_pages (record_pages image).1 in (
@@ -305,5 +256,6 @@ some_choice image =
       },
     )
 
+-- and a choice a plan
 pub some_plan : (choice : Choice) → (plan : PlanValue) × (plan ≡ plan_of choice)
 some_plan choice = (plan_of choice, refl)

@@ -4,6 +4,7 @@ use Rattle.std.specs.List.{flat_map}
 use Rattle.std.proofs.lemmas.Bool.{false≢true}
 use Rattle.byteorder.specs.Endian.{big_bytes, big_number}
 use Rattle.sha2.specs.Sha256.{sha256}
+use Rattle.list_facts.proofs.Spelling.{part-flat_map}
 use Rattle.scrub_disk.specs.declared.geometry.Geometry.{Geometry}
 use Rattle.scrub_frame.proofs.Bytes.{number-bytes, number-take}
 use Rattle.scrub_frame.specs.Frame.{digest_size}
@@ -14,7 +15,6 @@ use Rattle.scrub_super.specs.Record.{BeginsWithRecord}
 use Rattle.scrub_super.specs.steps.RecordRead.{IsFront, IsHead, record_head_size, digest_place, pointer_bytes, retired_bytes, number_in, SpellExtents}
 use Rattle.scrub_super.proofs.Fronts.{front_of_head, least_head}
 use Rattle.scrub_super.proofs.Listed.{AreSmall, count_in, length_numbers, pointers_in, small_pointers, listed_extents}
-use Rattle.scrub_super.proofs.Parts.{part-flat_map}
 use Rattle.scrub_super.proofs.RecordParts.{is_head, known_parts, known_digest, record_parts}
 
 -- there is no record if there is no front

@@ -8,11 +8,11 @@ use Rattle.std.proofs.lemmas.List.FromFn.{get_or-map-range_with_len, length-map-
 use Rattle.std.proofs.lemmas.List.Elements.{All-cons, All-contains, All-nil}
 use Rattle.byteorder.specs.Endian.{big_number}
 use Rattle.byteorder.specs.Numbers.{big_number-reads_back}
+use Rattle.list_facts.proofs.Decisions.{AreThoseBelow, Decided, decided_at_most, decided_both, decided_less, decided_like, decided_number, decided_true, test_of, test_of-holds, test_of-passes, those_below}
 use Rattle.scrub_disk.specs.declared.geometry.Geometry.{Geometry}
 use Rattle.scrub_disk.specs.Image.{AreBytesAt, extent_bytes}
 use Rattle.scrub_disk.specs.Raw.{MayFailIn}
 use Rattle.scrub_disk.specs.Limits.{max_extent_bytes, max_disk_bytes}
-use Rattle.scrub_frame.proofs.Decisions.{Decided, decided_like, decided_both, decided_less, decided_at_most, decided_number}
 use Rattle.scrub_super.specs.declared.unknown_sizes.FoundRecord.{FoundRecord}
 use Rattle.scrub_super.specs.declared.unknown_sizes.LostBytes.{LostBytes}
 use Rattle.scrub_super.specs.Contents.{Contents}
@@ -29,7 +29,7 @@ use Rattle.scrub_super.proofs.Listed.{count_in, few_listed}
 use Rattle.scrub_super.proofs.LostRuns.{AreRunsTo, RunsFrom, all_runs, goes_on, runs_next, starts_behind}
 use Rattle.scrub_super.proofs.OneRecord.{one_record_lem}
 use Rattle.scrub_super.proofs.RecordParts.{is_head, length_record}
-use Rattle.scrub_super.proofs.RecordsThere.{AreThoseBelow, contents_again, contents_in, decided_contents, listed_count, those_below}
+use Rattle.scrub_super.proofs.RecordsThere.{contents_again, contents_in, decided_contents, listed_count}
 use Rattle.scrub_super.proofs.UnknownSizesSteps.{some_record}
 
 -- ---- sizes within their limits
@@ -44,10 +44,6 @@ record AreLimits (p n e : ℕ) : Type 0 where
   pub extents_most : e ≤ 65536
   pub extent_fits : p * n ≤ max_extent_bytes
   pub total_fits : p * n * e ≤ max_disk_bytes
-
-decided_true : (b : Bool) → Decided (IsTrue b)
-decided_true true = inl refl
-decided_true false = inr (λ e. false≢true e)
 
 decided_limits : (p n e : ℕ) → Decided (AreLimits p n e)
 decided_limits p n e =
@@ -362,6 +358,7 @@ some_ranges lost =
     let enough : length lost ≤ length lost = omega arith in
     (all.2.0, all_runs enough all.2.1)
 
+-- raw bytes have all their records and lost ranges
 pub some_found : (bytes : List ℕ) (lost : List Bool) →
     (records : List FoundRecord) × (ranges : List LostBytes) × AreFoundByOwnSizes bytes lost records ranges
 some_found bytes lost =
@@ -377,20 +374,6 @@ decided_lacks bytes places n =
     decided_both (decided_less (get_or places n 512) 512) (decided_less (n * 512 + get_or places n 512) (length bytes)) in
     decided_like all (λ h. record { in_block = h.0; before_end = h.1 }) (λ h. (h.in_block, h.before_end))
 
-test_of : {P : Type 0} → Decided P → Bool
-test_of (inl p) = true
-test_of (inr none) = false
-
-passes : {P : Type 0} (d : Decided P) → P → test_of d ≡ true
-unfolding test_of
-passes (inl p) q = refl
-passes (inr none) q = absurd (none q)
-
-passed : {P : Type 0} (d : Decided P) → test_of d ≡ true → P
-unfolding test_of
-passed (inl p) is = p
-passed (inr none) is = absurd (false≢true is)
-
 -- marks below a number, by a condition that is decided
 record AreMarksOf (P : ℕ → Type 0) (many : ℕ) (marks : List Bool) : Type 0 where
   pub few : length marks ≤ many
@@ -402,7 +385,7 @@ marks_of P decided many = (
   map (λ n. test_of (decided n)) (range_with_len 0 many),
   record {
     few = omega (arith, long);
-    all = λ n low has. at n low ∙ passes (decided n) has;
+    all = λ n low has. at n low ∙ test_of-passes (decided n) has;
     only = λ n marked. by n marked (cases_lt n many);
   },
 )
@@ -414,7 +397,7 @@ marks_of P decided many = (
     at n low = get_or-map-range_with_len (λ n. test_of (decided n)) 0 many n n false low (omega arith)
 
     by : (n : ℕ) → IsMarked (map (λ n. test_of (decided n)) (range_with_len 0 many)) n → (n < many) ⊎ (many ≤ n) → P n
-    by n marked (inl low) = passed (decided n) (sym (at n low) ∙ marked)
+    by n marked (inl low) = test_of-holds (decided n) (sym (at n low) ∙ marked)
     by n marked (inr high) =
         absurd (false≢true (sym (get_or_past (map (λ n. test_of (decided n)) (range_with_len 0 many)) n false (omega (arith, long, high))) ∙ marked))
 

@@ -22,6 +22,7 @@ use Rattle.scrub_disk.specs.steps.NextUnreadable.{IsNextUnreadable}
 abbrev pub readable_bytes : Image → List ℕ → ℕ → ℕ → List ℕ
 readable_bytes image bytes g s = between (g * image.geometry.page) (s * image.geometry.page) bytes
 
+-- a record has at least 32 bytes
 pub some_bytes : (image : Image) (c : Contents) → 32 ≤ length (record_bytes image.geometry c)
 some_bytes image c =
     omega (

@@ -24,6 +24,7 @@ up_to_here readable q here unmarked = record {
   unreadable = λ _. unmarked;
 }
 
+-- a readable page, and the bytes up to where those after it end
 pub up_to_there : (readable : List Bool) (p q s : ℕ) → p ≡ q + 1 → get_or readable q false ≡ true →
     IsNextUnreadable readable p s → IsNextUnreadable readable q s
 up_to_there readable p q s hp marked up = record {

@@ -9,6 +9,7 @@ use Rattle.std.proofs.lemmas.List.Prefix.{front_from_reads}
 use Rattle.std.proofs.lemmas.List.Elements.{Contains-push, Contains-push_cases, Contains-append_left}
 use Rattle.sha2.specs.Sha256.{sha256}
 use Rattle.sha2.proofs.Facts256.{length-sha256}
+use Rattle.list_facts.proofs.Rising.{rises_more}
 use Rattle.scrub_disk.specs.declared.geometry.Geometry.{Geometry}
 use Rattle.scrub_super.specs.declared.unknown_sizes.FoundRecord.{FoundRecord}
 use Rattle.scrub_super.specs.declared.kind.RecordKind.{RecordKind}
@@ -22,8 +23,8 @@ use Rattle.scrub_super.specs.UnknownSizes.{StandsByOwnSizes, IsFoundRecord, AreF
 use Rattle.scrub_super.proofs.Found.{known_kind}
 use Rattle.scrub_super.proofs.OneRecord.{one_record_lem}
 use Rattle.scrub_super.proofs.BlocksFront.{left_at, left_there}
-use Rattle.scrub_super.proofs.RisingLists.{rises_more}
 
+-- a record of any sizes has at least 32 bytes
 pub some_record : (g : Geometry) (c : Contents) → 32 ≤ length (record_bytes g c)
 some_record g c =
     omega (arith, length-append (record_body g c) (sha256 (record_body g c)), length-sha256 (record_body g c))
@@ -247,6 +248,7 @@ begins_within bytes lost r f =
     let first = f.1.stands 0 (omega (arith, some_record r.geometry f.0)) in
     omega (arith, slice_get_within bytes (r.offset + 0) _ (left_there bytes lost (r.offset + 0) _ first).1)
 
+-- past all bytes, the records are all that are there
 pub all_slots : (bytes : List ℕ) (lost : List Bool) {limit : ℕ} {records : List FoundRecord} → length bytes ≤ limit →
     AreRecordsBelow (byte_left bytes lost) limit records → AreFoundRecords (byte_left bytes lost) records
 all_slots bytes lost enough h = record {

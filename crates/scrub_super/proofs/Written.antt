@@ -40,6 +40,7 @@ module _ (g : Geometry) (s : Contents) {head : Head} (is : head ≡ head_for s) 
         length_head g s.generation (length s.runs) (count_in s),
       )
 
+-- a head counts the runs of its contents
 pub few_runs : (s : Contents) {head : Head} → head ≡ head_for s → length s.runs ≤ 32 → head.runs ≤ 32
 few_runs s is few = rw is few
 
@@ -48,6 +49,7 @@ pub numbers_appended : (old : List ℕ) {new ws xs : List ℕ} → xs ≡ ws →
     length new ≡ length old + 4 * length ws
 numbers_appended old {ws = ws} is h = omega (arith, simp (length-append, length_numbers) at (ap length (rw is at h)))
 
+-- after retired extents
 pub retired_appended : (old : List ℕ) {new xs : List ℕ} (s : Contents) → xs ≡ retired_in s →
     new ≡ old ++ flat_map (big_bytes 4) xs → length new ≡ length old + 4 * retired_count (count_in s)
 retired_appended old s is h = omega (arith, numbers_appended old is h, length_listed s.retired)

@@ -215,8 +215,8 @@ pub fn one_list_of_superblock_pages()
         AreSuperblockPages image a → AreSuperblockPages image b → a ≡ b }
 {}
 
-/// A law: each image has a list of what the pages of extent 0 hold. With `one_list_of_superblock_pages`, it has
-/// exactly one.
+/// A law: each image has a list of what the pages of extent 0 hold. With `one_list_of_superblock_pages`, it
+/// has exactly one.
 pub fn each_image_has_superblock_pages()
     ensures { (image : Image) → (pages : List SuperblockPage) × AreSuperblockPages image pages }
 {}

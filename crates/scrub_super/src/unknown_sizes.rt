@@ -84,7 +84,8 @@ pub fn one_answer_for_lost_blocks()
 /// exactly one list of each.
 pub fn each_front_has_an_answer()
     ensures blocks { (bytes : List ℕ) (lost : List Bool) →
-        (records : List FoundRecord) × (ranges : List LostBytes) × AreFoundByOwnSizes bytes lost records ranges }
+        (records : List FoundRecord) × (ranges : List LostBytes) ×
+        AreFoundByOwnSizes bytes lost records ranges }
     ensures raw { (raw : Option (List ℕ)) (lacking : List ℕ) (fails : ℕ → ℕ → Bool) (failures : ℕ) →
         (records : List FoundRecord) × (ranges : List LostBytes) ×
         AreFoundInSome raw lacking fails failures records ranges }

@@ -11,13 +11,14 @@ use scrub_disk::PageSource;
 use scrub_scan::{AllFindings, ExtentResult, Item};
 
 /// How many bytes an item takes.
-pub(crate) fn size_of(item: &Item) -> u32
+pub fn size_of(item: &Item) -> u32
     ensures { result ≡ size_of item.now }
 {
     item.stop().saturating_sub(item.start())
 }
 
-fn is_chunk(item: &Item) -> bool
+/// Whether an item is a chunk.
+pub fn is_chunk(item: &Item) -> bool
     ensures { result ≡ is_chunk item.now }
 {
     matches!(item, Item::Chunk { .. })
@@ -70,7 +71,7 @@ fn live_bytes_of<D: PageSource>(one: &ExtentResult<'_, D>, checked: &[Checked]) 
 }
 
 /// How many bytes the live chunks of an extent take: 0 if the extent wasn't scanned. It takes no memory, and
-/// walks over all locators for each chunk of the extent; for all extents at once call `liveness_of`.
+/// walks over all locators for each chunk of the extent; for all extents at once call `liveness_by`.
 pub fn live_bytes<D: PageSource>(all: &AllFindings<'_, D>, checked: &[Checked], extent: u32) -> u32
     ensures { HasLiveBytes all.now.extents checked.now extent result }
 {

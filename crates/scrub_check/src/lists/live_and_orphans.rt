@@ -11,16 +11,19 @@ ghost use Rattle.scrub_scan.specs.AllFindings.{extent_numbers};
 ghost use Rattle.scrub_check.specs.declared.statuses.checked.Checked.{Checked};
 ghost use Rattle.scrub_check.specs.Live.{size_of};
 ghost use Rattle.scrub_check.specs.steps.LocatorIndex.{IsLocatorIndex};
-ghost use Rattle.scrub_check.specs.steps.LiveAndOrphans.{HasPassed, AreLiveBy, AreLiveAndOrphans, orphans_by};
+ghost use Rattle.scrub_check.specs.steps.LiveAndOrphans.{HasPassed, AreLiveBy, AreLiveAndOrphans};
+ghost use Rattle.scrub_check.specs.steps.LiveAndOrphans.{AreLiveChunks, kept_of, live_by, orphans_by};
+ghost use Rattle.scrub_check.specs.steps.SoundPlaces.{is_live_by};
 
 use crate::lists::candidate::Candidate;
 use crate::lists::chunks::place_of;
 use crate::lists::cursor::Cursor;
 use crate::lists::kept_chunk::KeptChunk;
-use crate::lists::live::size_of;
+use crate::lists::live::{is_chunk, size_of};
 use crate::lists::locator_index::LocatorIndex;
 use crate::lists::place::Place;
 use crate::lists::reclaiming::add_reclaimable;
+use crate::lists::sound_places::SoundPlaces;
 use crate::places::chunk_at::ChunkAt;
 use scrub_disk::{Geometry, OutOfMemory, PageSource};
 use scrub_scan::{AllFindings, ExtentResult, Item};
@@ -105,6 +108,66 @@ fn live_among(
         put_item(extent, item, cursor, &mut live, orphans)?;
     }
     Ok(live)
+}
+
+/// Whether an item of an extent is a chunk at one of the places that sound locators point to.
+fn is_live_by(sound: &SoundPlaces, extent: u32, item: &Item) -> bool
+    ensures { result ≡ is_live_by sound.now extent item.now }
+{
+    let offset = item.start();
+    is_chunk(item) && sound.count(ChunkAt { extent, offset }) > 0
+}
+
+/// A chunk to keep.
+fn kept_of(item: &Item) -> KeptChunk
+    ensures { result ≡ kept_of item.now }
+{
+    KeptChunk {
+        start: item.start(),
+        bytes: size_of(item),
+    }
+}
+
+/// Those of an extent's items that are chunks at one of the places that sound locators point to, ascending.
+fn kept_among(
+    alloc: Global,
+    sound: &SoundPlaces,
+    extent: u32,
+    items: &[Item],
+) -> Result<Vec<KeptChunk>, OutOfMemory>
+    ensures { IfOk result (λ v. v.items ≡ map kept_of (live_by sound.now extent items.now)) }
+{
+    items
+        .iter()
+        .filter(|item| is_live_by(sound, extent, item))
+        .map(|item| kept_of(item))
+        .collect(alloc)
+}
+
+/// How many bytes the frames of chunks take.
+fn bytes_of(kept: &[KeptChunk]) -> u32
+    requires { sum_by (λ k. k.bytes) kept.now < 2 ^ 32 }
+    ensures { result ≡ sum_by (λ k. k.bytes) kept.now }
+{
+    kept.iter().map(|one| one.bytes).sum()
+}
+
+/// The live chunks of one extent, each searched for among the sorted places. `part_chunks` walks beside them,
+/// for all extents.
+pub(crate) fn live_chunks<D: PageSource>(
+    alloc: Global,
+    locators: &LocatorIndex,
+    found: &ExtentResult<'_, D>,
+) -> Result<LiveChunks, OutOfMemory>
+    ensures { (checked : List Checked) → IsLocatorIndex checked locators.now →
+        IfOk result (AreLiveChunks checked (scanned found.now)) }
+{
+    // It bounds the sum of the live bytes: the items join up to the pointer.
+    let pointer = found.pointer();
+    let items = found.findings().items();
+    let kept = kept_among(alloc, &locators.sound, found.extent(), items)?;
+    let bytes = bytes_of(&kept);
+    Ok(LiveChunks { bytes, kept })
 }
 
 /// Adds one more extent.

@@ -14,7 +14,6 @@ use crate::lists::locator_index::LocatorIndex;
 use crate::lists::place::{Place, SharedPlace};
 use crate::lists::reclaiming::candidates_among;
 use crate::lists::shared_places::shared_by;
-use crate::statuses::checked::Checked;
 use scrub_disk::{OutOfMemory, PageSource};
 use scrub_scan::AllFindings;
 use scrub_super::Plan;
@@ -59,22 +58,4 @@ pub fn liveness_by<D: PageSource>(
         shared: shared_by(alloc, &locators.sound)?,
         candidates: candidates_among(alloc, plan, in_doubt, parted.reclaimable)?,
     })
-}
-
-/// The same by the locators themselves.
-pub fn liveness_of<D: PageSource>(
-    alloc: Global,
-    plan: &Plan,
-    all: &AllFindings<'_, D>,
-    checked: &[Checked],
-    in_doubt: bool,
-) -> Result<Liveness, OutOfMemory>
-    ensures live { IfOk result (λ l. l.live.items ≡ map (live_bytes checked.now) all.now.extents) }
-    ensures orphans { IfOk result (λ l. l.orphans.items ≡ orphans all.now.extents checked.now) }
-    ensures shared { IfOk result (λ l. AreShared checked.now l.shared.items) }
-    ensures candidates { IfOk result (λ l.
-        AreCandidates plan.now all.now.extents checked.now in_doubt l.candidates.items) }
-{
-    let locators = LocatorIndex::of(alloc, checked)?;
-    liveness_by(alloc, plan, all, &locators, in_doubt)
 }

@@ -1,38 +1,20 @@
 //! What the named locators say, sorted so that it is found by search: the places that sound ones point to,
 //! and the extents that others name.
 
-ghost use Rattle.std.specs.Prelude.{◌≡◌, ◌==◌, not, map, IfOk};
-ghost use Rattle.std.specs.Ordering.{nat_cmp};
-ghost use Rattle.std.specs.List.{filter, list_any};
-ghost use Rattle.std.specs.List.Sorted.{IsSorted};
+ghost use Rattle.std.specs.Prelude.{◌≡◌, not, map, IfOk, List};
+ghost use Rattle.std.specs.List.{filter};
+ghost use Rattle.scrub_check.specs.declared.statuses.checked.Checked.{Checked};
 ghost use Rattle.scrub_check.specs.Checked.{is_sound};
+ghost use Rattle.scrub_check.specs.Live.{has_sound_at};
 ghost use Rattle.scrub_check.specs.steps.LocatorIndex.{AreBarredExtents, IsLocatorIndex};
 
+use crate::lists::extent_set::ExtentSet;
 use crate::lists::sound_places::SoundPlaces;
-use crate::places::sorted_list::into_sorted;
+use crate::places::chunk_at::ChunkAt;
 use crate::statuses::checked::Checked;
 use scrub_disk::OutOfMemory;
 use std::alloc::Global;
-use std::marker::Model;
 use std::thread::Threads;
-
-/// The extents that locators name which aren't sound, by number; one that several name is there as often.
-#[derive(Drop)]
-pub struct BarredExtents {
-    extents: Vec<u32>,
-}
-
-impl Model for BarredExtents {
-    ghost use Rattle.std.specs.Prelude.{List, ℕ};
-    ghost use Rattle.std.specs.Ordering.{nat_cmp};
-    ghost use Rattle.std.specs.List.Sorted.{IsSorted};
-
-    ghost Value = { List ℕ };
-
-    ghost view = { λ u. u.extents.items };
-
-    ghost invariant = { λ u. IsSorted nat_cmp u.extents.items };
-}
 
 /// What the named locators say of places and extents.
 #[derive(Drop)]
@@ -40,19 +22,11 @@ pub struct LocatorIndex {
     /// The places that sound ones point to.
     pub(crate) sound: SoundPlaces,
     /// The extents that others name.
-    pub(crate) barred: BarredExtents,
-}
-
-/// Whether a number is among sorted ones.
-fn has_number(numbers: &[u32], number: u32) -> bool
-    requires { IsSorted nat_cmp numbers.now }
-    ensures { result ≡ list_any (λ n. n == number) numbers.now }
-{
-    numbers.binary_search(&number).is_ok()
+    pub(crate) barred: ExtentSet,
 }
 
 /// The extents that those of these locators name that aren't sound, in the order of the locators.
-fn barred_extents(alloc: Global, checked: &[Checked]) -> Result<Vec<u32>, OutOfMemory>
+fn extents_of_unsound(alloc: Global, checked: &[Checked]) -> Result<Vec<u32>, OutOfMemory>
     ensures { IfOk result (λ v.
         v.items ≡ map (λ c. c.locator.extent) (filter (λ c. not (is_sound c.status)) checked.now)) }
 {
@@ -63,21 +37,11 @@ fn barred_extents(alloc: Global, checked: &[Checked]) -> Result<Vec<u32>, OutOfM
         .collect(alloc)
 }
 
-impl BarredExtents {
-    /// The extents that those of these locators name that aren't sound.
-    fn of(alloc: Global, checked: &[Checked]) -> Result<BarredExtents, OutOfMemory>
-        ensures { IfOk result (AreBarredExtents checked.now) }
-    {
-        let extents = into_sorted(barred_extents(alloc, checked)?)?;
-        Ok(BarredExtents { extents })
-    }
-
-    /// Whether one of them names an extent.
-    pub(crate) fn has(&self, extent: u32) -> bool
-        ensures { result ≡ list_any (λ e. e == extent) self.now }
-    {
-        has_number(&self.extents, extent)
-    }
+/// The extents that those of these locators name that aren't sound: nothing may be put there or reclaimed.
+pub fn barred_extents(alloc: Global, checked: &[Checked]) -> Result<ExtentSet, OutOfMemory>
+    ensures { IfOk result (AreBarredExtents checked.now) }
+{
+    ExtentSet::of(extents_of_unsound(alloc, checked)?)
 }
 
 impl LocatorIndex {
@@ -86,7 +50,7 @@ impl LocatorIndex {
         ensures { IfOk result (IsLocatorIndex checked.now) }
     {
         let sound = SoundPlaces::of(alloc, checked)?;
-        let barred = BarredExtents::of(alloc, checked)?;
+        let barred = barred_extents(alloc, checked)?;
         Ok(LocatorIndex { sound, barred })
     }
 
@@ -99,7 +63,22 @@ impl LocatorIndex {
         ensures { IfOk result (IsLocatorIndex checked.now) }
     {
         let sound = SoundPlaces::by_threads(rt, alloc, checked)?;
-        let barred = BarredExtents::of(alloc, checked)?;
+        let barred = barred_extents(alloc, checked)?;
         Ok(LocatorIndex { sound, barred })
+    }
+
+    /// The extents that unsound ones name.
+    pub fn barred(&self) -> &ExtentSet
+        ensures { result.now ≡ self.now.barred }
+    {
+        &self.barred
+    }
+
+    /// Whether a sound one points to a byte of an extent.
+    pub fn has_sound(&self, extent: u32, offset: u32) -> bool
+        ensures { (checked : List Checked) → IsLocatorIndex checked self.now →
+            result ≡ has_sound_at checked extent offset }
+    {
+        self.sound.count(ChunkAt { extent, offset }) > 0
     }
 }

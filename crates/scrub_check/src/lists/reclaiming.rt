@@ -18,7 +18,7 @@ ghost use Rattle.scrub_check.specs.Candidates.{AreCandidates};
 ghost use Rattle.scrub_check.specs.SafeCandidates.{CandidatesAreSafe};
 
 use crate::lists::candidate::Candidate;
-use crate::lists::live_and_orphans::{LiveChunks, part_chunks};
+use crate::lists::live_and_orphans::{LiveChunks, live_chunks};
 use crate::lists::locator_index::LocatorIndex;
 use crate::statuses::checked::Checked;
 use scrub_disk::{Geometry, OutOfMemory, PageSource};
@@ -159,6 +159,52 @@ pub(crate) fn candidates_among(
     Ok(found)
 }
 
+/// Those of the extents that may be reclaimed, as candidates, in their order.
+fn reclaimable_among<D: PageSource>(
+    alloc: Global,
+    geometry: Geometry,
+    locators: &LocatorIndex,
+    all: &AllFindings<'_, D>,
+) -> Result<Vec<Candidate>, OutOfMemory>
+    ensures found { (checked : List Checked) → IsLocatorIndex checked locators.now →
+        IfOk result (λ v. v.items ≡ reclaimable geometry all.now.extents checked) }
+    // The extents of every value of the type ascend.
+    ensures rising { IsStrictlyIncreasing (extent_numbers all.now.extents) }
+{
+    let mut candidates = Vec::new(alloc);
+    for found in all.results() {
+        let live = live_chunks(alloc, locators, found)?;
+        add_reclaimable(
+            alloc,
+            Some(geometry),
+            locators,
+            found,
+            live,
+            &mut candidates,
+        )?;
+    }
+    Ok(candidates)
+}
+
+/// What `candidates` gives, by what the named locators say, and nothing else.
+pub fn candidates_by<D: PageSource>(
+    alloc: Global,
+    plan: &Plan,
+    all: &AllFindings<'_, D>,
+    locators: &LocatorIndex,
+    in_doubt: bool,
+) -> Result<Vec<Candidate>, OutOfMemory>
+    ensures { (checked : List Checked) → IsLocatorIndex checked locators.now →
+        IfOk result (λ v. AreCandidates plan.now all.now.extents checked in_doubt v.items) }
+{
+    if !knows_locators(plan, in_doubt) {
+        return Ok(Vec::new(alloc));
+    }
+    let mut found = reclaimable_among(alloc, plan.geometry(), locators, all)?;
+    sort_by_free(&mut found)?;
+    Ok(found)
+}
+
 /// The extents that may be reclaimed, by what is freed, falling, and then by number: those that something was
 /// written to, all of it readable, that sound locators alone name, and whose live chunks take at most half of
 /// it. None without a superblock, and none in doubt: a tie, an unreadable page of extent 0 or a lost run may
@@ -173,8 +219,7 @@ pub fn candidates<D: PageSource>(
     ensures { IfOk result (λ v. AreCandidates plan.now all.now.extents checked.now in_doubt v.items) }
 {
     let locators = LocatorIndex::of(alloc, checked)?;
-    let parted = part_chunks(alloc, Some(plan.geometry()), &locators, all)?;
-    candidates_among(alloc, plan, in_doubt, parted.reclaimable)
+    candidates_by(alloc, plan, all, &locators, in_doubt)
 }
 
 /// A law: there is one list of candidates at most.

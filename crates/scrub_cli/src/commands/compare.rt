@@ -4,11 +4,11 @@
 ghost use Rattle.std.specs.Prelude.{◌≡◌, ◌≤◌, IfOk, MatchResult};
 ghost use Rattle.std.specs.List.Sorted.{IsStrictlyIncreasing};
 ghost use Rattle.scrub_disk.specs.Parted.{image_of};
-ghost use Rattle.scrub_report.specs.Answer.{AreTakingsBy};
+ghost use Rattle.scrub_found.specs.Takings.{AreTakingsBy};
 ghost use Rattle.scrub_cli.specs.Compare.{AreCompareTakings, IsCompareAnswer, IsCompareFault, IsCompared};
 
 use crate::commands::answer::Answer;
-use crate::commands::disk_image::{load_named, losses_of};
+use crate::commands::disk_image::{load_raw, losses_of};
 use crate::commands::geometry::geometry_of;
 use crate::commands::manifest::may_all_be_reset;
 use crate::process::fault::Fault;
@@ -16,8 +16,8 @@ use crate::process::images::Images;
 use scrub_args::CompareArgs;
 use scrub_compare::compare as compare_disks;
 use scrub_disk::PartedDisk;
+use scrub_found::ScrubFault;
 use scrub_pool::{NoGate, Takings};
-use scrub_report::ScrubFault;
 use std::alloc::Global;
 use std::sync::Wait;
 use std::thread::Threads;
@@ -70,13 +70,16 @@ pub fn compare<'a, R: Threads + Wait + Sync, I: Images>(
         r.0.text.items r.0.outcome r.1 r.2) }
 {
     let image = &args.before.scan.image;
-    let geometry = geometry_of(alloc, image, images)?;
+    let (geometry, opened) = geometry_of(alloc, image, images)?;
     if !may_all_be_reset(geometry, &args.before.resets) {
         return Err(Fault::Extent);
     }
-    let losses = losses_of(alloc, geometry, image, images)?;
-    let before = load_named(rt, alloc, geometry, image.name, &losses, images)?;
-    let after = load_named(rt, alloc, geometry, args.after, &losses, images)?;
+    let (losses, raw) = losses_of(alloc, geometry, image, opened, images)?;
+    let before = load_raw(rt, alloc, geometry, raw, &losses, images)?;
+    let Some(raw_after) = images.image(args.after) else {
+        return Err(Fault::NoImage(args.after));
+    };
+    let after = load_raw(rt, alloc, geometry, raw_after, &losses, images)?;
     let workers = args.before.scan.workers;
     Ok(comparison(rt, alloc, &before, &after, workers, &args.before.resets)?)
 }

@@ -12,9 +12,9 @@ ghost use Rattle.scrub_cli.specs.Demo.{demo_shard, demo_pointers, IsDemoDisk, Is
 use crate::commands::answer::{Answer, disk_answer};
 use scrub_args::Wanted;
 use scrub_disk::{Geometry, MemDisk, OutOfMemory};
+use scrub_found::ScrubFault;
 use scrub_frame::{FrameFault, Locator, locate, write_frame};
 use scrub_pool::Takings;
-use scrub_report::ScrubFault;
 use scrub_run::{Entry, ShardId, write_run};
 use scrub_super::{Superblock, write_record};
 use std::alloc::Global;

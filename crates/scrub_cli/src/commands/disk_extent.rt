@@ -1,17 +1,21 @@
 //! Loading one extent of the disk in an image file, for a command that looks at no other. For the whole disk
 //! see `disk_image`.
 
-ghost use Rattle.std.specs.Prelude.{◌≡◌, ◌<◌, ◌^◌, All, Err, IfOk, IfSome, List, MatchResult, Option, length};
+ghost use Rattle.std.specs.Prelude.{◌≡◌, ◌<◌, ◌^◌, All, Err, IfOk, IfSome, List, MatchOption, MatchResult};
+ghost use Rattle.std.specs.Prelude.{None, Option, length};
 ghost use Rattle.scrub_disk.specs.Image.{disk_bytes};
 ghost use Rattle.scrub_disk.specs.OneExtent.{IsLoadedExtent, image_of};
 ghost use Rattle.scrub_map.specs.declared.block.MapBlock.{MapBlock};
 ghost use Rattle.scrub_map.specs.MissingBytes.{KeepsBlocks};
 ghost use Rattle.scrub_cli.specs.DiskExtent.{IsExtentLoaded, IsExtentLoadedBy};
 ghost use Rattle.scrub_cli.specs.DiskExtent.{LosesByMapIn, LosesMarkedIn, LosesPagesIn};
-ghost use Rattle.scrub_cli.specs.DiskImage.{IsDiskFault, IsNamedFault};
-ghost use Rattle.scrub_cli.specs.Rescue.{KeepsMap};
+ghost use Rattle.scrub_cli.specs.DiskGeometry.{AreFoundBy};
+ghost use Rattle.scrub_cli.specs.DiskImage.{IsDiskFault, IsRawFault};
+ghost use Rattle.scrub_cli.specs.KnownFiles.{IsKnownAs, KnownRaw};
+ghost use Rattle.scrub_cli.specs.Rescue.{IsMapNamed, KeepsMap};
 
 use crate::commands::disk_image::{Losses, losses_of};
+use crate::commands::opened::Opened;
 use crate::process::fault::Fault;
 use crate::process::images::Images;
 use scrub_args::ImageArgs;
@@ -19,48 +23,52 @@ use scrub_disk::{Geometry, LoadFault, OneExtent, OutOfMemory, PageSource, RawIma
 use scrub_map::RescueMap;
 use std::alloc::Global;
 
-/// One extent of the disk of these sizes that the arguments name. The faults are those of `load_disk`, in the
-/// same order.
+/// One extent of the disk of these sizes that the arguments name. What was opened before isn't opened again.
+/// The faults are those of `load_disk`, in the same order.
 pub fn load_disk_extent<'a, I: Images>(
     alloc: Global,
     geometry: Geometry,
     args: &ImageArgs<'a>,
+    opened: Option<Opened<I::Image>>,
     images: &mut I,
     extent: u32,
 ) -> Result<OneExtent, Fault<'a>>
-    requires { extent < geometry.extents }
+    requires in_extents { extent < geometry.extents }
+    requires map { IfSome opened (λ o. IsMapNamed (I.known_map images.old) args.now.map o.map) }
+    requires raw { IfSome opened (λ o.
+        IsKnownAs I.Image.bytes I.Image.fails I.Image.most_failures I.Image.reads
+        (I.known images.old args.now.name.now) o.raw) }
+    requires found { MatchOption opened (¬ (args.now.sizes ≡ None))
+        (λ o. AreFoundBy (I.known images.old args.now.name.now) o.map geometry) }
     ensures { MatchResult result
         (λ disk. IsExtentLoaded (I.known images.old args.now.name.now) (I.known_map images.old) args.now
         geometry extent (image_of disk))
         (IsDiskFault (I.known images.old args.now.name.now) (I.known_map images.old) args.now geometry) }
 {
-    let losses = losses_of(alloc, geometry, args, images)?;
-    load_named_extent(alloc, geometry, args.name, &losses, images, extent)
+    let (losses, mut raw) = losses_of(alloc, geometry, args, opened, images)?;
+    load_raw_extent(alloc, geometry, &mut raw, &losses, extent)
 }
 
-/// One extent of the disk of these sizes in the image of this name, without what is lost. Faults, in this
-/// order: an image that can't be opened, and one that is too long.
-fn load_named_extent<'a, I: Images>(
+/// One extent of the disk of these sizes in a raw image, without what is lost. The fault is an image that is
+/// too long, or that memory ran out.
+fn load_raw_extent<'a, R: RawImage>(
     alloc: Global,
     geometry: Geometry,
-    name: &'a str,
+    raw: &mut R,
     losses: &Losses,
-    images: &mut I,
     extent: u32,
 ) -> Result<OneExtent, Fault<'a>>
+    requires few_reads { R.reads raw.old < 2 ^ 62 }
     requires pages { All (λ at. (at.0 < geometry.extents) × (at.1 < geometry.pages)) losses.now.pages.items }
     requires map { (blocks : Option (List MapBlock)) × KeepsMap losses.now.map blocks }
     requires in_extents { extent < geometry.extents }
-    ensures { MatchResult result
+    ensures { (known : KnownRaw) → IsKnownAs R.bytes R.fails R.most_failures R.reads known raw.old →
+        MatchResult result
         (λ disk. (blocks : Option (List MapBlock)) → KeepsMap losses.now.map blocks →
-        IsExtentLoadedBy (I.known images.old name.entry.now) geometry losses.now.pages.items blocks extent
-        (image_of disk))
-        (IsNamedFault (I.known images.old name.entry.now) name.entry geometry) }
+        IsExtentLoadedBy known geometry losses.now.pages.items blocks extent (image_of disk))
+        (IsRawFault known geometry) }
 {
-    let Some(mut raw) = images.image(name) else {
-        return Err(Fault::NoImage(name));
-    };
-    let disk = extent_of_raw(alloc, &mut raw, geometry, &losses.pages, extent)?;
+    let disk = extent_of_raw(alloc, raw, geometry, &losses.pages, extent)?;
     Ok(apply_map(alloc, disk, &losses.map, extent)?)
 }
 

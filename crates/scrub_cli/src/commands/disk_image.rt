@@ -1,14 +1,18 @@
 //! Loading the disk in an image file, with the unreadable pages that the arguments name. The commands check
 //! the sizes; for the map of a rescue see `rescue`.
 
-ghost use Rattle.std.specs.Prelude.{ℕ, ◌≡◌, ◌<◌, ◌≤◌, All, List, MatchOption, MatchResult, Option};
+ghost use Rattle.std.specs.Prelude.{ℕ, ◌≡◌, ◌<◌, ◌≤◌, ◌^◌, All, IfOk, IfSome, List, MatchOption, MatchResult};
+ghost use Rattle.std.specs.Prelude.{None, Option};
 ghost use Rattle.scrub_disk.specs.Parted.{image_of};
 ghost use Rattle.scrub_map.specs.declared.block.MapBlock.{MapBlock};
-ghost use Rattle.scrub_cli.specs.Rescue.{KeepsMap};
+ghost use Rattle.scrub_cli.specs.KnownFiles.{IsKnownAs, KnownRaw};
+ghost use Rattle.scrub_cli.specs.Rescue.{IsMapNamed, KeepsMap};
+ghost use Rattle.scrub_cli.specs.DiskGeometry.{AreFoundBy};
 ghost use Rattle.scrub_cli.specs.DiskImage.{NamesPage, NamePages, IsBadPageFault, IsLoadedDisk, IsDiskFault};
-ghost use Rattle.scrub_cli.specs.DiskImage.{AreLossesKept, IsLoadedBy, IsLossesFault, IsNamedFault};
+ghost use Rattle.scrub_cli.specs.DiskImage.{AreLossesKept, IsLoadedBy, IsLossesFault, IsRawFault};
 
-use crate::commands::rescue::{apply_map, rescue_map};
+use crate::commands::opened::{Opened, open_unless_opened};
+use crate::commands::rescue::apply_map;
 use crate::process::fault::Fault;
 use crate::process::images::Images;
 use scrub_args::{ImageArgs, bad_page};
@@ -80,67 +84,89 @@ pub struct Losses {
     pub map: Option<RescueMap>,
 }
 
-/// What is lost of the images that the arguments name. Faults, in this order: the first argument for an
-/// unreadable page that names none, a map that can't be opened, and its first line that breaks the rules.
+/// What is lost of the image that the arguments name, and the image. What was opened before isn't opened
+/// again. Faults, in this order: the first argument for an unreadable page that names none, a map that can't
+/// be opened, its first line that breaks the rules, and an image that can't be opened.
 pub fn losses_of<'a, I: Images>(
     alloc: Global,
     geometry: Geometry,
     args: &ImageArgs<'a>,
+    opened: Option<Opened<I::Image>>,
     images: &mut I,
-) -> Result<Losses, Fault<'a>>
+) -> Result<(Losses, I::Image), Fault<'a>>
+    requires map { IfSome opened (λ o. IsMapNamed (I.known_map images.old) args.now.map o.map) }
+    requires raw { IfSome opened (λ o.
+        IsKnownAs I.Image.bytes I.Image.fails I.Image.most_failures I.Image.reads
+        (I.known images.old args.now.name.now) o.raw) }
+    requires found { MatchOption opened (¬ (args.now.sizes ≡ None))
+        (λ o. AreFoundBy (I.known images.old args.now.name.now) o.map geometry) }
     ensures losses { MatchResult result
-        (λ l. AreLossesKept (I.known_map images.old) args.now geometry l)
+        (λ r. AreLossesKept (I.known_map images.old) args.now geometry r.0)
         (IsLossesFault (I.known_map images.old) args.now geometry) }
+    ensures raw { IfOk result (λ r.
+        IsKnownAs I.Image.bytes I.Image.fails I.Image.most_failures I.Image.reads
+        (I.known images.old args.now.name.now) r.1) }
+    ensures found { IfOk result (λ r. args.now.sizes ≡ None →
+        AreFoundBy (I.known images.old args.now.name.now) r.0.map geometry) }
     ensures same_images { I.known images.new ≡ I.known images.old }
     ensures same_maps { I.known_map images.new ≡ I.known_map images.old }
 {
     let pages = bad_pages(alloc, geometry, &args.bad_pages)?;
-    let map = rescue_map(alloc, args.map, images)?;
-    Ok(Losses { pages, map })
+    let opened = open_unless_opened(alloc, args, opened, images)?;
+    let map = opened.map;
+    Ok((Losses { pages, map }, opened.raw))
 }
 
-/// The disk of these sizes that the arguments name. Faults, in this order: the first argument for an
-/// unreadable page that names none, a map that can't be opened, the map's first line that breaks the rules,
-/// an image that can't be opened, and an image that is too long. Each reader of the image has a thread of its
-/// own.
+/// The disk of these sizes that the arguments name. What was opened before isn't opened again. Faults, in
+/// this order: the first argument for an unreadable page that names none, a map that can't be opened, the
+/// map's first line that breaks the rules, an image that can't be opened, and an image that is too long. Each
+/// reader of the image has a thread of its own.
 pub fn load_disk<'a, R: Threads + Sync, I: Images>(
     rt: &R,
     alloc: Global,
     geometry: Geometry,
     args: &ImageArgs<'a>,
+    opened: Option<Opened<I::Image>>,
     images: &mut I,
 ) -> Result<PartedDisk, Fault<'a>>
+    requires map { IfSome opened (λ o. IsMapNamed (I.known_map images.old) args.now.map o.map) }
+    requires raw { IfSome opened (λ o.
+        IsKnownAs I.Image.bytes I.Image.fails I.Image.most_failures I.Image.reads
+        (I.known images.old args.now.name.now) o.raw) }
+    requires found { MatchOption opened (¬ (args.now.sizes ≡ None))
+        (λ o. AreFoundBy (I.known images.old args.now.name.now) o.map geometry) }
     ensures { MatchResult result
         (λ disk. IsLoadedDisk (I.known images.old args.now.name.now) (I.known_map images.old) args.now
         geometry (image_of disk))
         (IsDiskFault (I.known images.old args.now.name.now) (I.known_map images.old) args.now geometry) }
 {
-    let losses = losses_of(alloc, geometry, args, images)?;
-    load_named(rt, alloc, geometry, args.name, &losses, images)
+    let (losses, raw) = losses_of(alloc, geometry, args, opened, images)?;
+    load_raw(rt, alloc, geometry, raw, &losses, images)
 }
 
-/// The disk of these sizes in the image of this name, without what is lost. Faults, in this order: an image
-/// that can't be opened, and one that is too long. Each reader of the image has a thread of its own.
-pub fn load_named<'a, R: Threads + Sync, I: Images>(
+/// The disk of these sizes in a raw image, without what is lost. The fault is an image that is too long, or
+/// that memory ran out. Each reader of the image has a thread of its own.
+pub fn load_raw<'a, R: Threads + Sync, I: Images>(
     rt: &R,
     alloc: Global,
     geometry: Geometry,
-    name: &'a str,
+    raw: I::Image,
     losses: &Losses,
     images: &mut I,
 ) -> Result<PartedDisk, Fault<'a>>
     requires pages { All (λ at. (at.0 < geometry.extents) × (at.1 < geometry.pages)) losses.now.pages.items }
     requires map { (blocks : Option (List MapBlock)) × KeepsMap losses.now.map blocks }
-    ensures disk { MatchResult result
+    requires few_reads { I.Image.reads raw < 2 ^ 62 }
+    ensures disk { (known : KnownRaw) →
+        IsKnownAs I.Image.bytes I.Image.fails I.Image.most_failures I.Image.reads known raw →
+        MatchResult result
         (λ disk. (blocks : Option (List MapBlock)) → KeepsMap losses.now.map blocks →
-        IsLoadedBy (I.known images.old name.entry.now) geometry losses.now.pages.items blocks (image_of disk))
-        (IsNamedFault (I.known images.old name.entry.now) name.entry geometry) }
+        IsLoadedBy known geometry losses.now.pages.items blocks (image_of disk))
+        (IsRawFault known geometry) }
     ensures same_images { I.known images.new ≡ I.known images.old }
     ensures same_maps { I.known_map images.new ≡ I.known_map images.old }
 {
-    let Some(readers) = images.readers(alloc, name, reader_count(rt, geometry))? else {
-        return Err(Fault::NoImage(name));
-    };
+    let readers = images.beside(alloc, raw, reader_count(rt, geometry))?;
     let disk = load_in_parts(rt, alloc, readers, geometry, &losses.pages)?;
     Ok(apply_map(alloc, disk, &losses.map)?)
 }

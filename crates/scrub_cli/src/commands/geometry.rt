@@ -1,10 +1,15 @@
 //! The sizes of a disk: those that the arguments give, or else those that its superblock records have.
 
-ghost use Rattle.std.specs.Prelude.{◌≡◌, ◌<◌, ◌^◌, IfOk, MatchResult, Some};
+ghost use Rattle.std.specs.Prelude.{◌≡◌, ◌+◌, ◌<◌, ◌≤◌, ◌^◌, IfOk, IfSome, MatchOption, MatchResult};
+ghost use Rattle.std.specs.Prelude.{None, Some};
+ghost use Rattle.scrub_disk.specs.Limits.{max_extent_bytes};
 ghost use Rattle.scrub_cli.specs.DiskGeometry.{AreSizesFound, AreSizesRead, IsFoundFault, IsGeometryFault};
-ghost use Rattle.scrub_cli.specs.DiskGeometry.{IsGeometryOf};
+ghost use Rattle.scrub_cli.specs.DiskGeometry.{AreFoundBy, IsGeometryOf};
+ghost use Rattle.scrub_cli.specs.KnownFiles.{IsKnownAs};
+ghost use Rattle.scrub_cli.specs.Rescue.{IsMapNamed};
 
-use crate::commands::rescue::{first_lacking, rescue_map};
+use crate::commands::opened::{Opened, open};
+use crate::commands::rescue::first_lacking;
 use crate::process::fault::Fault;
 use crate::process::images::Images;
 use scrub_args::ImageArgs;
@@ -20,53 +25,73 @@ fn sizes_of<R: RawImage>(
     lacking: &[u32],
 ) -> Result<Option<Geometry>, OutOfMemory>
     requires { R.reads raw.old < 2 ^ 62 }
-    ensures { IfOk result (AreSizesRead
+    ensures sizes { IfOk result (AreSizesRead
         (record { bytes = R.bytes raw.old; fails = R.fails raw.old; most_failures = R.most_failures raw.old })
         lacking.now) }
+    ensures same_bytes { R.bytes raw.new ≡ R.bytes raw.old }
+    ensures same_fails { R.fails raw.new ≡ R.fails raw.old }
+    ensures same_bound { R.most_failures raw.new ≡ R.most_failures raw.old }
+    ensures reads { R.reads raw.new ≤ R.reads raw.old + max_extent_bytes }
 {
     find_sizes(alloc, raw, lacking)
 }
 
 /// The sizes that all superblock records in the front of the image of this name have, without the blocks that
-/// the map lacks. Faults, in this order: a map that can't be opened, its first line that breaks the rules, an
-/// image that can't be opened, and that no sizes are found.
+/// the map lacks, and what was opened to find them. Faults, in this order: a map that can't be opened, its
+/// first line that breaks the rules, an image that can't be opened, and that no sizes are found.
 fn found_geometry<'a, I: Images>(
     alloc: Global,
     map: Option<&'a str>,
     name: &'a str,
     images: &mut I,
-) -> Result<Geometry, Fault<'a>>
+) -> Result<(Geometry, Opened<I::Image>), Fault<'a>>
     ensures geometry { MatchResult result
-        (λ g. AreSizesFound (I.known images.old name.entry.now) (I.known_map images.old) map.entry (Some g))
+        (λ r. AreSizesFound (I.known images.old name.entry.now) (I.known_map images.old) map.entry (Some r.0))
         (IsFoundFault (I.known images.old name.entry.now) (I.known_map images.old) map.entry name.entry) }
+    ensures map { IfOk result (λ r. IsMapNamed (I.known_map images.new) map.entry r.1.map) }
+    ensures raw { IfOk result (λ r.
+        IsKnownAs I.Image.bytes I.Image.fails I.Image.most_failures I.Image.reads
+        (I.known images.new name.entry.now) r.1.raw) }
+    ensures found { IfOk result (λ r. AreFoundBy (I.known images.new name.entry.now) r.1.map r.0) }
     ensures same_images { I.known images.new ≡ I.known images.old }
     ensures same_maps { I.known_map images.new ≡ I.known_map images.old }
 {
-    let map = rescue_map(alloc, map, images)?;
-    let Some(mut raw) = images.image(name) else {
-        return Err(Fault::NoImage(name));
-    };
-    let lacking = first_lacking(alloc, &map)?;
-    match sizes_of(alloc, &mut raw, &lacking)? {
-        Some(geometry) => Ok(geometry),
+    let mut opened = open(alloc, map, name, images)?;
+    let lacking = first_lacking(alloc, &opened.map)?;
+    match sizes_of(alloc, &mut opened.raw, &lacking)? {
+        Some(geometry) => Ok((geometry, opened)),
         None => Err(Fault::NoSizes),
     }
 }
 
-/// The sizes of the disk that the arguments name. Faults are checked in the order of `Fault`.
+/// The sizes of the disk that the arguments name, and what was opened to find them, if they are left out.
+/// Faults are checked in the order of `Fault`.
 pub fn geometry_of<'a, I: Images>(
     alloc: Global,
     args: &ImageArgs<'a>,
     images: &mut I,
-) -> Result<Geometry, Fault<'a>>
+) -> Result<(Geometry, Option<Opened<I::Image>>), Fault<'a>>
     ensures geometry { MatchResult result
-        (IsGeometryOf (I.known images.old args.now.name.now) (I.known_map images.old) args.now)
+        (λ r. IsGeometryOf (I.known images.old args.now.name.now) (I.known_map images.old) args.now r.0)
         (IsGeometryFault (I.known images.old args.now.name.now) (I.known_map images.old) args.now) }
+    ensures map { IfOk result (λ r. IfSome r.1
+        (λ o. IsMapNamed (I.known_map images.new) args.now.map o.map)) }
+    ensures raw { IfOk result (λ r. IfSome r.1 (λ o.
+        IsKnownAs I.Image.bytes I.Image.fails I.Image.most_failures I.Image.reads
+        (I.known images.new args.now.name.now) o.raw)) }
+    ensures found { IfOk result (λ r. MatchOption r.1 (¬ (args.now.sizes ≡ None))
+        (λ o. AreFoundBy (I.known images.new args.now.name.now) o.map r.0)) }
     ensures same_images { I.known images.new ≡ I.known images.old }
     ensures same_maps { I.known_map images.new ≡ I.known_map images.old }
 {
     match args.sizes {
-        Some(sizes) => Ok(Geometry::new(sizes.page, sizes.pages, sizes.extents)?),
-        None => found_geometry(alloc, args.map, args.name, images),
+        Some(sizes) => {
+            let geometry = Geometry::new(sizes.page, sizes.pages, sizes.extents)?;
+            Ok((geometry, None))
+        }
+        None => {
+            let (geometry, opened) = found_geometry(alloc, args.map, args.name, images)?;
+            Ok((geometry, Some(opened)))
+        }
     }
 }

@@ -24,7 +24,7 @@ pub fn items<'a, I: Images>(
         (IsItemsFault (I.known images.old args.now.image.name.now) (I.known_map images.old) args.now) }
 {
     let image = &args.image;
-    let geometry = geometry_of(alloc, image, images)?;
+    let (geometry, opened) = geometry_of(alloc, image, images)?;
     if args.extent >= geometry.extents {
         return Err(Fault::Extent);
     }
@@ -32,7 +32,7 @@ pub fn items<'a, I: Images>(
     if pointer > geometry.extent_bytes() {
         return Err(Fault::Pointer);
     }
-    let disk = load_disk_extent(alloc, geometry, image, images, args.extent)?;
+    let disk = load_disk_extent(alloc, geometry, image, opened, images, args.extent)?;
     let tiling = tile(alloc, &disk, args.extent, pointer)?;
     Ok(listing(alloc, tiling.as_slice())?)
 }

@@ -47,10 +47,10 @@ pub fn manifest<'a, R: Threads + Wait + Sync, I: Images>(
         args.now r.0.text.items r.0.outcome r.1) }
 {
     let image = &args.scan.image;
-    let geometry = geometry_of(alloc, image, images)?;
+    let (geometry, opened) = geometry_of(alloc, image, images)?;
     if !may_all_be_reset(geometry, &args.resets) {
         return Err(Fault::Extent);
     }
-    let disk = load_disk(rt, alloc, geometry, image, images)?;
+    let disk = load_disk(rt, alloc, geometry, image, opened, images)?;
     Ok(manifest_listing(rt, alloc, &disk, args.scan.workers, &args.resets)?)
 }

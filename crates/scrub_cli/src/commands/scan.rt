@@ -34,8 +34,8 @@ fn disk_of<'a, R: Threads + Sync, I: Images>(
         (image_of disk))
         (IsScanFault (I.known images.old args.now.name.now) (I.known_map images.old) args.now) }
 {
-    let geometry = geometry_of(alloc, args, images)?;
-    load_disk(rt, alloc, geometry, args, images)
+    let (geometry, opened) = geometry_of(alloc, args, images)?;
+    load_disk(rt, alloc, geometry, args, opened, images)
 }
 
 /// What is wanted of the disk that the arguments name, and the extents that each worker took. Faults are
@@ -72,8 +72,8 @@ fn extent_zero_of<'a, I: Images>(
         (image_of_extent disk))
         (IsScanFault (I.known images.old args.now.name.now) (I.known_map images.old) args.now) }
 {
-    let geometry = geometry_of(alloc, args, images)?;
-    load_disk_extent(alloc, geometry, args, images, 0)
+    let (geometry, opened) = geometry_of(alloc, args, images)?;
+    load_disk_extent(alloc, geometry, args, opened, images, 0)
 }
 
 /// The lines of the superblocks of the disk that the arguments name. Only extent 0 is loaded. Faults are

@@ -50,11 +50,11 @@ pub fn shard<'a, R: Threads + Wait + Sync, I: Images>(
         args.now r.0.text.items r.0.outcome r.1) }
 {
     let image = &args.scan.image;
-    let geometry = geometry_of(alloc, image, images)?;
+    let (geometry, opened) = geometry_of(alloc, image, images)?;
     let Some(id) = shard_id(args.id) else {
         return Err(Fault::BadShard(args.id));
     };
-    let disk = load_disk(rt, alloc, geometry, image, images)?;
+    let disk = load_disk(rt, alloc, geometry, image, opened, images)?;
     let (found, takings) = read_shard(rt, alloc, &disk, args.scan.workers, &NoGate, id)?;
     Ok((bytes_of(found)?, takings))
 }

@@ -2,16 +2,16 @@
 
 ghost use Rattle.std.specs.Prelude.{◌≡◌, ◌≤◌, ◌++◌, IfOk, OnOk, string_bytes};
 ghost use Rattle.scrub_args.specs.declared.args.Wanted.TheVariants.{Shards};
-ghost use Rattle.scrub_report.specs.Answer.{AreTakingsBy};
+ghost use Rattle.scrub_found.specs.Takings.{AreTakingsBy};
 ghost use Rattle.scrub_cli.specs.Remarks.{remark_line, remark_lines};
 ghost use Rattle.scrub_cli.specs.Scan.{IsDiskAnswer};
 
 use crate::commands::answer::Answer;
 use crate::process::outcome::Outcome;
 use scrub_disk::{OutOfMemory, PageSource};
+use scrub_found::ScrubFault;
+use scrub_found::texts::state_text;
 use scrub_pool::{NoGate, Takings};
-use scrub_report::ScrubFault;
-use scrub_report::texts::state_text;
 use scrub_shard::{Remark, read_shards};
 use std::alloc::Global;
 use std::fmt::Write;

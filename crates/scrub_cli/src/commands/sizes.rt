@@ -4,7 +4,8 @@ ghost use Rattle.std.specs.Prelude.{◌≡◌, IfOk, MatchResult};
 ghost use Rattle.scrub_cli.specs.SizesListed.{IsSizesAnswer, IsSizesFault};
 
 use crate::commands::answer::{Answer, sizes_listing};
-use crate::commands::rescue::{first_lacking, rescue_map};
+use crate::commands::opened::open;
+use crate::commands::rescue::first_lacking;
 use crate::process::fault::Fault;
 use crate::process::images::Images;
 use scrub_args::SizesArgs;
@@ -22,10 +23,7 @@ pub fn sizes<'a, I: Images>(
         a.text.items a.outcome)
         (IsSizesFault (I.known_map images.old) args.now) }
 {
-    let map = rescue_map(alloc, args.map, images)?;
-    let Some(mut raw) = images.image(args.name) else {
-        return Err(Fault::NoImage(args.name));
-    };
-    let lacking = first_lacking(alloc, &map)?;
-    Ok(sizes_listing(alloc, &mut raw, &lacking)?)
+    let mut opened = open(alloc, args.map, args.name, images)?;
+    let lacking = first_lacking(alloc, &opened.map)?;
+    Ok(sizes_listing(alloc, &mut opened.raw, &lacking)?)
 }

@@ -39,6 +39,19 @@ impl FileImage {
             shares,
         }
     }
+
+    /// The same reader, now one of several.
+    fn shared(self) -> FileImage
+        ensures reads { result.reads ≡ self.reads }
+        ensures shares { result.shares ≡ 1 }
+    {
+        FileImage {
+            file: self.file,
+            reads: self.reads,
+            failures: self.failures,
+            shares: 1,
+        }
+    }
 }
 
 /// How many tries a read gets if signals interrupt it.
@@ -129,24 +142,22 @@ impl<R: Files<File = File>> Images for NamedFiles<'_, R> {
         Some(FileImage::new(file, 64))
     }
 
-    fn readers(
+    fn beside(
         &mut self,
         alloc: Global,
-        name: &str,
+        image: FileImage,
         most: usize,
-    ) -> Result<Option<Vec<FileImage>>, OutOfMemory> {
-        let Some(file) = open_readable(self.runtime, name) else {
-            return Ok(None);
-        };
+    ) -> Result<Vec<FileImage>, OutOfMemory> {
+        let count = most.min(image.shares as usize);
         let mut readers = Vec::new(alloc);
-        for _ in 1..most {
-            let Ok(copy) = file.try_clone() else {
+        for _ in 1..count {
+            let Ok(copy) = image.file.try_clone() else {
                 break;
             };
             readers.push(FileImage::new(copy, 1))?;
         }
-        readers.push(FileImage::new(file, 1))?;
-        Ok(Some(readers))
+        readers.push(image.shared())?;
+        Ok(readers)
     }
 
     fn map(&mut self, alloc: Global, name: &str) -> Result<Vec<u8>, MapReadFault> {

@@ -1,7 +1,7 @@
 //! Where raw images and the maps of rescues come from, by name. For the pages of an image see `scrub_disk`,
 //! and for the lines of a map `scrub_map`.
 
-ghost use Rattle.std.specs.Prelude.{◌≡◌, ◌≤◌, ◌<◌, ℕ, All, List, IfOk, IfSome, sum_by, vec_len};
+ghost use Rattle.std.specs.Prelude.{◌≡◌, ◌≤◌, ◌<◌, ◌^◌, ℕ, All, List, IfOk, IfSome, sum_by, vec_len};
 ghost use Rattle.scrub_cli.specs.KnownFiles.{KnownMaps, KnownRaw};
 
 use scrub_disk::{OutOfMemory, RawImage};
@@ -36,34 +36,41 @@ pub trait Images {
         ensures same_images { known self.new ≡ known self.old }
         ensures same_maps { known_map self.new ≡ known_map self.old };
 
-    /// Readers of the raw image of this name, each before any read of it, or `None` if it can't be opened: at
-    /// least one, and at most `most`. All read the same image.
-    fn readers(
+    /// Readers of an image that was opened, to be used side by side: at least one, and at most `most`. All of
+    /// them read this image. Here it is the only one.
+    fn beside(
         &mut self,
         alloc: Global,
-        name: &str,
+        image: Self::Image,
         most: usize,
-    ) -> Result<Option<Vec<Self::Image>>, OutOfMemory>
+    ) -> Result<Vec<Self::Image>, OutOfMemory>
         requires some { 0 < most }
         requires few { most ≤ 64 }
-        ensures some { IfOk result (λ r. IfSome r (λ readers. 0 < vec_len readers)) }
-        ensures few { IfOk result (λ r. IfSome r (λ readers. vec_len readers ≤ most)) }
-        ensures known { IfOk result (λ r. IfSome r (λ readers.
-            All (λ image. Self.Image.bytes image ≡ (known self.old name.now).bytes) readers.items)) }
-        ensures faults { IfOk result (λ r. IfSome r (λ readers.
-            All (λ image. Self.Image.fails image ≡ (known self.old name.now).fails) readers.items)) }
-        ensures bounded { IfOk result (λ r. IfSome r (λ readers.
-            sum_by (λ image. Self.Image.most_failures image) readers.items ≤
-            (known self.old name.now).most_failures)) }
+        requires few_reads { Self.Image.reads image < 2 ^ 62 }
+        ensures some { IfOk result (λ readers. 0 < vec_len readers) }
+        ensures few { IfOk result (λ readers. vec_len readers ≤ most) }
+        ensures known { IfOk result
+            (λ readers. All (λ r. Self.Image.bytes r ≡ Self.Image.bytes image) readers.items) }
+        ensures faults { IfOk result
+            (λ readers. All (λ r. Self.Image.fails r ≡ Self.Image.fails image) readers.items) }
+        ensures bounded { IfOk result (λ readers.
+            sum_by (λ r. Self.Image.most_failures r) readers.items ≤ Self.Image.most_failures image) }
+        ensures few_reads { IfOk result (λ readers. All (λ r. Self.Image.reads r < 2 ^ 62) readers.items) }
         ensures same_images { known self.new ≡ known self.old }
         ensures same_maps { known_map self.new ≡ known_map self.old }
-        ensures unread { IfOk result (λ r. IfSome r
-            (λ readers. All (λ image. Self.Image.reads image ≡ 0) readers.items)) };
+    {
+        let mut readers = Vec::new(alloc);
+        readers.push(image)?;
+        Ok(readers)
+    }
 
-    /// The whole text of the map of this name.
-    fn map(&mut self, alloc: Global, name: &str) -> Result<Vec<u8>, MapReadFault>
-        ensures known { IfOk result (λ text. IfSome (known_map self.old name.now)
+    /// The whole text of the map of this name. Here no map can be opened.
+    fn map(&mut self, _alloc: Global, _name: &str) -> Result<Vec<u8>, MapReadFault>
+        ensures known { IfOk result (λ text. IfSome (known_map self.old _name.now)
             (λ bytes. text.items ≡ bytes)) }
         ensures same_images { known self.new ≡ known self.old }
-        ensures same_maps { known_map self.new ≡ known_map self.old };
+        ensures same_maps { known_map self.new ≡ known_map self.old }
+    {
+        Err(MapReadFault::NotOpened)
+    }
 }

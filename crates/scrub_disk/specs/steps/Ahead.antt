@@ -2,10 +2,20 @@
 use Rattle.std.specs.Prelude.{◌≡◌, ◌<◌, ◌≤◌, ◌+◌, ◌*◌, ◌/◌, ℕ, Bool, true, false, List, length, slice_get, slice_index, slice_index_or, Option, Some, IfSome, ◌⊎◌, All, Contains}
 use Rattle.scrub_disk.specs.Raw.{MayFailIn}
 
--- from one byte of a list up to another each byte is the raw one, where the list stands at a place of the raw bytes
+-- from one byte of a list up to another each byte is the raw one, where the list is at a place of the raw bytes
 abbrev pub StandsBetween : List ℕ → ℕ → ℕ → ℕ → List ℕ → Type 0
 StandsBetween known place from end bytes =
     (i : ℕ) → from ≤ i → i < end → slice_get known (place + i) ≡ Some (slice_index bytes i)
+
+-- the first n bytes of `out` are those at the offset, and n is less than `out` has room for only if the bytes end there
+pub record FilledFrom (bytes : List ℕ) (offset : ℕ) (out : List ℕ) (n : ℕ) : Type 0 where
+  pub given : StandsBetween bytes offset 0 n out
+  pub ended : n < length out → length bytes ≤ offset + n
+
+-- the first n bytes of `out` were filled from an offset on, with those of the raw image if its bytes are known
+pub record IsFilled (raw : Option (List ℕ)) (offset : ℕ) (out : List ℕ) (n : ℕ) : Type 0 where
+  pub within : n ≤ length out
+  pub known : IfSome raw (λ bytes. FilledFrom bytes offset out n)
 
 -- byte i of a list is the raw byte at the place plus i, unless its page is marked
 abbrev pub HoldsFrom : List ℕ → ℕ → ℕ → List Bool → List ℕ → Type 0

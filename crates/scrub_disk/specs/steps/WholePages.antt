@@ -9,7 +9,7 @@ use Rattle.scrub_disk.specs.Image.{HasWholePages}
 use Rattle.scrub_disk.specs.BytesAndMarks.{held}
 use Rattle.scrub_disk.specs.Memory.{image_of}
 use Rattle.scrub_disk.specs.declared.memory.MemDisk.{MemDisk}
-use Rattle.scrub_disk.specs.OneExtent.{alone, page_of_extent}
+use Rattle.scrub_disk.specs.OneExtent.{alone}
 
 -- lemma: page q of extent e is among all pages, and its bytes are among all bytes, for P bytes a page, N pages an
 -- extent and E extents

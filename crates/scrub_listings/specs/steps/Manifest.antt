@@ -10,7 +10,7 @@ use Rattle.scrub_check.specs.declared.named.Owner.TheVariants.{Run, Shard}
 use Rattle.scrub_check.specs.declared.statuses.checked.Checked.{Checked}
 use Rattle.scrub_check.specs.ChunkForms.{form_at}
 use Rattle.scrub_check.specs.Spares.{spares_by}
-use Rattle.scrub_report.specs.declared.runs.RunRow.{RunRow}
+use Rattle.scrub_found.specs.declared.runs.RunRow.{RunRow}
 use Rattle.scrub_listings.specs.Manifest.{after_status}
 
 -- what follows a locator's status, by the chunks among which its spares are

@@ -1,13 +1,17 @@
--- The named locators sorted by the places that they point to, in which the code finds those of one place.
-use Rattle.std.specs.Prelude.{◌≡◌, ℕ, List, map}
+-- Named locators sorted by the places that they point to, in which the code finds those of one place.
+use Rattle.std.specs.Prelude.{◌≡◌, ◌==◌, ℕ, List, map}
 use Rattle.std.specs.declared.cmp.Ordering.{Ordering}
 use Rattle.std.specs.Ordering.{nat_cmp, ordering_then}
 use Rattle.std.specs.Borrow.{Bor}
-use Rattle.std.specs.List.{flat_map}
+use Rattle.std.specs.List.{filter, flat_map, list_any}
 use Rattle.std.specs.List.Sorted.{IsSortedByKey}
 use Rattle.scrub_check.specs.declared.lists.kept_chunk.KeptChunk.{KeptChunk}
 use Rattle.scrub_check.specs.declared.statuses.checked.Checked.{Checked}
 use Rattle.scrub_reclaim.specs.Reclaimable.{move_line, pointing_to}
+
+-- the named locators into these extents, in their order
+abbrev pub named_in : List ℕ → List Checked → List Checked
+named_in extents checked = filter (λ c. list_any (λ n. n == c.locator.extent) extents) checked
 
 -- the place that a named locator points to: its extent and offset
 abbrev pub place_pointed_to : Checked → ℕ × ℕ

@@ -1,6 +1,5 @@
 -- Steps of the code: what the report lists, and what it is drawn from.
-use Rattle.std.specs.Prelude.{◌≡◌, ◌&&◌, ◌==◌, ℕ, Bool, List, filter, is_some, length, map}
-use Rattle.std.specs.List.{list_all}
+use Rattle.std.specs.Prelude.{◌≡◌, ◌&&◌, ◌==◌, ℕ, Bool, List, filter, length, map}
 use Rattle.scrub_disk.specs.Image.{Image}
 use Rattle.scrub_run.specs.declared.shard_id.ShardId.{ShardId}
 use Rattle.scrub_merge.specs.Binding.{BindingValue}
@@ -10,11 +9,12 @@ use Rattle.scrub_check.specs.Chunks.{twins}
 use Rattle.scrub_check.specs.steps.LocatorIndex.{IsLocatorIndex}
 use Rattle.scrub_report.specs.declared.listed.Drawn.{Drawn}
 use Rattle.scrub_report.specs.declared.listed.Listed.{Listed}
-use Rattle.scrub_report.specs.declared.parts.Judged.{Judged}
+use Rattle.scrub_report.specs.declared.listed.Unlisted.{Unlisted}
+use Rattle.scrub_found.specs.declared.judging.Judged.{Judged}
 use Rattle.scrub_report.specs.declared.shards.Shards.{Shards}
-use Rattle.scrub_report.specs.Parts.{IsLivenessOf}
+use Rattle.scrub_found.specs.Judged.{IsLivenessBy, is_clean_by}
 use Rattle.scrub_report.specs.Report.{report_text}
-use Rattle.scrub_report.specs.Scrubbed.{IsScrubbed, Scrubbed, is_clean, is_clean_choice, is_clean_extent}
+use Rattle.scrub_found.specs.Scrubbed.{IsScrubbed, Scrubbed, is_clean_disk}
 
 -- the identifiers of the doubtful bindings, in their order
 abbrev pub doubtful_ids : List BindingValue → List ShardId
@@ -31,33 +31,31 @@ pub record AreDrawnFrom (checked : List Checked) (d : Drawn) : Type 0 where
   pub dangling_are : d.dangling.items ≡ dangling checked
   pub hidden_are : d.hidden.items ≡ hidden checked
 
--- the text and the verdict are those of what is found in an image, where the map has these bindings and these are the
--- checked locators
-pub record IsReportBy (image : Image) (bindings : List BindingValue) (checked : List Checked) (text : List ℕ) (clean : Bool) : Type 0 where
-  pub found : Scrubbed
-  pub scrubbed : IsScrubbed image found
-  pub bindings_are : found.bindings ≡ bindings
-  pub checked_are : found.checked ≡ checked
-  pub text_is : text ≡ report_text found
-  pub verdict : clean ≡ is_clean found
-
 module _ {D : Type 0} where
+  -- judged locators without their shard map
+  abbrev pub unlisted : Judged D → Unlisted D
+  unlisted j = record { scan = j.scan; in_doubt = j.in_doubt; runs = j.runs; checked = j.checked }
+
+  -- the text and the verdict are those of what is found in an image, with the bindings and the checked locators that were judged
+  pub record IsReportBy (image : Image) (j : Judged D) (text : List ℕ) (clean : Bool) : Type 0 where
+    pub found : Scrubbed
+    pub scrubbed : IsScrubbed image found
+    pub bindings_are : found.bindings ≡ j.map
+    pub checked_are : found.checked ≡ j.checked.items
+    pub text_is : text ≡ report_text found
+    pub verdict : clean ≡ is_clean_disk found
+
   -- the lists are those of the judged locators, and what is said of the shard map is kept
-  pub record AreListsOf (j : Judged D) (s : Shards) (l : Listed D) : Type 0 where
+  pub record AreListsOf (j : Unlisted D) (s : Shards) (l : Listed D) : Type 0 where
     pub scan_is : l.scan ≡ j.scan
     pub runs_are : l.runs.items ≡ j.runs.items
     pub shards_are : l.shards ≡ s
     pub dangling_are : l.dangling.items ≡ dangling j.checked.items
     pub hidden_are : l.hidden.items ≡ hidden j.checked.items
-    pub liveness_is : IsLivenessOf j l.liveness
+    pub liveness_is : IsLivenessBy j.scan.plan j.scan.all.extents j.checked.items j.in_doubt l.liveness
     pub twins_are : l.twins.items ≡ twins j.scan.all.extents
 
-  -- no locator dangles or is hidden, and no place is shared
-  abbrev pub has_none : Listed D → Bool
-  has_none l = length l.dangling.items == 0 && length l.hidden.items == 0 && length l.liveness.shared.items == 0
-
-  -- whether the lists are clean: the choice, all scanned extents, each run has a number of entries, and none dangles, is
-  -- hidden or is shared
+  -- whether the lists are clean
   abbrev pub is_clean_listed : Listed D → Bool
   is_clean_listed l =
-      is_clean_choice l.scan.chosen && list_all is_clean_extent l.scan.all.extents && list_all (λ r. is_some r.entries) l.runs.items && has_none l
+      is_clean_by l.scan l.runs.items (length l.dangling.items == 0 && length l.hidden.items == 0) l.liveness.shared.items

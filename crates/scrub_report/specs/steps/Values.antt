@@ -8,10 +8,10 @@ use Rattle.scrub_check.specs.declared.statuses.checked.Checked.{Checked}
 use Rattle.scrub_check.specs.Checked.{is_hidden}
 use Rattle.scrub_report.specs.Json.{list, natural, natural_or_null, with_keys}
 use Rattle.scrub_report.specs.Report.{candidate_data, dangling_data, ids_data, locator_members, numbers_data, place_data, run_data, shared_data, super_data}
-use Rattle.scrub_report.specs.Texts.{owner_text, state_text, status_text, uuid_text}
+use Rattle.scrub_found.specs.Texts.{owner_text, state_text, status_text, uuid_text}
 use Rattle.scrub_report.specs.declared.keys.KeyValue.{KeyValue}
 use Rattle.scrub_report.specs.declared.keys.KeyValue.TheVariants as key
-use Rattle.scrub_report.specs.declared.runs.RunRow.{RunRow}
+use Rattle.scrub_found.specs.declared.runs.RunRow.{RunRow}
 use Rattle.scrub_report.specs.declared.object.Value.{Value}
 use Rattle.scrub_report.specs.declared.object.Value.TheVariants.{Number, Optional, Optional32, Flag, Owner, Status, State, Uuid, Numbers, Items}
 

@@ -13,16 +13,6 @@ use Rattle.scrub_super.specs.Record.{BeginsWithRecord, record_bytes}
 use Rattle.scrub_super.specs.Pages.{kind_of}
 use Rattle.scrub_super.specs.Blocks.{IsMarked, LacksByte}
 
--- a raw image after at most so many more reads: its bytes, the reads that may fail and the bound on its failures are the
--- same, and failures never get fewer
-pub record IsReadFurther {R : Type 0} (bytes : R → Option (List ℕ)) (fails : R → ℕ → ℕ → Bool) (bound failures reads : R → ℕ) (old new : R)
-    (most : ℕ) : Type 0 where
-  pub same_bytes : bytes new ≡ bytes old
-  pub same_fails : fails new ≡ fails old
-  pub same_bound : bound new ≡ bound old
-  pub failed : failures old ≤ failures new
-  pub few : reads new ≤ reads old + most
-
 -- a block at an offset was read into the front of `out`, or is lost, because its first lacking byte is before the end or
 -- because a read in it failed
 pub record IsBlockRead (bytes : List ℕ) (fails : ℕ → ℕ → Bool) (offset lacking before after : ℕ) (out : List ℕ) (block : Block) : Type 0 where

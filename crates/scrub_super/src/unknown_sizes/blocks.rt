@@ -2,13 +2,13 @@
 //! bytes.
 
 ghost use Rattle.std.specs.Prelude.{◌≡◌, ◌+◌, ◌-◌, ◌*◌, ◌<◌, ◌≤◌, ◌^◌, ◌++◌, ◌∷◌, [], true, ℕ, List, IfOk};
-ghost use Rattle.std.specs.Prelude.{IfSome, OnErr, OnOk, length, slice_get, slice_index_or, take};
+ghost use Rattle.std.specs.Prelude.{IfSome, OnOk, length, slice_get, slice_index_or, take};
 ghost use Rattle.scrub_disk.specs.Limits.{max_extent_bytes};
 ghost use Rattle.scrub_disk.specs.Image.{AreBytesAt};
-ghost use Rattle.scrub_disk.specs.Raw.{MayFailIn};
-ghost use Rattle.scrub_super.specs.steps.BlocksRead.{AreAllRead, AreBlockMarks, IsBlockRead, IsReadFurther};
+ghost use Rattle.scrub_disk.specs.Raw.{IsReadOn};
+ghost use Rattle.scrub_super.specs.steps.BlocksRead.{AreAllRead, AreBlockMarks, IsBlockRead};
 
-use scrub_disk::{OutOfMemory, RawFault, RawImage};
+use scrub_disk::{OutOfMemory, RawImage, fill};
 use std::alloc::Global;
 
 /// The size of a block, in bytes.
@@ -34,32 +34,6 @@ struct Block {
     is_lost: bool,
 }
 
-/// Fills `out` with the bytes from an offset on, in as many reads as it takes, and returns how many there
-/// are: fewer than `out` has room for only if the image ends.
-fn read_front<R: RawImage>(raw: &mut R, offset: u64, out: &mut [u8]) -> Result<usize, RawFault>
-    requires few_reads { R.reads raw.old + length out.old < 2 ^ 63 }
-    requires in_range { offset + length out.old < 2 ^ 64 }
-    ensures within { IfOk result (λ n. n ≤ length out.new) }
-    ensures read { IfOk result (λ n. IfSome (R.bytes raw.old)
-        (λ bytes. AreBytesAt (slice_get bytes) offset (take n out.new))) }
-    ensures ended { IfOk result (λ n. n < length out.new →
-        IfSome (R.bytes raw.old) (λ bytes. length bytes ≤ offset + n)) }
-    ensures failed { OnErr result ((R.failures raw.old < R.failures raw.new)
-        × MayFailIn (R.fails raw.old) offset (length out.old)) }
-    ensures image { IsReadFurther R.bytes R.fails R.most_failures R.failures R.reads
-        raw.old raw.new (length out.old) }
-{
-    let mut done = 0;
-    while done < out.len() {
-        let more = raw.read_at(offset + done as u64, &mut out[done..])?;
-        if more == 0 {
-            return Ok(done);
-        }
-        done += more;
-    }
-    Ok(done)
-}
-
 /// Reads a block into `out`, which has its size. A block that can't be read counts as whole, and is lost.
 /// `lacking` is the place of the first byte that the block lacks, 512 if it lacks none: if the image ends
 /// before it, the block isn't lost.
@@ -77,10 +51,10 @@ fn read_block<R: RawImage>(raw: &mut R, offset: u64, lacking: usize, out: &mut [
         (result.len < BLOCK_BYTES → length bytes ≤ offset + result.len) →
         IsBlockRead bytes (R.fails raw.old) offset lacking (R.failures raw.old) (R.failures raw.new) out.new
         result }
-    ensures image { IsReadFurther R.bytes R.fails R.most_failures R.failures R.reads
-        raw.old raw.new BLOCK_BYTES }
+    ensures image { IsReadOn R.bytes R.fails R.most_failures R.failures raw.old raw.new }
+    ensures reads { R.reads raw.new ≤ R.reads raw.old + BLOCK_BYTES }
 {
-    match read_front(raw, offset, out) {
+    match fill(raw, offset, 0, out) {
         Ok(len) => Block {
             len,
             is_lost: lacking < len,
@@ -127,8 +101,8 @@ pub(crate) fn read_blocks<R: RawImage>(
     // The bytes that were read could be those of the raw image.
     ensures own { IfOk result (λ b. AreAllRead b.bytes.items lacking.now (R.fails raw.old)
         (R.failures raw.new - R.failures raw.old) b.bytes.items b.lost.items) }
-    ensures image { IsReadFurther R.bytes R.fails R.most_failures R.failures R.reads
-        raw.old raw.new max_extent_bytes }
+    ensures image { IsReadOn R.bytes R.fails R.most_failures R.failures raw.old raw.new }
+    ensures reads { R.reads raw.new ≤ R.reads raw.old + max_extent_bytes }
 {
     let mut blocks = Blocks {
         bytes: Vec::new(alloc),

@@ -8,9 +8,9 @@ use scrub_fakes::payloads::put_run;
 use scrub_fakes::{
     CountingSource, FOURS, ONES, SHARD, THREES, TWOS, abc_at, put_chunk, put_superblock,
 };
+use scrub_found::ScrubFault;
 use scrub_frame::{Locator, locate};
 use scrub_pool::{Gate, NoGate, Takings};
-use scrub_report::ScrubFault;
 use scrub_run::ShardId;
 use scrub_shard::{ShardAnswer, read_shard};
 use std::alloc::Global;

@@ -1,12 +1,12 @@
 -- What is claimed at the locator's place is its chunk, and says its form.
 use Rattle.std.proofs.Common.{rules, ◌≡◌, ◌∙◌, ap}
 use Rattle.std.proofs.lemmas.Result.{IfOk-weaker}
+use Rattle.list_facts.proofs.Options.{IfNone-at, IfSome-at}
 use Rattle.scrub_disk.specs.Image.{extent_bytes}
 use Rattle.scrub_scan.specs.Extent.{extent_of, FrameAt, NoFrameAt}
 use Rattle.scrub_scan.specs.Standing.{IsClaimedAt, HasPayload}
 use Rattle.scrub_scan.proofs.Claims.{only_frame}
 use Rattle.scrub_check.specs.ChunkRun.{standing_of, HasPayloadThere}
-use Rattle.scrub_check.proofs.StatusByFrame.{at_some, at_none}
 use Rattle.scrub_check.proofs.runs.payload_at.Goals as goal
 
 pub unreachable-requires : goal.unreachable-requires
@@ -16,7 +16,7 @@ unreachable-requires g c =
     let end : c.extent_bytes-end.result ≡ extent_bytes image.geometry =
     c.extent_bytes-end.ensures ∙ ap extent_bytes c.geometry.ensures in
     let none : NoFrameAt (extent_of image l.extent c.extent_bytes-end.result) l.offset =
-    at_none (NoFrameAt (extent_of image l.extent c.extent_bytes-end.result) l.offset) c.in_ok-head.field-0 c.in_default.is
+    IfNone-at (NoFrameAt (extent_of image l.extent c.extent_bytes-end.result) l.offset) c.in_ok-head.field-0 c.in_default.is
     c.in_ok-head.ensures.none in
     none c.requires.form l.uuid c.requires.stands.payload
     (rw end c.requires.stands.has.frame.frame)
@@ -28,7 +28,7 @@ read_payload-requires g c =
     let w = c.extent_bytes-end.result in
     let end : w ≡ extent_bytes image.geometry = c.extent_bytes-end.ensures ∙ ap extent_bytes c.geometry.ensures in
     let claim : IsClaimedAt (extent_of image l.extent w) l.offset c.in-Some.head =
-    at_some (IsClaimedAt (extent_of image l.extent w) l.offset) c.in_ok-head.field-0 c.in-Some.head c.in-Some.is
+    IfSome-at (IsClaimedAt (extent_of image l.extent w) l.offset) c.in_ok-head.field-0 c.in-Some.head c.in-Some.is
     c.in_ok-head.ensures.found in
     let stands : FrameAt (extent_of image l.extent w) l.offset c.requires.form l.uuid c.requires.stands.payload =
     rw end c.requires.stands.has.frame.frame in

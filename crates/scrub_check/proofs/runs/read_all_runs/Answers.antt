@@ -2,9 +2,9 @@
 use Rattle.std.proofs.Common.{◌∙◌, IfOk, ap, subst}
 use Rattle.std.specs.List.{AllZip}
 use Rattle.rayon.proofs.ToStd.{slice-AllZip}
+use Rattle.list_facts.proofs.Zips.{AllZip-collected}
 use Rattle.scrub_check.specs.steps.RunWithStatus.{IsRunWithStatus}
 use Rattle.scrub_check.specs.Runs.{AreReadRuns}
-use Rattle.scrub_check.proofs.Collected.{collected}
 use Rattle.scrub_check.proofs.Listed.{are_read, have_statuses, counted}
 use Rattle.scrub_check.proofs.runs.read_all_runs.Given.{Over}
 use Rattle.scrub_check.proofs.runs.read_all_runs.Goals as goal
@@ -24,7 +24,7 @@ all_judged g c =
     c.map.ensures.f chain.2 in
     let tried = slice-AllZip chain.0 runs (chain.1 ∙ slice) (λ l r. IfOk r (IsJudged l)) h.0 given in
     let each : IfOk c.in_ok-collect.field-0 (λ v. AllZip IsJudged runs v.items) =
-    collected (λ v. v.items) IsJudged runs h.0 c.in_ok-collect.field-0 tried h.2 in
+    AllZip-collected (λ v. v.items) IsJudged runs h.0 c.in_ok-collect.field-0 tried h.2 in
     subst (λ r. IfOk r (λ v. AllZip IsJudged runs v.items)) c.in_ok-judged.was each
 
 all_read : (g : Over) (c : goal.In_ok-runs g) → AreReadRuns (g.D.PageSource.image c.args.disk.now) c.args.plan.now

@@ -1,6 +1,6 @@
 use Rattle.std.proofs.Common.{◌∙◌}
 use Rattle.std.proofs.lemmas.List.{take_all}
-use Rattle.scrub_disk.proofs.Zips.{AllZip-take_more}
+use Rattle.list_facts.proofs.Zips.{AllZip-take_more}
 use Rattle.scrub_check.specs.steps.RunWithStatus.{IsRunWithStatus}
 use Rattle.scrub_check.specs.Runs.{AreReadRuns}
 use Rattle.scrub_check.proofs.Listed.{are_read, counted}

@@ -2,7 +2,8 @@
 use Rattle.std.proofs.Common.{rules}
 use Rattle.scrub_args.specs.Args.{NameCommand, texts}
 use Rattle.scrub_args.specs.declared.args.Request.TheVariants.{Items, Disk, Manifest, Compare, Shard, Superblocks, Sizes}
-use Rattle.scrub_cli.proofs.RunAnswers.{answered}
+use Rattle.std.proofs.lemmas.Result.{err_from_is_err_and}
+use Rattle.scrub_cli.proofs.RunAnswers.{answered, own_fault, request_answer}
 use Rattle.scrub_args.proofs.ArgsFound.{few_workers}
 use Rattle.scrub_cli.proofs.running.answer.Goals as goal
 
@@ -44,3 +45,31 @@ pub shard-requires : goal.shard-requires
 shard-requires g c =
     let asked : NameCommand (texts c.args.args.now) (Shard c.in-Shard.args) = rw (c.in-Some.is, c.in-Shard.is) at c.in_ok-request.ensures in
     (search rules, (search rules, few_workers asked.1.0 c.in-Shard.args.scan.workers asked.1.2.scan.workers))
+
+pub returns-in_ok-scan-in-Disk : goal.returns-in_ok-scan-in-Disk
+returns-in_ok-scan-in-Disk g c =
+    let asked : NameCommand (texts c.args.args.now) (Disk c.in-Disk.wanted c.in-Disk.args) = rw (c.in-Some.is, c.in-Disk.is) at c.in_ok-request.ensures in
+    request_answer (g.I.Images.known c.args.images.now) (g.I.Images.known_map c.args.images.now) (texts c.args.args.now) (Disk c.in-Disk.wanted c.in-Disk.args)
+    c.in_ok-scan-in-Disk.field-0.0.text.items c.in_ok-scan-in-Disk.field-0.0.outcome asked c.in_ok-scan-in-Disk.ensures.answer
+
+pub returns-in_err-scan-in-Disk : goal.returns-in_err-scan-in-Disk
+returns-in_err-scan-in-Disk g c =
+    let asked : NameCommand (texts c.args.args.now) (Disk c.in-Disk.wanted c.in-Disk.args) = rw (c.in-Some.is, c.in-Disk.is) at c.in_ok-request.ensures in
+    let p = err_from_is_err_and c.from_residual-in_err-scan-in-Disk.result c.from_residual-in_err-scan-in-Disk.ensures.1 in
+    rw (p.1, p.2)
+    (own_fault (g.I.Images.known c.args.images.now) (g.I.Images.known_map c.args.images.now) (texts c.args.args.now) (Disk c.in-Disk.wanted c.in-Disk.args)
+    c.in_err-scan-in-Disk.field-0.0 asked c.in_err-scan-in-Disk.ensures.answer)
+
+pub returns-in_ok-shard-in-Shard : goal.returns-in_ok-shard-in-Shard
+returns-in_ok-shard-in-Shard g c =
+    let asked : NameCommand (texts c.args.args.now) (Shard c.in-Shard.args) = rw (c.in-Some.is, c.in-Shard.is) at c.in_ok-request.ensures in
+    request_answer (g.I.Images.known c.args.images.now) (g.I.Images.known_map c.args.images.now) (texts c.args.args.now) (Shard c.in-Shard.args)
+    c.in_ok-shard-in-Shard.field-0.0.text.items c.in_ok-shard-in-Shard.field-0.0.outcome asked c.in_ok-shard-in-Shard.ensures.answer
+
+pub returns-in_err-shard-in-Shard : goal.returns-in_err-shard-in-Shard
+returns-in_err-shard-in-Shard g c =
+    let asked : NameCommand (texts c.args.args.now) (Shard c.in-Shard.args) = rw (c.in-Some.is, c.in-Shard.is) at c.in_ok-request.ensures in
+    let p = err_from_is_err_and c.from_residual-in_err-shard-in-Shard.result c.from_residual-in_err-shard-in-Shard.ensures.1 in
+    rw (p.1, p.2)
+    (own_fault (g.I.Images.known c.args.images.now) (g.I.Images.known_map c.args.images.now) (texts c.args.args.now) (Shard c.in-Shard.args)
+    c.in_err-shard-in-Shard.field-0.0 asked c.in_err-shard-in-Shard.ensures.answer)

@@ -1,16 +1,16 @@
 -- The lines of extent 0, those of the others, and those of named locators.
 use Rattle.std.proofs.Common.{◌≡◌, ◌++◌, [], rules, List, ℕ, ap, ◌∙◌}
 use Rattle.std.specs.Prelude.{string_bytes}
-use Rattle.scrub_report.specs.Parts.{found_in}
+use Rattle.scrub_found.specs.Judged.{found_in}
 use Rattle.scrub_compare.specs.Compare.{extent_lines, named_lines, written_line}
 use Rattle.scrub_compare.proofs.comparing.lines_of_extents.Goals as goal
 
 pub returns : goal.returns
-returns g c p q =
+returns g c b d =
     let empty : string_bytes c.new-text.result ≡ [] = search rules in
-    let e = c.in_ok-append_extents.ensures p q in
-    let lines = extent_lines c.args.resets.now (found_in c.args.found.now p.read) (found_in c.args.rest.now q.read) e.0 in
-    let named = named_lines c.args.resets.now c.args.rest.now.judged.checked.items in (
+    let e = c.in_ok-append_extents.ensures b d in
+    let lines = extent_lines c.args.resets.now (found_in c.args.found.now b) (found_in c.args.rest.now d) e.0 in
+    let named = named_lines c.args.resets.now c.args.rest.now.checked.items in (
       c.in_ok-first.first,
       c.in_ok-first.ensures,
       e.0,

@@ -1,7 +1,7 @@
 -- The lines of the retired extents, those of the index runs, and those of shards.
 use Rattle.std.proofs.Common.{◌≡◌, ◌++◌, ℕ, List, ap, ◌∙◌, append_assoc}
 use Rattle.std.specs.Prelude.{string_bytes}
-use Rattle.scrub_report.specs.Parts.{found_in}
+use Rattle.scrub_found.specs.Judged.{found_in}
 use Rattle.scrub_listings.specs.Manifest.{hidden_runs, lost_runs, of_shards}
 use Rattle.scrub_compare.specs.Compare.{AreBoundIds, retired_change, row_in, runs_change, shard_changes}
 use Rattle.scrub_compare.proofs.ExtentLines.{on_ok}
@@ -9,9 +9,9 @@ use Rattle.scrub_compare.proofs.ManifestCounts.{hidden_is, lost_is}
 use Rattle.scrub_compare.proofs.manifests.append_manifest_changes.Goals as goal
 
 pub returns : goal.returns
-returns g c resets others image other p q =
-    let found = found_in c.args.old.now p.read in
-    let kept = found_in c.args.new.now q.read in
+returns g c b d rows rows_now =
+    let found = found_in c.args.old.now b in
+    let kept = found_in c.args.new.now d in
     let ids = c.in_ok-ids.ids.items in
     let old = string_bytes c.args.text.now in
     let retired = retired_change found.plan.retired kept.plan.retired in
@@ -22,7 +22,7 @@ returns g c resets others image other p q =
     c.in_ok-append_retired_change.ensures ∙ (λ i. old ++ retired_change (c.retired.ensures.retired i) (c.retired-2.ensures.retired i)) in
     let second : string_bytes c.append_runs_change.new.text ≡ old ++ retired ++ runs =
     c.in_ok-append_runs_change.ensures
-    ∙ (λ i. string_bytes c.append_retired_change.new.text ++ runs_change ((c.run_counts.ensures.lost ∙ lost_is c.args.old.now resets image p) i) ((c.run_counts.ensures.hidden ∙ hidden_is c.args.old.now resets image p) i) ((c.run_counts-2.ensures.lost ∙ lost_is c.args.new.now others other q) i) ((c.run_counts-2.ensures.hidden ∙ hidden_is c.args.new.now others other q) i))
+    ∙ (λ i. string_bytes c.append_retired_change.new.text ++ runs_change ((c.run_counts.ensures.lost ∙ lost_is c.args.old.now b rows) i) ((c.run_counts.ensures.hidden ∙ hidden_is c.args.old.now b rows) i) ((c.run_counts-2.ensures.lost ∙ lost_is c.args.new.now d rows_now) i) ((c.run_counts-2.ensures.hidden ∙ hidden_is c.args.new.now d rows_now) i))
     ∙ ap (λ (u : List ℕ). u ++ runs) first in
     on_ok c.append_shard_changes.result _ _ c.append_shard_changes.ensures (λ same. (
       ids,

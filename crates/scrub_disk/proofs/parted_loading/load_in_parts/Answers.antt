@@ -5,7 +5,7 @@ use Rattle.scrub_disk.specs.Image.{disk_bytes}
 use Rattle.scrub_disk.specs.Joined.{joined}
 use Rattle.scrub_disk.specs.Parted.{image_of}
 use Rattle.scrub_disk.specs.steps.WholePages.{held_whole}
-use Rattle.scrub_disk.proofs.LostPages.{holds_read, loaded_by_readers, longer, loses_read}
+use Rattle.scrub_disk.proofs.LostPages.{holds_read, loaded_by_readers, byte_at_end_is_too_long, loses_read}
 use Rattle.scrub_disk.proofs.JoinedBlocks.{whole_disk}
 use Rattle.scrub_disk.proofs.parted_loading.load_in_parts.Goals as goal
 
@@ -13,7 +13,7 @@ pub returns-then-has_byte_at-clause-too_long : goal.returns-then-has_byte_at-cla
 returns-then-has_byte_at-clause-too_long g c e known every =
     let end : c.extent_bytes.result * c.extents.result ≡ disk_bytes c.args.geometry =
     ap (λ n. n * c.extents.result) c.extent_bytes.ensures ∙ ap (λ n. c.args.geometry.page * c.args.geometry.pages * n) c.extents.ensures in
-    longer known (g.R.RawImage.bytes c.in-Ok.read.1) (c.extent_bytes.result * c.extents.result) (disk_bytes c.args.geometry)
+    byte_at_end_is_too_long known (g.R.RawImage.bytes c.in-Ok.read.1) (c.extent_bytes.result * c.extents.result) (disk_bytes c.args.geometry)
     c.has_byte_at.result
     (c.in-Ok.ensures.same_bytes known every) end c.if-has_byte_at.true c.has_byte_at.ensures.there
 

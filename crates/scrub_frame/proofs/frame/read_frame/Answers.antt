@@ -1,8 +1,9 @@
 -- What a head says, and why bytes that differ from it hold no frame.
 use Rattle.std.proofs.Common.{arith, ◌≡◌, ◌+◌, ◌-◌, ℕ, List, ◌++◌, take, drop, ap, sym, ◌∙◌, Bool, true, false}
+use Rattle.list_facts.proofs.Slices.{ne_false, ne_true}
 use Rattle.scrub_frame.specs.declared.form.Form.{Form}
 use Rattle.scrub_frame.specs.Frame.{head_size, seal, seal_size, payload_start, close_size}
-use Rattle.scrub_frame.proofs.Frames.{begins_with_head, overhead, too_short, other_close, other_seal, frame_of_parts, ne_false, ne_true}
+use Rattle.scrub_frame.proofs.Frames.{begins_with_head, overhead, too_short, other_close, other_seal, frame_of_parts}
 use Rattle.scrub_frame.proofs.frame.read_frame.Goals as goal
 
 not_both : (b : Bool) → b ≡ false → b ≡ true → ⊥

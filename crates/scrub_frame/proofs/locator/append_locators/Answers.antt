@@ -1,7 +1,7 @@
 -- One more locator.
 use Rattle.std.proofs.Common.{arith, ap, length, length-append}
+use Rattle.list_facts.proofs.Spelling.{fit_more, written_more}
 use Rattle.scrub_frame.specs.Locator.{locator_bytes, IsLocator}
-use Rattle.scrub_frame.proofs.Parts.{written_more, fit_more}
 use Rattle.scrub_frame.proofs.locator.append_locators.Goals as goal
 
 pub loop-locator-preserved : goal.loop-locator-preserved

@@ -1,8 +1,8 @@
 -- One more locator is read.
 use Rattle.std.proofs.Common.{arith, [], ◌∷◌, ◌∙◌, length-append}
 use Rattle.std.proofs.lemmas.List.Elements.{All-push}
+use Rattle.list_facts.proofs.Spelling.{read_more}
 use Rattle.scrub_frame.specs.Locator.{locator_bytes, IsLocator}
-use Rattle.scrub_frame.proofs.Parts.{read_more}
 use Rattle.scrub_frame.proofs.locator.read_locators.Goals as goal
 
 pub loop-i-preserved : goal.loop-i-preserved

@@ -1,29 +1,41 @@
 -- The text and the verdict are those of what was found.
-use Rattle.std.proofs.Common.{ap, ◌∙◌}
-use Rattle.scrub_report.proofs.KeptRuns.{clean_found}
-use Rattle.std.specs.List.{flat_map}
-use Rattle.scrub_report.specs.Parts.{found_in}
+use Rattle.std.proofs.Common.{[], ap, ◌∙◌}
+use Rattle.std.specs.List.{flat_map, list_all}
+use Rattle.scrub_check.specs.declared.statuses.checked.Checked.{Checked}
+use Rattle.scrub_check.specs.Checked.{is_sound}
+use Rattle.scrub_check.proofs.ListsThere.{some_broken}
+use Rattle.scrub_found.specs.Judged.{found_in, is_clean_by}
+use Rattle.scrub_found.proofs.FoundBeside.{beside, some_candidates_of, with_lists}
+use Rattle.scrub_found.proofs.Verdicts.{clean_by_sound}
 use Rattle.scrub_listings.specs.Locators.{lines_by}
 use Rattle.scrub_listings.proofs.SpareLines.{all_with_spares}
 use Rattle.scrub_listings.proofs.listing.listing_of.Goals as goal
 
-pub returns-clause-text : goal.returns-clause-text
-returns-clause-text g c =
-    let are = c.in_ok-parts.ensures in
+pub judged_of-requires-after_bounds : goal.judged_of-requires-after_bounds
+judged_of-requires-after_bounds g c κs within = c.requires.whole
+
+pub returns : goal.returns
+returns g c =
+    let image = g.D.PageSource.image c.args.scan.disk.now in
+    let judged = c.in_ok-judged.judged in
+    let are = c.in_ok-judged.ensures [] c.requires in
+    let broken = some_broken judged.checked.items in
+    let candidates = some_candidates_of [] image judged are in
+    let shared = c.in_ok-shared_places.shared_places.items in
+    let b = beside [] image judged are shared broken.0 candidates.0 in
+    let found = with_lists [] image judged are shared broken.0 candidates.0
+    (rw c.deref.ensures.value at c.in_ok-shared_places.ensures) broken.1 candidates.1 in
     record {
-      found = found_in c.in_ok-parts.parts are.read;
-      scrubbed = are.scrubbed;
+      found = found_in judged b;
+      scrubbed = found.scrubbed;
       text_is =
           c.in_ok-text.ensures
-          ∙ ap (flat_map (lines_by c.in_ok-spares.spares)) c.deref-2.ensures.value
-          ∙ all_with_spares c.in_ok-parts.parts.judged.scan.all.extents c.in_ok-parts.parts.judged.checked.items c.in_ok-spares.spares (rw c.deref.ensures.value at c.in_ok-spares.ensures);
-    }
-
-pub returns-clause-clean : goal.returns-clause-clean
-returns-clause-clean g c =
-    let are = c.in_ok-parts.ensures in
-    record {
-      found = found_in c.in_ok-parts.parts are.read;
-      scrubbed = are.scrubbed;
-      verdict = c.is_clean-is_clean.ensures ∙ clean_found c.in_ok-parts.parts are.read are.rows;
+          ∙ ap (flat_map (lines_by c.in_ok-spares.spares)) c.deref-3.ensures.value
+          ∙ all_with_spares judged.scan.all.extents judged.checked.items c.in_ok-spares.spares (rw c.deref-2.ensures.value at c.in_ok-spares.ensures);
+      verdict =
+          c.is_clean-is_clean.ensures
+          ∙ (λ i. is_clean_by judged.scan (c.deref-5.ensures.value i)
+          ((c.are_sound-are_sound.ensures ∙ ap (list_all (λ (one : Checked). is_sound one.status)) c.deref-4.ensures.value) i)
+          (c.deref-6.ensures.value i))
+          ∙ clean_by_sound judged b found.rows;
     }

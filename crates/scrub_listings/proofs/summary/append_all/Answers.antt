@@ -5,31 +5,33 @@ use Rattle.std.specs.List.{count_by, sum}
 use Rattle.std.proofs.lemmas.List.Sums.{sum-map}
 use Rattle.scrub_check.specs.Chunks.{orphans}
 use Rattle.scrub_check.specs.Live.{live_bytes}
-use Rattle.scrub_report.specs.declared.runs.RunRow.{RunRow}
-use Rattle.scrub_report.specs.Parts.{found_in}
+use Rattle.scrub_found.specs.declared.runs.RunRow.{RunRow}
+use Rattle.scrub_found.specs.Judged.{found_in}
 use Rattle.scrub_listings.specs.Summary.{NamedNumber, candidate_numbers, chunk_numbers, disk_numbers, has_spare, has_spare_by, item_numbers, number_lines, numbers_by, reading_numbers, shard_numbers, superblock_numbers}
+use Rattle.scrub_listings.specs.steps.Summary.{beside_lists}
 use Rattle.scrub_listings.proofs.ReadRows.{lost_found}
 use Rattle.scrub_listings.proofs.SummaryLines.{last_lines, more_lines, spared_found}
 use Rattle.scrub_listings.proofs.summary.append_all.Goals as goal
 
 pub returns : goal.returns
 returns g c = λ read rows.
-    let p = c.args.parts.now in
+    let j = c.args.judged.now in
+    let l = c.args.lists.now in
     let pages = c.args.pages.now in
-    let all = p.judged.scan.all.extents in
-    let checked = p.judged.checked.items in
+    let all = j.scan.all.extents in
+    let checked = j.checked.items in
     let spares = c.in_ok-spares.spares in
     let lost_is : c.lost_runs-lost.result ≡ count_by is_none read.runs =
-    c.lost_runs-lost.ensures ∙ ap (count_by (λ (r : RunRow). is_none r.entries)) c.deref.ensures.value ∙ lost_found p.judged.scan.plan.runs read p.judged.runs.items rows in
+    c.lost_runs-lost.ensures ∙ ap (count_by (λ (r : RunRow). is_none r.entries)) c.deref.ensures.value ∙ lost_found j.scan.plan.runs read j.runs.items rows in
     let spared_is : c.count_spared-spared.result ≡ count_by (has_spare all) checked =
     c.count_spared-spared.ensures
     ∙ ap (count_by (has_spare_by spares)) c.deref-3.ensures.value
     ∙ spared_found all checked spares (rw c.deref-2.ensures.value at c.in_ok-spares.ensures) in
     let orphans_are : c.len-orphan_count.result ≡ length (orphans all checked) =
-    (let e : c.len-orphan_count.result ≡ length p.liveness.orphans.items = omega (arith, c.len-orphan_count.ensures, p.liveness.orphans.ok.0) in e)
-    ∙ ap length p.orphans_found in
-    let shared_are : c.len-shared.result ≡ length p.liveness.shared.items = omega (arith, c.len-shared.ensures, p.liveness.shared.ok.0) in
-    let broken_are : c.len-broken.result ≡ length p.broken.items = omega (arith, c.len-broken.ensures, p.broken.ok.0) in
+    (let e : c.len-orphan_count.result ≡ length l.liveness.orphans.items = omega (arith, c.len-orphan_count.ensures, l.liveness.orphans.ok.0) in e)
+    ∙ ap length c.requires.liveness_is.orphans_are in
+    let shared_are : c.len-shared.result ≡ length l.liveness.shared.items = omega (arith, c.len-shared.ensures, l.liveness.shared.ok.0) in
+    let broken_are : c.len-broken.result ≡ length l.broken.items = omega (arith, c.len-broken.ensures, l.broken.ok.0) in
     let t0 = string_bytes c.args.text.now in
     let t1 = string_bytes c.append_disk.new.text in
     let t2 = string_bytes c.append_superblocks.new.text in
@@ -38,15 +40,15 @@ returns g c = λ read rows.
     let t5 = string_bytes c.append_chunks.new.text in
     let t6 = string_bytes c.append_items.new.text in
     let t7 = string_bytes c.append_candidates.new.text in
-    let n1 : List NamedNumber = disk_numbers p.judged.scan.plan in
-    let n2 : List NamedNumber = superblock_numbers p.judged.scan.chosen pages in
-    let n3 : List NamedNumber = reading_numbers p.judged.scan.chosen p.judged.scan.plan all c.lost_runs-lost.result in
+    let n1 : List NamedNumber = disk_numbers j.scan.plan in
+    let n2 : List NamedNumber = superblock_numbers j.scan.chosen pages in
+    let n3 : List NamedNumber = reading_numbers j.scan.chosen j.scan.plan all c.lost_runs-lost.result in
     let n4 : List NamedNumber = shard_numbers c.bindings-bindings.result.now c.len-broken.result c.deref-4.result.now c.count_spared-spared.result in
     let n5 : List NamedNumber = chunk_numbers all checked c.len-shared.result in
     let n6 : List NamedNumber = item_numbers all in
     let n7 : List NamedNumber = candidate_numbers c.deref-6.result.now in
-    let is : n1 ++ n2 ++ n3 ++ n4 ++ n5 ++ n6 ++ n7 ≡ numbers_by pages (found_in p read) (count_by is_none read.runs) =
-    (λ i. n1 ++ n2 ++ reading_numbers p.judged.scan.chosen p.judged.scan.plan all (lost_is i)
+    let is : n1 ++ n2 ++ n3 ++ n4 ++ n5 ++ n6 ++ n7 ≡ numbers_by pages (found_in j (beside_lists read l)) (count_by is_none read.runs) =
+    (λ i. n1 ++ n2 ++ reading_numbers j.scan.chosen j.scan.plan all (lost_is i)
     ++ shard_numbers (c.bindings-bindings.ensures.bindings i) (broken_are i) (c.deref-4.ensures.value i) (spared_is i)
     ++ chunk_numbers all checked (shared_are i)
     ++ n6 ++ candidate_numbers (c.deref-6.ensures.value i)) in
@@ -59,6 +61,6 @@ returns g c = λ read rows.
     (more_lines t0 t1 t2 n1 n2 c.in_ok-append_disk.ensures c.in_ok-append_superblocks.ensures)
     c.in_ok-append_reading.ensures)
     c.in_ok-append_shards.ensures)
-    (c.in_ok-append_chunks.ensures checked (c.deref-5.ensures.value ∙ p.live_found) orphans_are))
+    (c.in_ok-append_chunks.ensures checked (c.deref-5.ensures.value ∙ c.requires.liveness_is.live) orphans_are))
     c.in_ok-append_items.ensures)
     c.append_candidates.ensures)

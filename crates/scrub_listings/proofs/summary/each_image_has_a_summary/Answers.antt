@@ -1,5 +1,5 @@
-use Rattle.scrub_listings.proofs.Existing.{some_summary, some_sound}
+use Rattle.scrub_listings.proofs.Existing.{some_summary}
 use Rattle.scrub_listings.proofs.summary.each_image_has_a_summary.Goals as goal
 
 pub returns : goal.returns
-returns c = record { text = some_summary; sound = some_sound }
+returns c = some_summary

@@ -1,25 +1,41 @@
 -- The text and the verdict are those of what was found.
-use Rattle.std.proofs.Common.{◌≡◌, ◌++◌, ℕ, List, is_none, ap, ◌∙◌, Vec, Global}
-use Rattle.std.specs.List.{count_by}
-use Rattle.scrub_report.specs.Parts.{found_in}
-use Rattle.scrub_report.specs.Scrubbed.{Scrubbed, is_clean}
-use Rattle.scrub_report.proofs.KeptRuns.{clean_found}
+use Rattle.std.proofs.Common.{◌≡◌, ◌++◌, [], ℕ, List, is_none, ap, ◌∙◌, Vec, Global}
+use Rattle.std.specs.List.{count_by, list_all}
+use Rattle.scrub_check.specs.declared.statuses.checked.Checked.{Checked}
+use Rattle.scrub_check.specs.Checked.{is_sound}
+use Rattle.scrub_found.specs.Judged.{Beside, IsFoundBut, found_in, is_clean_by}
+use Rattle.scrub_found.specs.Scrubbed.{Scrubbed, is_clean_disk}
+use Rattle.scrub_found.proofs.FoundBeside.{with_lists}
+use Rattle.scrub_found.proofs.Verdicts.{clean_by_sound}
 use Rattle.scrub_listings.specs.Summary.{is_sound_verdict, number_lines, numbers_by, verdict, verdict_by, verdict_line}
-use Rattle.scrub_listings.proofs.summary.summary_of.Given.{Over}
+use Rattle.scrub_listings.specs.steps.Summary.{beside_lists}
 use Rattle.scrub_listings.proofs.summary.summary_of.Goals as goal
 
-pub returns-clause-text : goal.returns-clause-text
-returns-clause-text g c =
-    let parts = c.in_ok-parts.parts in
-    let are = c.in_ok-parts.ensures.parts in
+pub judged_of-requires-after_bounds : goal.judged_of-requires-after_bounds
+judged_of-requires-after_bounds g c κs within = c.requires.scan.whole
+
+pub returns : goal.returns
+returns g c =
+    let image = g.D.PageSource.image c.args.scan.disk.now in
+    let judged = c.in_ok-judged.judged in
+    let lists = c.in_ok-lists.lists in
     let pages = c.args.pages.now in
-    let found : Scrubbed = found_in parts are.read in
-    let clean_is : c.is_clean.result ≡ is_clean found = c.is_clean.ensures ∙ clean_found parts are.read are.rows in
+    let are = c.in_ok-judged.ensures [] c.requires.scan in
+    let b : Beside = beside_lists are.read lists in
+    let is : IsFoundBut [] image judged b =
+    with_lists [] image judged are lists.liveness.shared.items lists.broken.items lists.liveness.candidates.items
+    c.in_ok-lists.ensures.liveness_is.shared c.in_ok-lists.ensures.broken_are c.in_ok-lists.ensures.liveness_is.candidates in
+    let found : Scrubbed = found_in judged b in
+    let clean_is : c.is_clean-is_clean.result ≡ is_clean_disk found = c.is_clean-is_clean.ensures
+    ∙ (λ i. is_clean_by judged.scan (c.deref-2.ensures.value i)
+    ((c.are_sound-are_sound.ensures ∙ ap (list_all (λ (one : Checked). is_sound one.status)) c.deref.ensures.value) i)
+    (c.deref-3.ensures.value i))
+    ∙ clean_by_sound judged b is.rows in
     let verdict_is : c.verdict_by-verdict.result ≡ verdict c.args.last found pages =
     c.verdict_by-verdict.ensures ∙ (λ i. verdict_by (clean_is i) (c.has_doubt-has_doubt.ensures i)) in
     record {
       found = found;
-      scrubbed = are.scrubbed;
+      scrubbed = is.scrubbed;
       pages = pages;
       held = c.requires.pages;
       text_is =
@@ -27,21 +43,5 @@ returns-clause-text g c =
           ∙ c.in_ok-append_all.ensures are.read are.rows
           ∙ ap (λ (u : List ℕ). u ++ number_lines (numbers_by pages found (count_by is_none are.read.runs)))
           (c.in_ok-append_verdict.ensures ∙ (λ i. c.new-text.ensures.bytes i ++ verdict_line (verdict_is i)));
-    }
-
-pub returns-clause-sound : goal.returns-clause-sound
-returns-clause-sound g c =
-    let parts = c.in_ok-parts.parts in
-    let are = c.in_ok-parts.ensures.parts in
-    let pages = c.args.pages.now in
-    let found : Scrubbed = found_in parts are.read in
-    let clean_is : c.is_clean.result ≡ is_clean found = c.is_clean.ensures ∙ clean_found parts are.read are.rows in
-    let verdict_is : c.verdict_by-verdict.result ≡ verdict c.args.last found pages =
-    c.verdict_by-verdict.ensures ∙ (λ i. verdict_by (clean_is i) (c.has_doubt-has_doubt.ensures i)) in
-    record {
-      found = found;
-      scrubbed = are.scrubbed;
-      pages = pages;
-      held = c.requires.pages;
-      verdict_is = c.is_sound_verdict-is_clean.ensures ∙ ap is_sound_verdict verdict_is;
+      verdict_is = c.is_sound_verdict.ensures ∙ ap is_sound_verdict verdict_is;
     }

@@ -7,7 +7,7 @@ use Rattle.scrub_merge.specs.Binding.{LostBefore}
 use Rattle.scrub_merge.specs.steps.Cursors.{ahead}
 use Rattle.scrub_merge.proofs.Left.{first_left, lost_left, rising_left}
 use Rattle.scrub_merge.proofs.Moves.{rising_runs}
-use Rattle.scrub_merge.proofs.NextBound.{bound_made, deleted, bound}
+use Rattle.scrub_merge.proofs.NextBound.{bound_made, no_locators_add_none, locators_add_one}
 use Rattle.scrub_merge.proofs.merging.bind_newest.Goals as goal
 
 pub returns-in_default : goal.returns-in_default
@@ -27,7 +27,7 @@ returns-then-is_empty c = λ places id count at least first.
     (eqb-true (length c.locators.result.now) 0 (sym c.is_empty.ensures ∙ c.if-is_empty.true)) in
     bound_made {e = c.in-Some.entry.now} first (rw (first_left runs places number count, at) c.in-Some.ensures.found)
     (rising_left runs places (rising_runs runs c.requires.runs)) least doubt
-    (deleted _ c.args.bindings.now.items none)
+    (no_locators_add_none _ c.args.bindings.now.items none)
 
 pub returns : goal.returns
 returns c = λ places id count at least first.
@@ -40,4 +40,4 @@ returns c = λ places id count at least first.
     rw (← c.locators.ensures) (sym c.is_empty.ensures ∙ c.if-is_empty.false) in
     bound_made {e = c.in-Some.entry.now} first (rw (first_left runs places number count, at) c.in-Some.ensures.found)
     (rising_left runs places (rising_runs runs c.requires.runs)) least doubt
-    (rw (c.in_ok-push.ensures.items, c.new.ensures, c.in_ok-own.ensures) (bound _ c.args.bindings.now.items (eqb-false (length c.in-Some.entry.now.locators) 0 empty)))
+    (rw (c.in_ok-push.ensures.items, c.new.ensures, c.in_ok-own.ensures) (locators_add_one _ c.args.bindings.now.items (eqb-false (length c.in-Some.entry.now.locators) 0 empty)))

@@ -1,9 +1,10 @@
 use Rattle.std.proofs.Common.{rules, ◌≡◌, ◌∙◌, false, ◌++◌, ◌∷◌, [], None, length}
+use Rattle.list_facts.proofs.Elements.{All-last, All-one_more}
 use Rattle.scrub_book.specs.Worker.{held_by, results_of}
 use Rattle.scrub_pool.specs.declared.crew.Member.{Member}
 use Rattle.scrub_pool.specs.declared.crew.NewMember.{NewMember}
 use Rattle.scrub_pool.specs.steps.Working.{IsNewMember, HasEnded, AreDone}
-use Rattle.scrub_pool.proofs.Crews.{all_last, all_more, counted_more}
+use Rattle.scrub_pool.proofs.Crews.{counted_more}
 use Rattle.scrub_pool.proofs.crew.+crew.Goals as goal
 
 pub run_crew-returns-clause-members : goal.run_crew-returns-clause-members
@@ -17,11 +18,11 @@ run_crew-returns-clause-members g t c =
     let new_member : NewMember = record { number = c.in-Some.number; pass = c.in-Some.pass } in
     let rest : c.args.new_members.items ≡ c.pop.new.self.items ++ new_member ∷ [] = search rules in
     let other : new_member.pass.first ≡ false =
-    (all_last (λ m. IsNewMember c.args.job.now.queue.now c.args.job.now.plan.now.planned m) c.pop.new.self.items c.args.new_members.items new_member rest c.requires.crew).1 in
+    (All-last (λ m. IsNewMember c.args.job.now.queue.now c.args.job.now.plan.now.planned m) c.pop.new.self.items c.args.new_members.items new_member rest c.requires.crew).1 in
     let same : c.run_crew_and_worker-members.new.first.first ≡ new_member.pass.first = search rules in
     let ended : HasEnded c.args.job.now.queue.now c.args.job.now.plan.now (g.D.PageSource.image c.args.disk.now) member =
     (same ∙ other, c.run_crew_and_worker-members.ensures.core) in
-    all_more (λ m. HasEnded c.args.job.now.queue.now c.args.job.now.plan.now (g.D.PageSource.image c.args.disk.now) m)
+    All-one_more (λ m. HasEnded c.args.job.now.queue.now c.args.job.now.plan.now (g.D.PageSource.image c.args.disk.now) m)
     members c.push.new.self.items member is c.run_crew_and_worker-members.ensures.members ended
 
 pub run_crew-returns-clause-whole : goal.run_crew-returns-clause-whole

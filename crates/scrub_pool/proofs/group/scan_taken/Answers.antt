@@ -3,14 +3,14 @@ use Rattle.std.proofs.Common.{rules, ◌≡◌, ◌+◌, ◌++◌, ◌∷◌, �
 use Rattle.std.specs.Vec.Iter.{into_iter_items, into_iter_len}
 use Rattle.std.proofs.lemmas.List.Elements.{All-rest}
 use Rattle.std.proofs.lemmas.Option.{slice_get_past}
+use Rattle.list_facts.proofs.Elements.{All-first, length_of_one_more}
 use Rattle.scrub_super.specs.Plan.{pointer_of}
 use Rattle.scrub_scan.specs.declared.extent_result.ExtentResult.{ExtentResult}
 use Rattle.scrub_scan.specs.Scanned.{result_image}
 use Rattle.scrub_book.specs.Extents.{extents_in}
 use Rattle.scrub_book.specs.Worker.{results_of, taken_by}
-use Rattle.scrub_pool.proofs.Crews.{one_longer, results_push}
+use Rattle.scrub_pool.proofs.Crews.{results_push}
 use Rattle.scrub_pool.proofs.Groups.{next_of, one_then}
-use Rattle.scrub_pool.proofs.Joined.{all_first}
 use Rattle.scrub_pool.proofs.group.scan_taken.Goals as goal
 
 pub done-requires-after_bounds : goal.done-requires-after_bounds
@@ -57,12 +57,12 @@ loop-found-preserved g c =
       );
       results =
           results_push image plan (results_of c.loop-found.core) (results_of c.hold.new.core) found found.extent more h.results
-          (all_first (λ r. result_image r ≡ image) now rest found next h.left.0) refl
-          (all_first (λ r. pointer_of plan r.extent ≡ Some r.pointer) now rest found next h.left.1);
+          (All-first (λ r. result_image r ≡ image) now rest found next h.left.0) refl
+          (All-first (λ r. pointer_of plan r.extent ≡ Some r.pointer) now rest found next h.left.1);
       part = c.in-Some-count.ensures.parts ∙ h.part;
       counted = omega (
         arith,
-        one_longer (results_of c.loop-found.core) (results_of c.hold.new.core) found more,
+        length_of_one_more (results_of c.loop-found.core) (results_of c.hold.new.core) found more,
         c.in-Some-count.ensures.moved,
         h.counted,
       );
@@ -79,8 +79,8 @@ returns-in_default-clause-results g c =
     let next : now ≡ found ∷ rest = search rules in
     results_push image plan (results_of c.loop-found.core) (results_of c.hold.new.core) found found.extent
     (c.hold.ensures.results ∙ c.done.ensures.results) h.results
-    (all_first (λ r. result_image r ≡ image) now rest found next h.left.0) refl
-    (all_first (λ r. pointer_of plan r.extent ≡ Some r.pointer) now rest found next h.left.1)
+    (All-first (λ r. result_image r ≡ image) now rest found next h.left.0) refl
+    (All-first (λ r. pointer_of plan r.extent ≡ Some r.pointer) now rest found next h.left.1)
 
 pub returns-clause-free : goal.returns-clause-free
 returns-clause-free g c =

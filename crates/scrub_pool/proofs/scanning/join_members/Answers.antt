@@ -1,10 +1,11 @@
 use Rattle.std.proofs.Common.{rules, ◌≡◌, ◌∷◌, ◌∙◌, map, length, arith, sym, ap}
 use Rattle.std.specs.Vec.Iter.{into_iter_items}
 use Rattle.std.proofs.lemmas.List.Elements.{All-rest}
+use Rattle.list_facts.proofs.Elements.{All-first, sum_by-first_and_rest}
 use Rattle.scrub_book.specs.Worker.{results_of}
 use Rattle.scrub_pool.specs.Passes.{one_list}
 use Rattle.scrub_pool.specs.steps.Working.{AreResults, IsThrough}
-use Rattle.scrub_pool.proofs.Joined.{one_list_push, items_push, one_more_joined, sum_rest, all_first, no_results, extents_append, long_append, results_append}
+use Rattle.scrub_pool.proofs.Joined.{one_list_push, items_push, one_more_joined, no_results, extents_append, long_append, results_append}
 use Rattle.scrub_pool.proofs.scanning.join_members.Goals as goal
 
 pub loop-member-init : goal.loop-member-init
@@ -32,7 +33,7 @@ loop-member-preserved g c =
     let next : now ≡ member ∷ rest = search rules in
     let lists = map (λ v. v.items) c.loop-member.lists.items in
     let took = c.in_ok-join_member.ensures in
-    let through = all_first (λ m. IsThrough c.args.queue.now m) now rest member next inv.through in
+    let through = All-first (λ m. IsThrough c.args.queue.now m) now rest member next inv.through in
     let pushed =
     items_push c.loop-member.lists.items c.push.new.self.items c.in_ok-join_member.field-0 own
     c.in_ok-push.ensures.items (took.list ∙ sym through.2) in
@@ -49,13 +50,13 @@ loop-member-preserved g c =
       sum = omega (
         arith,
         inv.sum,
-        sum_rest (λ m. length (results_of m.core)) now rest member next,
+        sum_by-first_and_rest (λ m. length (results_of m.core)) now rest member next,
         long_append _ _ (results_of member.core) took.found,
       );
       results = λ image plan are.
           let so_far = inv.results image plan are in (
             results_append image plan _ _ (results_of member.core) took.found so_far.0
-                (all_first (λ m. AreResults image plan (results_of m.core)) now rest member next so_far.1),
+                (All-first (λ m. AreResults image plan (results_of m.core)) now rest member next so_far.1),
             All-rest (λ m. AreResults image plan (results_of m.core)) member rest now next so_far.1,
           );
     }

@@ -1,6 +1,7 @@
 -- Each call of the key's closure returns the place that a locator points to.
 use Rattle.std.proofs.Common.{rules}
 use Rattle.std.proofs.lemmas.List.Sorted.{answers_always}
+use Rattle.scrub_reclaim.specs.steps.Moves.{named_in}
 use Rattle.scrub_reclaim.proofs.ByPlace.{alike, place_shown}
 use Rattle.scrub_reclaim.proofs.moves.by_place.Goals as goal
 
@@ -9,5 +10,5 @@ returns-clause-rising c = c.in_ok-sort_by_key.ensures.sorted place_shown (answer
 
 pub returns-clause-same : goal.returns-clause-same
 returns-clause-same c =
-    alike c.args.checked.now c.in_ok-sorted.sorted.items c.sort_by_key.new.self.items c.in_ok-sorted.ensures
+    alike (named_in c.args.extents.now c.args.checked.now) c.in_ok-sorted.sorted.items c.sort_by_key.new.self.items c.in_ok-sorted.ensures
     (c.in_ok-sort_by_key.ensures.stable place_shown (answers_always _ _ _ (λ f a r h called. search rules)))

@@ -4,5 +4,5 @@ use Rattle.std.proofs.Math.Path.{ap₂}
 use Rattle.scrub_reclaim.proofs.spare_doubts.is_at_risk.Goals as goal
 
 pub returns : goal.returns
-returns c checked same =
-    c.is_risk.ensures ∙ ap₂ (λ (a b : Bool). not a && b) (c.is_live.ensures checked same) c.has_number.ensures
+returns c checked locators =
+    c.is_risk.ensures ∙ ap₂ (λ (a b : Bool). not a && b) (c.has_sound-is_live.ensures checked locators) c.has.ensures

@@ -9,6 +9,6 @@ returns g c = record {
   shards_are = refl;
   dangling_are = c.in_ok-drawn.ensures.dangling_are;
   hidden_are = c.in_ok-drawn.ensures.hidden_are;
-  liveness_is = c.in_ok-liveness.ensures.liveness c.args.judged.checked.items c.in_ok-drawn.ensures.locators_are;
+  liveness_is = c.in_ok-liveness.ensures.liveness c.args.rest.checked.items c.in_ok-drawn.ensures.locators_are;
   twins_are = c.in_ok-liveness.ensures.twins;
 }

@@ -1,7 +1,7 @@
 -- The last 32 bytes are the digest of those before them, or aren't.
 use Rattle.std.proofs.Common.{◌++◌, ◌-◌, sym, ◌∙◌, ap, length, drop, take-append-drop}
 use Rattle.sha2.specs.Sha256.{sha256}
-use Rattle.scrub_frame.proofs.Frames.{ne_false, ne_true}
+use Rattle.list_facts.proofs.Slices.{ne_false, ne_true}
 use Rattle.scrub_run.proofs.Runs.{no_body, body_cut}
 use Rattle.scrub_run.proofs.reading.checked_body.Goals as goal
 

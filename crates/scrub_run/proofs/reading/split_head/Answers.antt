@@ -1,6 +1,6 @@
 -- The first eight bytes are the head that was read.
 use Rattle.std.proofs.Common.{arith}
-use Rattle.scrub_frame.proofs.Frames.{ne_false}
+use Rattle.list_facts.proofs.Slices.{ne_false}
 use Rattle.scrub_run.proofs.Runs.{head_read}
 use Rattle.scrub_run.proofs.reading.split_head.Goals as goal
 

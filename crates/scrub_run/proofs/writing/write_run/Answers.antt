@@ -1,7 +1,7 @@
 -- One more entry is written.
 use Rattle.std.proofs.Common.{refl}
+use Rattle.list_facts.proofs.Spelling.{fit_more, written_more}
 use Rattle.scrub_run.specs.Entry.{entry_bytes, IsEntry}
-use Rattle.scrub_frame.proofs.Parts.{written_more, fit_more}
 use Rattle.scrub_run.proofs.writing.write_run.Goals as goal
 
 pub loop-entry-preserved : goal.loop-entry-preserved

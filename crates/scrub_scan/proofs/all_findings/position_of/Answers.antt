@@ -3,10 +3,10 @@ use Rattle.std.specs.List.{Contains}
 use Rattle.std.specs.List.Sorted.{IsStrictlyIncreasing}
 use Rattle.std.specs.Option.{option_map_or}
 use Rattle.std.proofs.lemmas.List.Sorted.{answers_always}
+use Rattle.list_facts.proofs.Searches.{searched_by_number}
 use Rattle.scrub_scan.specs.declared.extent_result.ExtentResult.{ExtentResult}
 use Rattle.scrub_scan.specs.AllFindings.{extent_numbers}
 use Rattle.scrub_scan.specs.Slots.{AreFull, scanned_in}
-use Rattle.scrub_scan.proofs.Search.{searched}
 use Rattle.scrub_scan.proofs.Slots.{slot_numbers, slot_count}
 use Rattle.scrub_scan.proofs.all_findings.position_of.Goals as goal
 
@@ -26,7 +26,7 @@ returns g c =
     let by_key = facts.position number (answers_always _ _ _ (λ f a r h called. search rules)) in
     let rising =
     subst (λ (ns : List ℕ). IsStrictlyIncreasing ns) (sym (slot_numbers slots c.requires.full)) c.requires.rising in
-    let there = searched number slots rising c.args.extent c.binary_search_by_key.result facts.bound by_key in
+    let there = searched_by_number number slots rising c.args.extent c.binary_search_by_key.result facts.bound by_key in
     record {
       found = moved_found slots c.args.extent c.ok.result c.requires.full (rw c.ok.ensures.value there.0);
       none =

@@ -1,7 +1,7 @@
 use Rattle.std.proofs.Common.{arith, ◌∙◌, get_or, ◌≡◌, List, ℕ, Option, IfSome, Some}
 use Rattle.std.specs.List.{AllZip}
 use Rattle.std.proofs.lemmas.List.{take_all}
-use Rattle.scrub_disk.proofs.Zips.{AllZip-take_more}
+use Rattle.list_facts.proofs.Zips.{AllZip-take_more}
 use Rattle.scrub_disk.specs.Image.{Image}
 use Rattle.scrub_super.specs.Plan.{PlanValue}
 use Rattle.scrub_scan.specs.declared.extent_result.ExtentResult.{ExtentResult}

@@ -1,8 +1,8 @@
 -- The pages before that of the pointer are known by the tiling; and one more page.
 use Rattle.std.proofs.Common.{arith, sym, ap, ◌∙◌, ◌≡◌, ◌≤◌, ◌+◌, ◌*◌, ◌/◌, ◌++◌, ◌∷◌, [], max, not, is_none, inl}
 use Rattle.std.proofs.Math.Nat.{mul-le-mul_left, div-mul-le_self}
+use Rattle.list_facts.proofs.Filters.{filter_range-no, filter_range-yes}
 use Rattle.scrub_disk.specs.Image.{byte, extent_bytes}
-use Rattle.scrub_disk.proofs.Filters.{filter_yes, filter_no}
 use Rattle.scrub_scan.specs.Findings.{unreadable_below}
 use Rattle.scrub_scan.proofs.LostItems.{lost_pages_listed}
 use Rattle.scrub_scan.proofs.ReadPages.{read_next, all_read, pages_before}
@@ -49,11 +49,11 @@ loop-page-preserved g c =
             ap (λ v. v.items) w.bad_pages-is ∙ w.in_ok-push.ensures.items
             ∙ ap (λ xs. xs ++ c.loop-page.page ∷ []) c.loop-page.invariant.bad_pages
             ∙ sym
-            (filter_yes (λ q. is_none (image.page t.extent q)) c.loop-page.page (c.load_near.ensures.readable ∙ ap not w.if-not-load_near.true))
+            (filter_range-yes (λ q. is_none (image.page t.extent q)) c.loop-page.page (c.load_near.ensures.readable ∙ ap not w.if-not-load_near.true))
         | else-not-load_near w ↦
             ap (λ v. v.items) w.bad_pages-is ∙ c.loop-page.invariant.bad_pages
             ∙ sym
-            (filter_no (λ q. is_none (image.page t.extent q)) c.loop-page.page (c.load_near.ensures.readable ∙ ap not w.if-not-load_near.false))
+            (filter_range-no (λ q. is_none (image.page t.extent q)) c.loop-page.page (c.load_near.ensures.readable ∙ ap not w.if-not-load_near.false))
       ];
       tail =
           c.tail_more-tail.ensures image (extent_bytes image.geometry) c.requires.target c.load_near.ensures.held

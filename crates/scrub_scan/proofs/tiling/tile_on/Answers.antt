@@ -2,9 +2,9 @@
 use Rattle.std.proofs.Common.{◌≡◌, ◌<◌, ◌≤◌, ◌+◌, ◌*◌, ◌/◌, ◌∙◌, ap, arith, length}
 use Rattle.std.proofs.lemmas.Nat.{div_below}
 use Rattle.std.proofs.lemmas.Option.{IfSome_then}
+use Rattle.list_facts.proofs.Arithmetic.{div_rises}
 use Rattle.scrub_scan.specs.steps.Gathering.{AgreesWith, HasReadTo}
 use Rattle.scrub_scan.specs.steps.Pages.{target_of}
-use Rattle.scrub_scan.proofs.PlacePages.{page_rises}
 use Rattle.scrub_scan.proofs.Asked.{calls_so_far, calls_in_all}
 use Rattle.scrub_scan.proofs.Gathering.{added_to, grows_none, grows_then, settled_next}
 use Rattle.scrub_scan.proofs.Seals.{if_none, numbers_below, numbers_more, read_to, settled_collected, tiles_more, trusted_at}
@@ -73,7 +73,7 @@ read_on g c =
     div_below c.loop-place.place t.page image.geometry.pages t.positive
     (omega (arith, size, c.requires.target.in_extent, c.loop-place-test.true)) in
     let rises : q ≤ c.stop-place.result / t.page =
-    page_rises c.loop-place.place c.stop-place.result t.page t.positive
+    div_rises c.loop-place.place c.stop-place.result t.page t.positive
     (omega (arith, c.stop-place.ensures, c.in_ok-reached.ensures.spans.1)) in
     record {
       asked =

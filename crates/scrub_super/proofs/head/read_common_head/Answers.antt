@@ -1,6 +1,6 @@
 -- Bytes that begin with no letters of a kind, or differ from the front made from their own numbers, are no front.
 use Rattle.std.proofs.Common.{arith}
-use Rattle.scrub_frame.proofs.Frames.{ne_true}
+use Rattle.list_facts.proofs.Slices.{ne_true}
 use Rattle.scrub_super.proofs.Fronts.{front_magic, front_read, front_again}
 use Rattle.scrub_super.proofs.head.read_common_head.Goals as goal
 use Rattle.scrub_super.proofs.head.read_common_head.Goals.{then-runs-gt-MAX_RUNS-via-then-runs-gt-MAX_RUNS, then-runs-gt-MAX_RUNS-via-else-runs-gt-MAX_RUNS+then-ne}

@@ -1,6 +1,7 @@
 use Rattle.std.proofs.Common.{◌≡◌, ◌∙◌, true, map, sum_by, get_or, ap, arith, sym}
 use Rattle.std.proofs.lemmas.List.{get_or-map, get_or_default, length-map}
 use Rattle.std.proofs.lemmas.List.Sorted.{Contains-permutation, IsPermutation-sym}
+use Rattle.list_facts.proofs.Counts.{permutation_of_sums}
 use Rattle.scrub_scan.specs.declared.extent_result.ExtentResult.{ExtentResult}
 use Rattle.scrub_scan.specs.Scanned.{scanned}
 use Rattle.scrub_book.specs.Extents.{extents_in}
@@ -8,7 +9,6 @@ use Rattle.scrub_book.specs.steps.Member.{state_of}
 use Rattle.scrub_book.specs.Pool.{is_complete}
 use Rattle.scrub_book.proofs.Arrivals.{numbers_shown}
 use Rattle.scrub_book.proofs.Complete.{complete_sums}
-use Rattle.scrub_book.proofs.Counts.{permutation_of_sums}
 use Rattle.scrub_book.proofs.pool_core.PoolCore.finish.Goals as goal
 
 pub assemble-requires-clause-pointers : goal.assemble-requires-clause-pointers

@@ -1,7 +1,7 @@
-use Rattle.std.proofs.Common.{◌≡◌, ◌∙◌, ap, rules}
+use Rattle.std.proofs.Common.{◌∙◌, ap, rules}
 use Rattle.std.specs.List.{filter}
 use Rattle.std.proofs.lemmas.Result.{IfOk-weaker}
-use Rattle.scrub_check.specs.steps.ChunkUuids.{AreUuidsOf, is_twin_by}
+use Rattle.scrub_check.specs.steps.ChunkUuids.{is_twin_by}
 use Rattle.scrub_check.proofs.SameUuids.{no_twins, twins_found}
 use Rattle.scrub_check.proofs.lists.chunks.twins_by.Goals as goal
 

@@ -1,7 +1,7 @@
 use Rattle.std.proofs.Common.{rules, sym}
 use Rattle.std.specs.Ordering.{is_lt, is_le}
 use Rattle.std.proofs.lemmas.List.Sorted.{IsPartitionPoint-from_clause}
-use Rattle.scrub_check.proofs.Counts.{BelowAt, ThroughAt, parted_below, parted_through, below_through, counted_between}
+use Rattle.list_facts.proofs.Sorted.{BelowAt, ThroughAt, below_through, counted_between, parted_below, parted_through}
 use Rattle.scrub_check.proofs.places.sorted_list.count_of.Goals as goal
 
 pub overflow_sub-result : goal.overflow_sub-result

@@ -1,6 +1,6 @@
 use Rattle.std.proofs.Common.{is_lt, rules}
 use Rattle.std.proofs.lemmas.List.Sorted.{answers_always}
-use Rattle.scrub_check.proofs.Rising.{rises_as_answered}
+use Rattle.list_facts.proofs.Sorted.{rises_as_answered}
 use Rattle.scrub_check.proofs.places.sorted_list.rises_strictly.Goals as goal
 
 pub returns : goal.returns

@@ -1,6 +1,6 @@
 use Rattle.std.proofs.Common.{◌∙◌, get_or}
 use Rattle.std.proofs.lemmas.List.{get_or_default}
-use Rattle.scrub_disk.proofs.Zips.{AllZip-take_more}
+use Rattle.list_facts.proofs.Zips.{AllZip-take_more}
 use Rattle.scrub_check.specs.steps.Open.{IsJudged}
 use Rattle.scrub_check.proofs.JudgedPlaces.{no_locator}
 use Rattle.scrub_check.proofs.OpenPlaces.{left_can_be_read}

@@ -1,6 +1,5 @@
 use Rattle.std.proofs.Common.{◌≡◌, ◌+◌, None, length, get_or, arith, ap, sym}
 use Rattle.std.proofs.lemmas.List.{get_or_default, length_push}
-use Rattle.scrub_check.specs.Checked.{IsChecked}
 use Rattle.scrub_check.specs.steps.Open.{IsKnownBefore}
 use Rattle.scrub_check.proofs.Rebuilt.{inside, one_more, tell}
 use Rattle.scrub_check.proofs.statuses.checked.append_checked.Goals as goal

@@ -1,6 +1,6 @@
 use Rattle.std.proofs.Common.{None, get_or, arith, subst}
 use Rattle.std.proofs.lemmas.List.{take_all, get_or_default}
-use Rattle.scrub_disk.proofs.Zips.{AllZip-take_more}
+use Rattle.list_facts.proofs.Zips.{AllZip-take_more}
 use Rattle.scrub_check.specs.declared.named.Named.{Named}
 use Rattle.scrub_check.specs.Checked.{IsChecked}
 use Rattle.scrub_check.proofs.CheckedLists.{each_checked, known_at}

@@ -1,4 +1,3 @@
-use Rattle.std.proofs.Common.{length}
 use Rattle.std.proofs.lemmas.Slice.Zip.{AllZip-long}
 use Rattle.scrub_check.specs.steps.Open.{IsKnownBefore}
 use Rattle.scrub_check.proofs.statuses.checked.check_others.Goals as goal

@@ -1,4 +1,4 @@
-use Rattle.std.proofs.Common.{◌≡◌, ◌∙◌, All, arith, rules, length}
+use Rattle.std.proofs.Common.{◌≡◌, All, arith, rules, length}
 use Rattle.std.specs.List.{AllZip}
 use Rattle.std.proofs.lemmas.List.{places, with_items_is}
 use Rattle.std.proofs.lemmas.Slice.Zip.{AllZip-long}

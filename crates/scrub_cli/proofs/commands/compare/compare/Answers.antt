@@ -1,11 +1,11 @@
 -- Each way out of `compare`, in the order of the code.
-use Rattle.std.proofs.Common.{ap, sym, ◌∙◌}
+use Rattle.std.proofs.Common.{ap, arith, inr, refl, sym, ◌∙◌}
 use Rattle.std.proofs.lemmas.Result.{err_from_is_err_and}
 use Rattle.scrub_disk.specs.Parted.{image_of}
-use Rattle.scrub_cli.specs.Compare.{AreImagesOf}
+use Rattle.scrub_cli.specs.Compare.{AreImagesOf, IsEarlierLoaded}
 use Rattle.scrub_cli.specs.DiskImage.{AreLossesKept, IsLoadedBy}
 use Rattle.scrub_cli.specs.Manifest.{MayBeReset, may_all_be_reset}
-use Rattle.scrub_cli.proofs.CompareAnswers.{compare_after_fault, compare_before_fault, compare_losses_fault}
+use Rattle.scrub_cli.proofs.CompareAnswers.{compare_after_fault, compare_before_fault, compare_losses_fault, loaded_sizes}
 use Rattle.scrub_cli.proofs.NamedPages.{named_in_range}
 use Rattle.scrub_cli.proofs.commands.compare.compare.Goals as goal
 
@@ -33,8 +33,8 @@ returns-in_err-losses-clause-answer g c =
     rw (p.1, p.2)
     (compare_losses_fault known maps args sizes places c.in_err-losses.field-0.0 (rw c.geometry_of.ensures.same_maps at c.in_err-losses.ensures.losses))
 
-pub load_named-requires-clause-pages : goal.load_named-requires-clause-pages
-load_named-requires-clause-pages g c =
+pub load_raw-requires-clause-pages : goal.load_raw-requires-clause-pages
+load_raw-requires-clause-pages g c =
     λ κs h. named_in_range c.in_ok-geometry.geometry c.args.args.now.before.scan.image.bad_pages.items c.in_ok-losses.losses.pages.items c.in_ok-losses.ensures.losses.named
 
 -- the earlier image isn't loaded
@@ -53,10 +53,34 @@ returns-in_err-before-clause-answer g c =
     rw (p.1, p.2)
     (compare_before_fault known maps args sizes places c.in_err-before.field-0.0
     (record { pages = c.in_ok-losses.losses.pages.items; named = kept.named; blocks = kept.map.blocks; mapped = kept.map.are })
-    (rw (c.losses_of.ensures.same_images, c.geometry_of.ensures.same_images) at c.in_err-before.ensures.disk))
+    (c.in_err-before.ensures.disk _ (rw c.geometry_of.ensures.same_images at c.in_ok-losses.ensures.raw)))
 
-pub load_named-requires-2-clause-pages : goal.load_named-requires-2-clause-pages
-load_named-requires-2-clause-pages g c =
+-- there is no later image
+pub returns-in_default-clause-answer : goal.returns-in_default-clause-answer
+returns-in_default-clause-answer g c =
+    let args = c.args.args.now in
+    let known = g.I.Images.known c.args.images.now in
+    let maps = g.I.Images.known_map c.args.images.now in
+    let sizes = c.in_ok-geometry.geometry in
+    let places : MayBeReset (known args.before.scan.image.name.now) maps args.before sizes = record {
+      sizes = c.in_ok-geometry.ensures.geometry;
+      in_disk = ap (may_all_be_reset sizes) (sym c.deref.ensures.value) ∙ sym c.may_all_be_reset.ensures ∙ c.if-not-may_all_be_reset.false;
+    } in
+    let kept : AreLossesKept maps args.before.scan.image sizes c.in_ok-losses.losses = rw c.geometry_of.ensures.same_maps at c.in_ok-losses.ensures.losses in
+    let one : IsLoadedBy (known args.before.scan.image.name.now) sizes c.in_ok-losses.losses.pages.items kept.map.blocks (image_of c.in_ok-before.before) =
+    c.in_ok-before.ensures.disk _ (rw c.geometry_of.ensures.same_images at c.in_ok-losses.ensures.raw) kept.map.blocks kept.map.keeps in
+    let earlier : IsEarlierLoaded known maps args sizes = record {
+      places = places;
+      pages = c.in_ok-losses.losses.pages.items;
+      blocks = kept.map.blocks;
+      losses = record { named = kept.named; mapped = kept.map.are };
+      image = image_of c.in_ok-before.before;
+      loaded = one;
+    } in
+    inr (sizes, earlier, refl)
+
+pub load_raw-requires-2-clause-pages : goal.load_raw-requires-2-clause-pages
+load_raw-requires-2-clause-pages g c =
     λ κs h. named_in_range c.in_ok-geometry.geometry c.args.args.now.before.scan.image.bad_pages.items c.in_ok-losses.losses.pages.items c.in_ok-losses.ensures.losses.named
 
 -- the later image isn't
@@ -72,7 +96,7 @@ returns-in_err-after-clause-answer g c =
     } in
     let kept : AreLossesKept maps args.before.scan.image sizes c.in_ok-losses.losses = rw c.geometry_of.ensures.same_maps at c.in_ok-losses.ensures.losses in
     let one : IsLoadedBy (known args.before.scan.image.name.now) sizes c.in_ok-losses.losses.pages.items kept.map.blocks (image_of c.in_ok-before.before) =
-    rw (c.losses_of.ensures.same_images, c.geometry_of.ensures.same_images) at (c.in_ok-before.ensures.disk kept.map.blocks kept.map.keeps) in
+    c.in_ok-before.ensures.disk _ (rw c.geometry_of.ensures.same_images at c.in_ok-losses.ensures.raw) kept.map.blocks kept.map.keeps in
     let p = err_from_is_err_and c.from_residual-in_err-after.result c.from_residual-in_err-after.ensures.1 in
     rw (p.1, p.2)
     (compare_after_fault known maps args sizes places c.in_err-after.field-0.0
@@ -84,7 +108,31 @@ returns-in_err-after-clause-answer g c =
       image = image_of c.in_ok-before.before;
       loaded = one;
     })
-    (rw (c.load_named.ensures.same_images, c.losses_of.ensures.same_images, c.geometry_of.ensures.same_images) at c.in_err-after.ensures.disk))
+    (c.in_err-after.ensures.disk (known args.after.now) (record {
+      same_bytes = rw (c.load_raw.ensures.same_images, c.losses_of.ensures.same_images, c.geometry_of.ensures.same_images) at c.in-Some.ensures.known;
+      same_fails = rw (c.load_raw.ensures.same_images, c.losses_of.ensures.same_images, c.geometry_of.ensures.same_images) at c.in-Some.ensures.faults;
+      same_bound = rw (c.load_raw.ensures.same_images, c.losses_of.ensures.same_images, c.geometry_of.ensures.same_images) at c.in-Some.ensures.bounded;
+      few_reads = omega (arith, c.in-Some.ensures.unread);
+    })))
+
+-- both images have these sizes
+pub comparison-requires-clause-sizes : goal.comparison-requires-clause-sizes
+comparison-requires-clause-sizes g c κs within =
+    let args = c.args.args.now in
+    let known = g.I.Images.known c.args.images.now in
+    let maps = g.I.Images.known_map c.args.images.now in
+    let sizes = c.in_ok-geometry.geometry in
+    let kept : AreLossesKept maps args.before.scan.image sizes c.in_ok-losses.losses = rw c.geometry_of.ensures.same_maps at c.in_ok-losses.ensures.losses in
+    let one : IsLoadedBy (known args.before.scan.image.name.now) sizes c.in_ok-losses.losses.pages.items kept.map.blocks (image_of c.in_ok-before.before) =
+    c.in_ok-before.ensures.disk _ (rw c.geometry_of.ensures.same_images at c.in_ok-losses.ensures.raw) kept.map.blocks kept.map.keeps in
+    let other : IsLoadedBy (known args.after.now) sizes c.in_ok-losses.losses.pages.items kept.map.blocks (image_of c.in_ok-after.after) =
+    c.in_ok-after.ensures.disk (known args.after.now) (record {
+      same_bytes = rw (c.load_raw.ensures.same_images, c.losses_of.ensures.same_images, c.geometry_of.ensures.same_images) at c.in-Some.ensures.known;
+      same_fails = rw (c.load_raw.ensures.same_images, c.losses_of.ensures.same_images, c.geometry_of.ensures.same_images) at c.in-Some.ensures.faults;
+      same_bound = rw (c.load_raw.ensures.same_images, c.losses_of.ensures.same_images, c.geometry_of.ensures.same_images) at c.in-Some.ensures.bounded;
+      few_reads = omega (arith, c.in-Some.ensures.unread);
+    }) kept.map.blocks kept.map.keeps in
+    loaded_sizes other ∙ sym (loaded_sizes one)
 
 -- both are compared
 pub returns-clause-answer : goal.returns-clause-answer
@@ -99,9 +147,14 @@ returns-clause-answer g c =
     } in
     let kept : AreLossesKept maps args.before.scan.image sizes c.in_ok-losses.losses = rw c.geometry_of.ensures.same_maps at c.in_ok-losses.ensures.losses in
     let one : IsLoadedBy (known args.before.scan.image.name.now) sizes c.in_ok-losses.losses.pages.items kept.map.blocks (image_of c.in_ok-before.before) =
-    rw (c.losses_of.ensures.same_images, c.geometry_of.ensures.same_images) at (c.in_ok-before.ensures.disk kept.map.blocks kept.map.keeps) in
+    c.in_ok-before.ensures.disk _ (rw c.geometry_of.ensures.same_images at c.in_ok-losses.ensures.raw) kept.map.blocks kept.map.keeps in
     let other : IsLoadedBy (known args.after.now) sizes c.in_ok-losses.losses.pages.items kept.map.blocks (image_of c.in_ok-after.after) =
-    rw (c.load_named.ensures.same_images, c.losses_of.ensures.same_images, c.geometry_of.ensures.same_images) at (c.in_ok-after.ensures.disk kept.map.blocks kept.map.keeps) in
+    c.in_ok-after.ensures.disk (known args.after.now) (record {
+      same_bytes = rw (c.load_raw.ensures.same_images, c.losses_of.ensures.same_images, c.geometry_of.ensures.same_images) at c.in-Some.ensures.known;
+      same_fails = rw (c.load_raw.ensures.same_images, c.losses_of.ensures.same_images, c.geometry_of.ensures.same_images) at c.in-Some.ensures.faults;
+      same_bound = rw (c.load_raw.ensures.same_images, c.losses_of.ensures.same_images, c.geometry_of.ensures.same_images) at c.in-Some.ensures.bounded;
+      few_reads = omega (arith, c.in-Some.ensures.unread);
+    }) kept.map.blocks kept.map.keeps in
     let images : AreImagesOf known maps args (image_of c.in_ok-before.before) (image_of c.in_ok-after.after) = record {
       geometry = sizes;
       places = places;
@@ -130,9 +183,14 @@ returns-clause-takings g c =
     } in
     let kept : AreLossesKept maps args.before.scan.image sizes c.in_ok-losses.losses = rw c.geometry_of.ensures.same_maps at c.in_ok-losses.ensures.losses in
     let one : IsLoadedBy (known args.before.scan.image.name.now) sizes c.in_ok-losses.losses.pages.items kept.map.blocks (image_of c.in_ok-before.before) =
-    rw (c.losses_of.ensures.same_images, c.geometry_of.ensures.same_images) at (c.in_ok-before.ensures.disk kept.map.blocks kept.map.keeps) in
+    c.in_ok-before.ensures.disk _ (rw c.geometry_of.ensures.same_images at c.in_ok-losses.ensures.raw) kept.map.blocks kept.map.keeps in
     let other : IsLoadedBy (known args.after.now) sizes c.in_ok-losses.losses.pages.items kept.map.blocks (image_of c.in_ok-after.after) =
-    rw (c.load_named.ensures.same_images, c.losses_of.ensures.same_images, c.geometry_of.ensures.same_images) at (c.in_ok-after.ensures.disk kept.map.blocks kept.map.keeps) in
+    c.in_ok-after.ensures.disk (known args.after.now) (record {
+      same_bytes = rw (c.load_raw.ensures.same_images, c.losses_of.ensures.same_images, c.geometry_of.ensures.same_images) at c.in-Some.ensures.known;
+      same_fails = rw (c.load_raw.ensures.same_images, c.losses_of.ensures.same_images, c.geometry_of.ensures.same_images) at c.in-Some.ensures.faults;
+      same_bound = rw (c.load_raw.ensures.same_images, c.losses_of.ensures.same_images, c.geometry_of.ensures.same_images) at c.in-Some.ensures.bounded;
+      few_reads = omega (arith, c.in-Some.ensures.unread);
+    }) kept.map.blocks kept.map.keeps in
     let images : AreImagesOf known maps args (image_of c.in_ok-before.before) (image_of c.in_ok-after.after) = record {
       geometry = sizes;
       places = places;

@@ -3,7 +3,7 @@ use Rattle.std.proofs.lemmas.Result.{err_from_is_err_and}
 use Rattle.scrub_disk.specs.OneExtent.{image_of}
 use Rattle.scrub_cli.specs.DiskExtent.{IsExtentLoaded}
 use Rattle.scrub_cli.specs.DiskImage.{AreReadBefore, IsDiskFault}
-use Rattle.scrub_cli.proofs.DiskAnswers.{losses_fault, matched, named_fault}
+use Rattle.scrub_cli.proofs.DiskAnswers.{losses_fault, matched, raw_fault}
 use Rattle.scrub_cli.proofs.NamedPages.{named_in_range}
 use Rattle.scrub_cli.proofs.commands.disk_extent.load_disk_extent.Goals as goal
 
@@ -16,12 +16,12 @@ returns-in_err-losses g c =
     (losses_fault (g.I.Images.known c.args.images.now args.name.now) (g.I.Images.known_map c.args.images.now) args c.args.geometry
     c.in_err-losses.field-0.0 c.in_err-losses.ensures.losses)
 
-pub load_named_extent-requires-clause-pages : goal.load_named_extent-requires-clause-pages
-load_named_extent-requires-clause-pages g c =
-    λ κs h. named_in_range c.args.geometry c.args.args.now.bad_pages.items c.in_ok-losses.losses.pages.items c.in_ok-losses.ensures.losses.named
+pub load_raw_extent-requires-clause-pages : goal.load_raw_extent-requires-clause-pages
+load_raw_extent-requires-clause-pages g c =
+    named_in_range c.args.geometry c.args.args.now.bad_pages.items c.in_ok-losses.losses.pages.items c.in_ok-losses.ensures.losses.named
 
-pub load_named_extent-requires-clause-map : goal.load_named_extent-requires-clause-map
-load_named_extent-requires-clause-map g c = λ κs h. (c.in_ok-losses.ensures.losses.map.blocks, c.in_ok-losses.ensures.losses.map.keeps)
+pub load_raw_extent-requires-clause-map : goal.load_raw_extent-requires-clause-map
+load_raw_extent-requires-clause-map g c = (c.in_ok-losses.ensures.losses.map.blocks, c.in_ok-losses.ensures.losses.map.keeps)
 
 -- the extent is loaded, or isn't
 pub returns : goal.returns
@@ -33,9 +33,9 @@ returns g c =
     let losses = c.in_ok-losses.ensures.losses in
     let before : AreReadBefore maps args sizes =
     record { pages = c.in_ok-losses.losses.pages.items; named = losses.named; blocks = losses.map.blocks; mapped = losses.map.are } in
-    matched c.load_named_extent.result _ (λ d. IsExtentLoaded known maps args sizes c.args.extent (image_of d)) _
+    matched c.load_raw_extent.result _ (λ d. IsExtentLoaded known maps args sizes c.args.extent (image_of d)) _
     (IsDiskFault known maps args sizes)
-    (rw c.losses_of.ensures.same_images at c.load_named_extent.ensures)
+    (c.load_raw_extent.ensures known c.in_ok-losses.ensures.raw)
     (λ d loaded. let l = loaded losses.map.blocks losses.map.keeps in record {
       whole = l.whole;
       loaded = record {
@@ -46,7 +46,8 @@ returns g c =
         before = l.loaded.before;
         loaded = l.loaded.loaded;
         rescued = l.loaded.rescued;
+        sizes = λ left. c.in_ok-losses.ensures.found left losses.map.blocks losses.map.keeps;
       };
       same = l.same;
     })
-    (λ fault is. named_fault known maps args sizes fault before is)
+    (λ fault is. raw_fault known maps args sizes fault before is)

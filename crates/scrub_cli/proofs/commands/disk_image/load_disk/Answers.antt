@@ -2,7 +2,7 @@
 use Rattle.std.proofs.lemmas.Result.{err_from_is_err_and}
 use Rattle.scrub_disk.specs.Parted.{image_of}
 use Rattle.scrub_cli.specs.DiskImage.{AreReadBefore, IsDiskFault, IsLoadedDisk}
-use Rattle.scrub_cli.proofs.DiskAnswers.{losses_fault, matched, named_fault}
+use Rattle.scrub_cli.proofs.DiskAnswers.{losses_fault, matched, raw_fault}
 use Rattle.scrub_cli.proofs.NamedPages.{named_in_range}
 use Rattle.scrub_cli.proofs.commands.disk_image.load_disk.Goals as goal
 
@@ -15,12 +15,12 @@ returns-in_err-losses g c =
     (losses_fault (g.I.Images.known c.args.images.now args.name.now) (g.I.Images.known_map c.args.images.now) args c.args.geometry
     c.in_err-losses.field-0.0 c.in_err-losses.ensures.losses)
 
-pub load_named-requires-clause-pages : goal.load_named-requires-clause-pages
-load_named-requires-clause-pages g c =
+pub load_raw-requires-clause-pages : goal.load_raw-requires-clause-pages
+load_raw-requires-clause-pages g c =
     λ κs h. named_in_range c.args.geometry c.args.args.now.bad_pages.items c.in_ok-losses.losses.pages.items c.in_ok-losses.ensures.losses.named
 
-pub load_named-requires-clause-map : goal.load_named-requires-clause-map
-load_named-requires-clause-map g c = λ κs h. (c.in_ok-losses.ensures.losses.map.blocks, c.in_ok-losses.ensures.losses.map.keeps)
+pub load_raw-requires-clause-map : goal.load_raw-requires-clause-map
+load_raw-requires-clause-map g c = λ κs h. (c.in_ok-losses.ensures.losses.map.blocks, c.in_ok-losses.ensures.losses.map.keeps)
 
 -- the image is loaded, or isn't
 pub returns : goal.returns
@@ -32,8 +32,8 @@ returns g c =
     let losses = c.in_ok-losses.ensures.losses in
     let before : AreReadBefore maps args disk =
     record { pages = c.in_ok-losses.losses.pages.items; named = losses.named; blocks = losses.map.blocks; mapped = losses.map.are } in
-    matched c.load_named.result _ (λ d. IsLoadedDisk known maps args disk (image_of d)) _ (IsDiskFault known maps args disk)
-    (rw c.losses_of.ensures.same_images at c.load_named.ensures.disk)
+    matched c.load_raw.result _ (λ d. IsLoadedDisk known maps args disk (image_of d)) _ (IsDiskFault known maps args disk)
+    (c.load_raw.ensures.disk known c.in_ok-losses.ensures.raw)
     (λ d loaded. let l = loaded losses.map.blocks losses.map.keeps in record {
       unreadable = c.in_ok-losses.losses.pages.items;
       named = losses.named;
@@ -42,5 +42,6 @@ returns g c =
       before = l.before;
       loaded = l.loaded;
       rescued = l.rescued;
+      sizes = λ left. c.in_ok-losses.ensures.found left losses.map.blocks losses.map.keeps;
     })
-    (λ fault is. named_fault known maps args disk fault before is)
+    (λ fault is. raw_fault known maps args disk fault before is)

@@ -1,6 +1,7 @@
 -- Each way out of `losses_of`, in the order of the code.
 use Rattle.std.proofs.lemmas.Result.{err_from_is_err_and}
-use Rattle.scrub_cli.proofs.DiskAnswers.{bad_page_fault, map_fault}
+use Rattle.scrub_cli.proofs.DiskAnswers.{bad_page_fault, opening_fault}
+use Rattle.scrub_cli.proofs.GeometryAnswers.{found_again}
 use Rattle.scrub_cli.proofs.commands.disk_image.losses_of.Goals as goal
 
 -- an argument names no page
@@ -11,13 +12,18 @@ returns-in_err-pages-clause-losses g c =
     (bad_page_fault (g.I.Images.known_map c.args.images.now) c.args.args.now c.args.geometry c.in_err-pages.field-0.0
     (rw c.deref.ensures.value at c.in_err-pages.ensures))
 
--- the map wasn't read
-pub returns-in_err-map-clause-losses : goal.returns-in_err-map-clause-losses
-returns-in_err-map-clause-losses g c =
-    let p = err_from_is_err_and c.from_residual-in_err-map.result c.from_residual-in_err-map.ensures.1 in
+-- the map or the image wasn't opened
+pub returns-in_err-opened-clause-losses : goal.returns-in_err-opened-clause-losses
+returns-in_err-opened-clause-losses g c =
+    let p = err_from_is_err_and c.from_residual-in_err-opened.result c.from_residual-in_err-opened.ensures.1 in
     rw (p.1, p.2)
-    (map_fault (g.I.Images.known_map c.args.images.now) c.args.args.now c.args.geometry c.in_ok-pages.pages.items
-    c.in_err-map.field-0.0 (rw c.deref.ensures.value at c.in_ok-pages.ensures) c.in_err-map.ensures.map)
+    (opening_fault (g.I.Images.known_map c.args.images.now) c.args.args.now c.args.geometry c.in_ok-pages.pages.items
+    c.in_err-opened.field-0.0 (rw c.in_err-opened.ensures.not_again at c.requires.found) (rw c.deref.ensures.value at c.in_ok-pages.ensures) c.in_err-opened.ensures.map)
+
+pub returns-clause-found : goal.returns-clause-found
+returns-clause-found g c left =
+    found_again (g.I.Images.known c.args.images.now c.args.args.now.name.now) c.args.geometry c.args.opened (λ o. o.map) c.in_ok-opened.opened.map
+    c.requires.found c.in_ok-opened.ensures.same_map left
 
 pub returns-clause-losses : goal.returns-clause-losses
-returns-clause-losses g c = record { named = rw c.deref.ensures.value at c.in_ok-pages.ensures; map = c.in_ok-map.ensures.map }
+returns-clause-losses g c = record { named = rw c.deref.ensures.value at c.in_ok-pages.ensures; map = c.in_ok-opened.ensures.map }

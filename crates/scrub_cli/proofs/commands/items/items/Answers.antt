@@ -5,7 +5,7 @@ use Rattle.std.proofs.lemmas.Result.{err_from_is_err_and}
 use Rattle.scrub_disk.specs.OneExtent.{image_of}
 use Rattle.scrub_scan.specs.Extent.{Extent}
 use Rattle.scrub_scan.proofs.SameExtentOf.{same_extent_of}
-use Rattle.scrub_report.specs.Scrubbed.{is_clean_item}
+use Rattle.scrub_found.specs.Scrubbed.{is_clean_item}
 use Rattle.scrub_cli.specs.DiskExtent.{IsExtentLoaded}
 use Rattle.scrub_cli.specs.Lines.{IsListing, lines_of}
 use Rattle.scrub_cli.specs.Outcome.{outcome_of}

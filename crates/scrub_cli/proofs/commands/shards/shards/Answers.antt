@@ -5,18 +5,13 @@ use Rattle.scrub_cli.specs.Remarks.{remark_lines}
 use Rattle.scrub_cli.proofs.commands.shards.shards.Goals as goal
 
 pub returns-clause-answer : goal.returns-clause-answer
-returns-clause-answer g c = record {
-  tells = record { remarks = c.in_ok-archive.archive.remarks.items; archive = c.in_ok-archive.ensures.archive };
-  ended = record {
-    tar = c.in_ok-archive.archive.tar.items;
-    remarks = c.in_ok-archive.archive.remarks.items;
-    archive = c.in_ok-archive.ensures.archive;
-    ended =
-        subst (λ (ls : List ℕ). IsOutcomeWith ls c.with_lines.result)
-        (ap (λ (v : Vec ℕ Global). v.items) c.into_bytes.ensures.value
-        ∙ c.in_ok-append_lines.ensures
-        ∙ ap (λ (b : List ℕ). b ++ remark_lines c.deref.result.now) c.new-lines.ensures.bytes
-        ∙ ap remark_lines c.deref.ensures.value)
-        c.with_lines.ensures;
-  };
-}
+returns-clause-answer g c = (
+  c.in_ok-archive.archive.remarks.items,
+  c.in_ok-archive.ensures.archive,
+  subst (λ (ls : List ℕ). IsOutcomeWith ls c.with_lines.result)
+      (ap (λ (v : Vec ℕ Global). v.items) c.into_bytes.ensures.value
+      ∙ c.in_ok-append_lines.ensures
+      ∙ ap (λ (b : List ℕ). b ++ remark_lines c.deref.result.now) c.new-lines.ensures.bytes
+      ∙ ap remark_lines c.deref.ensures.value)
+      c.with_lines.ensures,
+)

@@ -1,26 +1,20 @@
--- The map wasn't read, there is no image of this name, or the records of the image are listed.
-use Rattle.std.proofs.Common.{◌∙◌, ap, refl, subst, List, ℕ}
+-- Something wasn't opened, or the records of the image are listed.
+use Rattle.std.proofs.Common.{subst, List, ℕ}
 use Rattle.std.proofs.lemmas.Result.{err_from_is_err_and}
-use Rattle.scrub_cli.specs.KnownFiles.{KnownRaw}
 use Rattle.scrub_cli.specs.SizesListed.{AreSizesListed}
-use Rattle.scrub_cli.proofs.SizesAnswers.{map_fault_of_sizes, listed_as_known}
+use Rattle.scrub_cli.proofs.SizesAnswers.{listed_as_known}
 use Rattle.scrub_cli.proofs.commands.sizes.sizes.Goals as goal
 
-pub returns-in_err-map : goal.returns-in_err-map
-returns-in_err-map g c =
+pub returns-in_err-opened : goal.returns-in_err-opened
+returns-in_err-opened g c =
     let p = err_from_is_err_and c.from_residual.result c.from_residual.ensures.1 in
-    rw (p.1, p.2)
-    (map_fault_of_sizes (g.I.Images.known_map c.args.images.now) c.args.args.now c.in_err-map.field-0.0 c.in_err-map.ensures.map)
-
-pub returns-in_default : goal.returns-in_default
-returns-in_default g c = (c.in_ok-map.ensures.map.blocks, c.in_ok-map.ensures.map.are, refl)
+    rw (p.1, p.2) c.in_err-opened.ensures.map
 
 pub returns : goal.returns
 returns g c =
-    let args = c.args.args.now in
-    let map = c.in_ok-map.ensures.map in
-    let known = g.I.Images.known c.args.images.now args.name.now in
-    let same = ap (λ (k : List ℕ → KnownRaw). k args.name.now) c.rescue_map.ensures.same_images in
+    let map = c.in_ok-opened.ensures.map in
+    let raw = c.in_ok-opened.ensures.raw in
+    let known = g.I.Images.known c.args.images.now c.args.args.now.name.now in
     record {
       blocks = map.blocks;
       mapped = map.are;
@@ -30,8 +24,5 @@ returns g c =
           subst
           (λ lacking. AreSizesListed known lacking c.in_ok-sizes_listing.field-0.text.items c.in_ok-sizes_listing.field-0.outcome)
           c.deref.ensures.value
-          (listed_as_known known _ _ _ _ _ _ (c.in-Some.ensures.known ∙ ap (λ k. k.bytes) same)
-          (c.in-Some.ensures.faults ∙ ap (λ k. k.fails) same)
-          (c.in-Some.ensures.bounded ∙ ap (λ k. k.most_failures) same)
-          c.in_ok-sizes_listing.ensures);
+          (listed_as_known known _ _ _ _ _ _ raw.same_bytes raw.same_fails raw.same_bound c.in_ok-sizes_listing.ensures);
     }

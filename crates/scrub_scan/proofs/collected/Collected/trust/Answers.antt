@@ -1,6 +1,7 @@
 -- Nothing was to be compared before.
 use Rattle.std.proofs.Common.{arith, sym, ◌∙◌}
-use Rattle.scrub_scan.proofs.Seals.{not_some, tiles_trusted}
+use Rattle.list_facts.proofs.Options.{None_from_not_some}
+use Rattle.scrub_scan.proofs.Seals.{tiles_trusted}
 use Rattle.scrub_scan.proofs.collected.Collected.trust.Goals as goal
 
 pub returns-then-may_return-clause-collected : goal.returns-then-may_return-clause-collected
@@ -12,6 +13,6 @@ returns-then-may_return-clause-collected g c = λ x payloads held.
       has = held.has;
       first = held.first;
       tiles = tiles_trusted x c.args.place self.trusted_from _ self.items.items self.pending.items held.payloads
-          (not_some self.trusted_from (sym c.is_some.ensures ∙ c.if-is_some.false)) held.tiles;
+          (None_from_not_some self.trusted_from (sym c.is_some.ensures ∙ c.if-is_some.false)) held.tiles;
       trusted = omega arith;
     }

@@ -1,6 +1,7 @@
 -- Why there is no frame: its head can't be read or isn't one, it claims too much or a page that can't be read, or what
 -- closes it isn't there.
 use Rattle.std.proofs.Common.{arith, sym, ◌∙◌, ℕ, List, ◌≡◌, ◌<◌, ◌≤◌, ◌+◌, ◌-◌, ◌*◌, ◌/◌, ◌++◌, take, ap, Some}
+use Rattle.list_facts.proofs.Arithmetic.{below_next_row, div_is, place_in_row}
 use Rattle.scrub_frame.specs.Frame.{head_size, mark, close_size, payload_start, frame_overhead}
 use Rattle.scrub_frame.proofs.Frames.{overhead}
 use Rattle.scrub_scan.specs.steps.Pages.{target_of, last_page}
@@ -8,8 +9,6 @@ use Rattle.scrub_scan.proofs.ReadPages.{reads_fewer, reads_both}
 use Rattle.std.proofs.lemmas.Bool.{true≢false}
 use Rattle.std.proofs.Math.Nat.{div-mul-le_self}
 use Rattle.std.proofs.lemmas.List.{length-take}
-use Rattle.scrub_scan.proofs.PlacePages.{place_in_page, page_of}
-use Rattle.scrub_scan.proofs.Asked.{below_bound}
 use Rattle.scrub_scan.proofs.Passing.{gap_byte}
 use Rattle.scrub_scan.proofs.FrameBytes.{no_gap, claimed_frame, has_magic, close_stands}
 use Rattle.scrub_scan.proofs.scanner.Scanner.claimed_head.Goals as goal
@@ -47,7 +46,7 @@ returns-then-room-size-clause-claimed g c = λ f u b k.
           let gap = w.has_gap.ensures.found w.if-has_gap.true in
           let none = rw gap.1 at c.fill.ensures.scans.gap in
           let here =
-          place_in_page gap.0 c.args.start (c.args.start + c.frame_bytes-size.result) page c.args.target.now.positive
+          place_in_row gap.0 c.args.start (c.args.start + c.frame_bytes-size.result) page c.args.target.now.positive
           (omega (arith, overhead form, size)) gap.2 gap.3 in
           no_gap x c.args.start (n + frame_overhead form) form c.in-Some.head.uuid b same.0 (omega (arith, same.1))
           (record {
@@ -98,12 +97,12 @@ returns-clause-reads g c =
     let place = c.args.start + c.frame_bytes-size.result - c.close_bytes-close.result in
     let size : c.frame_bytes-size.result ≡ n + frame_overhead form = c.frame_bytes-size.ensures.value in
     let end : last_page t c.args.start form n ≤ q → c.args.start + n + frame_overhead form - 1 < (q + 1) * t.page =
-    λ last. below_bound (c.args.start + n + frame_overhead form - 1) q t.page t.positive last in
+    λ last. below_next_row (c.args.start + n + frame_overhead form - 1) q t.page t.positive last in
     reads_both 2 2 _ _ _ _ _ _
     (λ here. (here.1, omega (arith, overhead form, end here.0)))
     (λ here.
     let page : place / t.page ≡ q =
-    page_of q place t.page t.positive
+    div_is q place t.page t.positive
     (omega (arith, overhead form, div-mul-le_self c.args.start t.page, size, c.close_bytes-close.ensures.value))
     (omega (arith, overhead form, end here.0, size, c.close_bytes-close.ensures.value)) in
     let next : (place / t.page + 1) * t.page ≡ (q + 1) * t.page = ap (λ i. (i + 1) * t.page) page in (

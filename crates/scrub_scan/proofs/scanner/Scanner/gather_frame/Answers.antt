@@ -1,13 +1,13 @@
 -- One more page has passed, the frame has ended, or a page of it can't be read.
 use Rattle.std.proofs.Common.{arith, ap, subst, ℕ, ◌∙◌, ◌≡◌, ◌<◌, ◌≤◌, ◌+◌, ◌*◌, ◌/◌, ◌-◌, ◌++◌, length, take, min, Some}
 use Rattle.std.proofs.lemmas.Nat.{div_below}
+use Rattle.list_facts.proofs.Arithmetic.{div_of_next_row, div_rises, div_up_to_next_row}
 use Rattle.scrub_disk.specs.Image.{AreBytesAt}
 use Rattle.scrub_frame.specs.Frame.{head_size, seal_size, frame_overhead}
 use Rattle.scrub_frame.proofs.Frames.{overhead}
 use Rattle.scrub_scan.specs.steps.Pages.{target_of, last_page}
-use Rattle.scrub_scan.proofs.PlacePages.{page_rises}
-use Rattle.scrub_scan.proofs.Asked.{next_bound, one_more}
-use Rattle.scrub_scan.proofs.ReadPages.{read_fewer, read_next, next_at_most}
+use Rattle.scrub_scan.proofs.Asked.{one_more}
+use Rattle.scrub_scan.proofs.ReadPages.{read_fewer, read_next}
 use Rattle.scrub_scan.proofs.Passing.{gap_byte}
 use Rattle.scrub_scan.proofs.FrameBytes.{no_gap}
 use Rattle.scrub_scan.proofs.Claims.{only_frame, frame_of}
@@ -79,7 +79,7 @@ loop-place-preserved g c =
     let below : c.bound-stop.result < t.pointer =
     omega (arith, c.if-end-stop.false, c.frame_bytes.ensures.value, c.requires.claimed.fits) in
     let next : c.bound-stop.result / t.page ≡ c.loop-place.place / t.page + 1 =
-    next_bound c.loop-place.place t.pointer t.page c.bound-stop.result t.positive c.bound-stop.ensures.value below in
+    div_of_next_row c.loop-place.place t.pointer t.page c.bound-stop.result t.positive c.bound-stop.ensures.value below in
     record {
       scans = record { pages = c.load_far.ensures.held; gap = inv.scans.gap };
       near = c.load_far.ensures.reads.near ∙ inv.near;
@@ -99,7 +99,7 @@ loop-place-preserved g c =
           (c.put_between.ensures.put x.byte stand inv.sealed);
       asked = λ near.
           let from : c.args.start / t.page ≤ c.loop-place.place / t.page =
-          page_rises c.args.start c.loop-place.place t.page t.positive inv.low in
+          div_rises c.args.start c.loop-place.place t.page t.positive inv.low in
           let calls = one_more c.args.self.now.pages.asked c.load_far.new.self.asked c.loop-place.self.pages.asked (c.args.start / t.page) (c.loop-place.place / t.page) from (inv.asked near) c.load_far.ensures.reads.asked
           (λ same. c.load_far.ensures.reads.known (ap (λ p. p.number) inv.near ∙ near ∙ ap Some same)) in
           omega (arith, calls, next, from);
@@ -116,7 +116,7 @@ returns-in_default-clause-reads g c = record {
       let t = c.args.target.now in
       let inv = c.loop-place.invariant in
       let from : c.args.start / t.page ≤ c.loop-place.place / t.page =
-      page_rises c.args.start c.loop-place.place t.page t.positive inv.low in
+      div_rises c.args.start c.loop-place.place t.page t.positive inv.low in
       let calls = one_more c.args.self.now.pages.asked c.load_far.new.self.asked c.loop-place.self.pages.asked (c.args.start / t.page) (c.loop-place.place / t.page) from (inv.asked near) c.load_far.ensures.reads.asked
       (λ same. c.load_far.ensures.reads.known (ap (λ p. p.number) inv.near ∙ near ∙ ap Some same)) in
       let size : image.geometry.pages * t.page ≡ image.geometry.pages * image.geometry.page =
@@ -129,7 +129,7 @@ returns-in_default-clause-reads g c = record {
       let t = c.args.target.now in
       let inv = c.loop-place.invariant in
       read_fewer c.load_far.new.self (c.loop-place.place / t.page) (c.args.start / t.page)
-      (page_rises c.args.start c.loop-place.place t.page t.positive inv.low)
+      (div_rises c.args.start c.loop-place.place t.page t.positive inv.low)
       (c.load_far.ensures.reads.read (c.loop-place.place / t.page) (inv.read h));
 }
 
@@ -141,9 +141,9 @@ returns-then-end-stop-clause-reads g c = record {
       let h = c.args.head.now in
       let inv = c.loop-place.invariant in
       let from : c.args.start / t.page ≤ c.loop-place.place / t.page =
-      page_rises c.args.start c.loop-place.place t.page t.positive inv.low in
+      div_rises c.args.start c.loop-place.place t.page t.positive inv.low in
       let last : c.loop-place.place / t.page ≤ last_page t c.args.start h.form h.length =
-      page_rises c.loop-place.place (c.args.start + h.length + frame_overhead h.form - 1) t.page
+      div_rises c.loop-place.place (c.args.start + h.length + frame_overhead h.form - 1) t.page
       t.positive (omega (arith, inv.below, c.frame_bytes.ensures.value)) in
       let calls = one_more c.args.self.now.pages.asked c.load_far.new.self.asked c.loop-place.self.pages.asked (c.args.start / t.page) (c.loop-place.place / t.page) from (inv.asked near) c.load_far.ensures.reads.asked
       (λ same. c.load_far.ensures.reads.known (ap (λ p. p.number) inv.near ∙ near ∙ ap Some same)) in
@@ -155,7 +155,7 @@ returns-then-end-stop-clause-reads g c = record {
       let inv = c.loop-place.invariant in
       let behind = c.args.start + head.length + frame_overhead head.form in
       read_fewer c.load_far.new.self (r + 1) (behind / t.page)
-      (next_at_most c.loop-place.place behind t.page t.positive
+      (div_up_to_next_row c.loop-place.place behind t.page t.positive
       (omega (arith, c.if-end-stop.true, c.frame_bytes.ensures.value, c.bound-stop.ensures.one_page)))
       (read_next c.load_far.new.self r c.load_far.ensures.loaded (c.load_far.ensures.reads.read r (inv.read h)));
 }

@@ -1,12 +1,12 @@
 -- One more page has passed, or there is no frame.
 use Rattle.std.proofs.Common.{arith, sym, ap, ◌∙◌, ◌≡◌, ◌<◌, ◌≤◌, ◌+◌, ◌*◌, ◌/◌, ◌-◌, length, min, Some}
 use Rattle.std.proofs.lemmas.Nat.{div_below}
+use Rattle.list_facts.proofs.Arithmetic.{div_of_next_row, div_rises, div_up_to_next_row}
 use Rattle.scrub_frame.specs.Frame.{frame_overhead}
 use Rattle.scrub_scan.specs.Extent.{bound}
 use Rattle.scrub_scan.specs.steps.Pages.{target_of, last_page}
-use Rattle.scrub_scan.proofs.PlacePages.{page_rises}
-use Rattle.scrub_scan.proofs.Asked.{next_bound, one_more, ends_later}
-use Rattle.scrub_scan.proofs.ReadPages.{read_fewer, read_next, next_at_most}
+use Rattle.scrub_scan.proofs.Asked.{one_more, ends_later}
+use Rattle.scrub_scan.proofs.ReadPages.{read_fewer, read_next}
 use Rattle.scrub_scan.proofs.scanner.Scanner.match_frame.Goals as goal
 
 pub loop-place-preserved : goal.loop-place-preserved
@@ -25,16 +25,16 @@ loop-place-preserved g c =
       passes = rw stop more.0;
       asked = λ near.
           let from : c.args.start / t.page ≤ c.loop-place.place / t.page =
-          page_rises c.args.start c.loop-place.place t.page t.positive (omega (arith, inv.passes.here)) in
+          div_rises c.args.start c.loop-place.place t.page t.positive (omega (arith, inv.passes.here)) in
           let next : c.bound-place.result / t.page ≡ c.loop-place.place / t.page + 1 =
-          next_bound c.loop-place.place t.pointer t.page c.bound-place.result t.positive c.bound-place.ensures.value
+          div_of_next_row c.loop-place.place t.pointer t.page c.bound-place.result t.positive c.bound-place.ensures.value
           below in
           let calls = one_more c.args.self.now.pages.asked c.feed_page.new.self.pages.asked c.loop-place.self.pages.asked (c.args.start / t.page) (c.loop-place.place / t.page) from (inv.asked near) c.feed_page.ensures.reads.asked
           (λ same. c.feed_page.ensures.reads.known (ap (λ h. h.number) inv.near ∙ near ∙ ap Some same)) in
           omega (arith, calls, next, from);
       read = λ h.
           let next : c.bound-place.result / t.page ≡ c.loop-place.place / t.page + 1 =
-          next_bound c.loop-place.place t.pointer t.page c.bound-place.result t.positive c.bound-place.ensures.value
+          div_of_next_row c.loop-place.place t.pointer t.page c.bound-place.result t.positive c.bound-place.ensures.value
           below in
           rw next
           (read_next c.feed_page.new.self.pages (c.loop-place.place / t.page) c.feed_page.ensures.loaded (c.feed_page.ensures.reads.read (c.loop-place.place / t.page) (inv.read h)));
@@ -55,9 +55,9 @@ returns-in-Whole-clause-reads g c = record {
       ends_later x c.args.start c.loop-place.place c.loop-place.self.matcher c.in-Whole.form c.in-Whole.uuid found.payload
       inv.passes found.frame in
       let from : c.args.start / t.page ≤ c.loop-place.place / t.page =
-      page_rises c.args.start c.loop-place.place t.page t.positive (omega (arith, inv.passes.here)) in
+      div_rises c.args.start c.loop-place.place t.page t.positive (omega (arith, inv.passes.here)) in
       let last : c.loop-place.place / t.page ≤ last_page t c.args.start c.in-Whole.form c.in-Whole.length =
-      page_rises c.loop-place.place (c.args.start + c.in-Whole.length + frame_overhead c.in-Whole.form - 1) t.page
+      div_rises c.loop-place.place (c.args.start + c.in-Whole.length + frame_overhead c.in-Whole.form - 1) t.page
       t.positive (omega (arith, later, found.size)) in
       let calls = one_more c.args.self.now.pages.asked c.feed_page.new.self.pages.asked c.loop-place.self.pages.asked (c.args.start / t.page) (c.loop-place.place / t.page) from (inv.asked near) c.feed_page.ensures.reads.asked
       (λ same. c.feed_page.ensures.reads.known (ap (λ h. h.number) inv.near ∙ near ∙ ap Some same)) in
@@ -72,7 +72,7 @@ returns-in-Whole-clause-reads g c = record {
       ap (λ p. min t.pointer ((c.loop-place.place / p + 1) * p)) (sym c.requires.target.page) in
       let behind = c.args.start + c.in-Whole.length + frame_overhead c.in-Whole.form in
       read_fewer c.feed_page.new.self.pages (r + 1) (behind / t.page)
-      (next_at_most c.loop-place.place behind t.page t.positive (omega (arith, ends, stop)))
+      (div_up_to_next_row c.loop-place.place behind t.page t.positive (omega (arith, ends, stop)))
       (read_next c.feed_page.new.self.pages r c.feed_page.ensures.loaded (c.feed_page.ensures.reads.read r (inv.read h)));
 }
 
@@ -84,7 +84,7 @@ returns-in-No-clause-reads g c = record {
       let t = c.args.target.now in
       let inv = c.loop-place.invariant in
       let from : c.args.start / t.page ≤ c.loop-place.place / t.page =
-      page_rises c.args.start c.loop-place.place t.page t.positive (omega (arith, inv.passes.here)) in
+      div_rises c.args.start c.loop-place.place t.page t.positive (omega (arith, inv.passes.here)) in
       let calls = one_more c.args.self.now.pages.asked c.feed_page.new.self.pages.asked c.loop-place.self.pages.asked (c.args.start / t.page) (c.loop-place.place / t.page) from (inv.asked near) c.feed_page.ensures.reads.asked
       (λ same. c.feed_page.ensures.reads.known (ap (λ h. h.number) inv.near ∙ near ∙ ap Some same)) in
       let size : image.geometry.pages * t.page ≡ image.geometry.pages * image.geometry.page =
@@ -97,6 +97,6 @@ returns-in-No-clause-reads g c = record {
       let t = c.args.target.now in
       let inv = c.loop-place.invariant in
       read_fewer c.feed_page.new.self.pages (c.loop-place.place / t.page) (c.args.start / t.page)
-      (page_rises c.args.start c.loop-place.place t.page t.positive (omega (arith, inv.passes.here)))
+      (div_rises c.args.start c.loop-place.place t.page t.positive (omega (arith, inv.passes.here)))
       (c.feed_page.ensures.reads.read (c.loop-place.place / t.page) (inv.read h));
 }

@@ -1,5 +1,6 @@
 -- One more block, in which the image may end.
 use Rattle.std.proofs.Common.{rules, arith, refl, length, Some, ◌≡◌, ◌≤◌}
+use Rattle.scrub_disk.proofs.RawImages.{read_on_more}
 use Rattle.scrub_super.proofs.BlocksFront.{AddsBlock, length-next, length-marks, begins_itself, begins_next, begins_so_far, block_stands, blocks_next, blocks_end, all_read_full}
 use Rattle.scrub_super.proofs.unknown_sizes.blocks.read_blocks.Goals as goal
 use Rattle.scrub_super.proofs.unknown_sizes.blocks.read_blocks.Goals.{else-loop-number-test, then-loop-number-test+in_ok-add_block+then-block-lt-BLOCK_BYTES}
@@ -11,7 +12,8 @@ loop-number-preserved g c =
     let adds : AddsBlock c.loop-number.blocks.bytes.items c.loop-number.blocks.lost.items c.read_block-block.new.out c.read_block-block.result.len c.read_block-block.result.is_lost c.add_block.new.blocks.bytes.items c.add_block.new.blocks.lost.items =
     record { bytes = c.in_ok-add_block.ensures.bytes; marks = c.in_ok-add_block.ensures.lost; few = few; full = full } in
     record {
-      image = record { same_bytes = cc; same_fails = cc; same_bound = cc; failed = omega arith; few = omega arith };
+      image = read_on_more c.loop-number.invariant.image c.read_block-block.ensures.image;
+      reads = omega arith;
       size =
           omega (
             arith,
@@ -26,12 +28,12 @@ loop-number-preserved g c =
           c.read_block-block.ensures.lost c.loop-number.invariant.begins;
       read =
           blocks_next adds _ _ _ _ _ c.loop-number.invariant.image.same_bytes c.loop-number.invariant.marks c.first_lacking.ensures
-          c.loop-number.invariant.size refl c.loop-number.invariant.image.failed c.read_block-block.ensures.image.failed
+          c.loop-number.invariant.size refl c.loop-number.invariant.image.counted c.read_block-block.ensures.image.counted
           c.loop-number.invariant.read
           (rw c.loop-number.invariant.image.same_fails at c.read_block-block.ensures.read);
       own = λ known begins.
           blocks_next adds {raw = Some known} {was = Some known} _ _ _ _ _ refl c.loop-number.invariant.marks c.first_lacking.ensures
-          c.loop-number.invariant.size refl c.loop-number.invariant.image.failed c.read_block-block.ensures.image.failed
+          c.loop-number.invariant.size refl c.loop-number.invariant.image.counted c.read_block-block.ensures.image.counted
           (c.loop-number.invariant.own known (begins_so_far adds known begins))
           ((rw c.loop-number.invariant.image.same_fails at c.read_block-block.ensures.own) known
           (block_stands adds known _ (omega (arith, c.loop-number.invariant.size)) begins)
@@ -50,7 +52,7 @@ returns-clause-read g c =
           record { bytes = w.in_ok-add_block.ensures.bytes; marks = w.in_ok-add_block.ensures.lost; few = w.read_block-block.ensures.within; full = full } in
           rw (w.raw-is, w.blocks-is)
           (blocks_end adds _ _ _ _ _ c.loop-number.invariant.image.same_bytes c.loop-number.invariant.marks w.first_lacking.ensures
-          c.loop-number.invariant.size refl c.loop-number.invariant.image.failed w.read_block-block.ensures.image.failed
+          c.loop-number.invariant.size refl c.loop-number.invariant.image.counted w.read_block-block.ensures.image.counted
           c.loop-number.invariant.read
           (rw c.loop-number.invariant.image.same_fails at w.read_block-block.ensures.read) w.if-block-lt-BLOCK_BYTES.true)
     ]
@@ -69,7 +71,7 @@ returns-clause-own g c =
           let bytes = w.add_block.new.blocks.bytes.items in
           rw (w.raw-is, w.blocks-is)
           (blocks_end adds {raw = Some bytes} {was = Some bytes} _ _ _ _ _ refl c.loop-number.invariant.marks w.first_lacking.ensures
-          c.loop-number.invariant.size refl c.loop-number.invariant.image.failed w.read_block-block.ensures.image.failed
+          c.loop-number.invariant.size refl c.loop-number.invariant.image.counted w.read_block-block.ensures.image.counted
           (c.loop-number.invariant.own bytes (begins_so_far adds bytes (begins_itself bytes)))
           ((rw c.loop-number.invariant.image.same_fails at w.read_block-block.ensures.own) bytes
           (block_stands adds bytes _ (omega (arith, c.loop-number.invariant.size)) (begins_itself bytes))

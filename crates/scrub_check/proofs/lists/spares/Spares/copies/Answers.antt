@@ -2,8 +2,8 @@
 use Rattle.std.proofs.Common.{◌≡◌, ◌≤◌, ◌-◌, ◌∙◌, List, ap, drop, is_lt, is_le, rules, take}
 use Rattle.std.specs.List.Sorted.{IsSorted}
 use Rattle.std.proofs.lemmas.List.Sorted.{IsPartitionPoint-from_clause}
+use Rattle.list_facts.proofs.Sorted.{BelowAt, ThroughAt, below_through, parted_below, parted_through}
 use Rattle.scrub_scan.specs.declared.standing.Standing.{Standing}
-use Rattle.scrub_check.proofs.Counts.{BelowAt, ThroughAt, parted_below, parted_through, below_through}
 use Rattle.scrub_check.proofs.SpareCopies.{copies_between, frame_cmp, frame_total, probe}
 use Rattle.scrub_check.proofs.lists.spares.Spares.copies.Goals as goal
 

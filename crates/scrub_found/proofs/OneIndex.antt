@@ -1,0 +1,144 @@
+-- By its plan an image has one list of index runs, and one list of named locators with their statuses.
+use Rattle.std.proofs.Common.{◌≡◌, ℕ, zero, suc, Option, Some, None, List, [], ◌∷◌, length, map, arith, refl, sym, ◌∙◌, ap, subst}
+use Rattle.std.proofs.Math.Path.{ap₂}
+use Rattle.std.specs.List.{AllZip, slice_get, zip}
+use Rattle.std.proofs.lemmas.List.Elements.{All-head, All-tail}
+use Rattle.std.proofs.lemmas.Map.Made.{keys_of-zip}
+use Rattle.std.proofs.lemmas.Option.{none-some, same_Some}
+use Rattle.scrub_disk.specs.Image.{Image}
+use Rattle.scrub_frame.specs.declared.locator.Locator.{Locator}
+use Rattle.scrub_super.specs.Plan.{PlanValue}
+use Rattle.scrub_run.specs.Entry.{EntryValue}
+use Rattle.scrub_run.specs.Run.{IsRun}
+use Rattle.scrub_run.proofs.Runs.{one_run_lem}
+use Rattle.scrub_merge.specs.Binding.{Runs}
+use Rattle.scrub_merge.specs.ShardMap.{AreRuns}
+use Rattle.scrub_check.specs.declared.statuses.checked.Checked.{Checked}
+use Rattle.scrub_check.specs.declared.named.Named.{Named}
+use Rattle.scrub_check.specs.declared.runs.RunState.{RunState}
+use Rattle.scrub_check.specs.declared.runs.RunState.TheVariants.{Read, BadChunk, NotARun}
+use Rattle.scrub_check.specs.Checked.{AreChecked, HaveStatuses, named_of}
+use Rattle.scrub_check.specs.Runs.{AreReadRuns, HasRunIn, NamesChunkIn, ReadRunsValue}
+use Rattle.scrub_check.specs.Status.{HasStatusIn}
+use Rattle.scrub_check.proofs.OneStatus.{one_in_plan}
+use Rattle.scrub_check.proofs.Payloads.{same_payload}
+use Rattle.scrub_found.proofs.OneReader.{heads, tails, no_tail}
+
+-- ---- one list of runs
+
+-- two lists related to one list are the same if at most one element is related to each element
+same_zipped : {A B : Type 0} (R : A → B → Type 0) → ((a : A) (b c : B) → R a b → R a c → b ≡ c) →
+    (xs : List A) (ys zs : List B) → AllZip R xs ys → AllZip R xs zs → ys ≡ zs
+same_zipped R one [] [] [] h k = refl
+same_zipped R one [] [] (z ∷ zs) h k = absurd k
+same_zipped R one [] (y ∷ ys) zs h k = absurd h
+same_zipped R one (x ∷ xs) [] zs h k = absurd h
+same_zipped R one (x ∷ xs) (y ∷ ys) [] h k = absurd k
+same_zipped R one (x ∷ xs) (y ∷ ys) (z ∷ zs) h k =
+    ap₂ (λ b bs. b ∷ bs) (one x y z h.0 k.0) (same_zipped R one xs ys zs h.1 k.1)
+
+module _ (image : Image) (plan : PlanValue) (l : Locator) where
+  -- a run of a locator is the payload of each chunk that it names
+  run_of_named : (n m : NamesChunkIn image plan l) (es : List EntryValue) → IsRun n.chunk.payload es → IsRun m.chunk.payload es
+  run_of_named n m es run = subst (λ b. IsRun b es) (same_payload image l n.pointer m.pointer n.chunk m.chunk) run
+
+  -- at most one run, with what became of it
+  one_run_in : (r q : Option (List EntryValue)) (s t : RunState) → HasRunIn image plan l r s → HasRunIn image plan l q t →
+      (r ≡ q) × (s ≡ t)
+  one_run_in (Some es) (Some fs) Read Read x y =
+      (ap Some (one_run_lem y.0.chunk.payload es fs (run_of_named x.0 y.0 es x.1) y.1), refl)
+  one_run_in (Some es) None Read NotARun x y = absurd (y.1 es (run_of_named x.0 y.0 es x.1))
+  one_run_in (Some es) None Read (BadChunk t) x y = absurd (y.1 x.0)
+  one_run_in None (Some fs) NotARun Read x y = absurd (x.1 fs (run_of_named y.0 x.0 fs y.1))
+  one_run_in None None NotARun NotARun x y = (refl, refl)
+  one_run_in None None NotARun (BadChunk t) x y = absurd (y.1 x.0)
+  one_run_in None (Some fs) (BadChunk s) Read x y = absurd (x.1 y.0)
+  one_run_in None None (BadChunk s) NotARun x y = absurd (x.1 y.0)
+  one_run_in None None (BadChunk s) (BadChunk t) x y = (refl, ap BadChunk ((one_in_plan image plan l).one s t x.0 y.0))
+  one_run_in (Some es) q NotARun t x y = absurd x
+  one_run_in (Some es) q (BadChunk s) t x y = absurd x
+  one_run_in None q Read t x y = absurd x
+  one_run_in r (Some fs) s NotARun x y = absurd y
+  one_run_in r (Some fs) s (BadChunk t) x y = absurd y
+  one_run_in r None s Read x y = absurd y
+
+  one_pair : (x y : Option (List EntryValue) × RunState) → HasRunIn image plan l x.0 x.1 → HasRunIn image plan l y.0 y.1 → x ≡ y
+  one_pair x y hx hy = let same = one_run_in x.0 y.0 x.1 y.1 hx hy in λ i. (same.0 i, same.1 i)
+
+-- the second parts of pairs
+seconds-zip : {A B : Type 0} (xs : List A) (ys : List B) → length ys ≡ length xs → map (λ p. p.1) (zip xs ys) ≡ ys
+seconds-zip [] [] same = refl
+seconds-zip [] (y ∷ ys) same = absurd (omega (arith, same))
+seconds-zip (x ∷ xs) [] same = absurd (omega (arith, same))
+seconds-zip (x ∷ xs) (y ∷ ys) same = ap (λ zs. y ∷ zs) (seconds-zip xs ys (omega (arith, same)))
+
+same_read : (r s : ReadRunsValue) → r.runs ≡ s.runs → r.states ≡ s.states → r ≡ s
+same_read r s hr hs = λ i. record { runs = hr i; states = hs i }
+
+pub one_list_of_runs : (image : Image) (plan : PlanValue) (r s : ReadRunsValue) → AreReadRuns image plan r →
+    AreReadRuns image plan s → r ≡ s
+one_list_of_runs image plan r s x y =
+    let pairs : zip r.runs r.states ≡ zip s.runs s.states =
+    same_zipped (λ l p. HasRunIn image plan l p.0 p.1) (one_pair image plan) plan.runs (zip r.runs r.states) (zip s.runs s.states) x.each y.each in
+    same_read r s
+    (sym (keys_of-zip r.runs r.states x.same) ∙ ap (λ ps. map (λ p. p.0) ps) pairs ∙ keys_of-zip s.runs s.states y.same)
+    (sym (seconds-zip r.runs r.states x.same) ∙ ap (λ ps. map (λ p. p.1) ps) pairs ∙ seconds-zip s.runs s.states y.same)
+
+-- the run of these entries is the payload of a chunk that a locator names by a plan
+pub record IsNamedRun (image : Image) (plan : PlanValue) (es : List EntryValue) : Type 0 where
+  pub locator : Locator
+  pub names : NamesChunkIn image plan locator
+  pub run : IsRun names.chunk.payload es
+
+read_at : (image : Image) (plan : PlanValue) (es : List EntryValue) (ls : List Locator) (runs : Runs) (states : List RunState) (k : ℕ) →
+    length states ≡ length runs → AllZip (λ l p. HasRunIn image plan l p.0 p.1) ls (zip runs states) →
+    slice_get runs k ≡ Some (Some es) → IsNamedRun image plan es
+read_at image plan es ls [] states k same each here = absurd (none-some (Some es) here)
+read_at image plan es ls (r ∷ rs) [] k same each here = absurd (omega (arith, same))
+read_at image plan es [] (r ∷ rs) (s ∷ ss) k same each here = absurd each
+read_at image plan es (l ∷ ls) (r ∷ rs) (s ∷ ss) zero same each here =
+    by s (subst (λ q. HasRunIn image plan l q s) (same_Some r (Some es) here) each.0)
+  where
+    by : (s : RunState) → HasRunIn image plan l (Some es) s → IsNamedRun image plan es
+    by Read h = record { locator = l; names = h.0; run = h.1 }
+    by (BadChunk status) h = absurd h
+    by NotARun h = absurd h
+read_at image plan es (l ∷ ls) (r ∷ rs) (s ∷ ss) (suc k) same each here =
+    read_at image plan es ls rs ss k (omega (arith, same)) each.1 here
+
+pub read_of : (image : Image) (plan : PlanValue) (r : ReadRunsValue) → AreReadRuns image plan r →
+    (k : ℕ) (es : List EntryValue) → slice_get r.runs k ≡ Some (Some es) → IsNamedRun image plan es
+read_of image plan r x k es here = read_at image plan es plan.runs r.runs r.states k x.same x.each here
+
+pub read_runs_are_runs : (image : Image) (plan : PlanValue) (r : ReadRunsValue) → AreReadRuns image plan r →
+    AreRuns r.runs
+read_runs_are_runs image plan r x k es here = (read_of image plan r x k es here).run.entries_of_run
+
+-- ---- one list of checked locators
+
+same_one : (c d : Checked) → named_of c ≡ named_of d → c.status ≡ d.status → c ≡ d
+same_one c d hn hs = λ i. record { owner = (hn i).owner; locator = (hn i).locator; status = hs i }
+
+abbrev HasOwn : Image → PlanValue → Checked → Type 0
+HasOwn image plan c = HasStatusIn image plan c.locator c.status
+
+one_checked : (image : Image) (plan : PlanValue) (c d : Checked) → named_of c ≡ named_of d → HasOwn image plan c →
+    HasOwn image plan d → c ≡ d
+one_checked image plan c d same x y =
+    same_one c d same
+    ((one_in_plan image plan d.locator).one c.status d.status (subst (λ (n : Named). HasStatusIn image plan n.locator c.status) same x) y)
+
+same_checked : (image : Image) (plan : PlanValue) (cs ds : List Checked) → map named_of cs ≡ map named_of ds →
+    HaveStatuses image plan cs → HaveStatuses image plan ds → cs ≡ ds
+same_checked image plan [] [] e x y = refl
+same_checked image plan [] (d ∷ ds) e x y = absurd (no_tail (named_of d) (map named_of ds) e)
+same_checked image plan (c ∷ cs) [] e x y = absurd (no_tail (named_of c) (map named_of cs) (sym e))
+same_checked image plan (c ∷ cs) (d ∷ ds) e x y =
+    ap₂ (λ h hs. h ∷ hs)
+    (one_checked image plan c d (heads (named_of c) (named_of d) (map named_of cs) (map named_of ds) e) (All-head (HasOwn image plan) c cs x) (All-head (HasOwn image plan) d ds y))
+    (same_checked image plan cs ds (tails (named_of c) (named_of d) (map named_of cs) (map named_of ds) e) (All-tail (HasOwn image plan) c cs x) (All-tail (HasOwn image plan) d ds y))
+
+pub one_list_of_checked : (image : Image) (plan : PlanValue) (names : List Named) (cs ds : List Checked) →
+    AreChecked image plan names cs → AreChecked image plan names ds → cs ≡ ds
+one_list_of_checked image plan names cs ds x y =
+    same_checked image plan cs ds (x.same ∙ sym y.same) x.statuses y.statuses

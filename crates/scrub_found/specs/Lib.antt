@@ -1,0 +1,6 @@
+-- For public clauses.
+pub mod Scrubbed
+pub mod Resets
+pub mod Texts
+pub mod Takings
+pub mod Judged
