@@ -16,6 +16,8 @@ damaged   payloads of 64 KiB to 1 MiB that fill pages of 64 KiB, no superblock; 
 hostile   disks and files that are made to cost much (bench/hostile.py), each beside a clean one of the same size.
 items     `items` of an extent of 64 MiB full of frames, and of one with heads without frames. These have limits: a share of
           sha256sum's time, and of memory.
+growth    only if it is asked for: disks of a shape with 1, 2, 4 and 8 times the items, whatever --mib says. `Of the first one's` stays near
+          the number in the disk's name, or below, if the time is linear, and is its square if it is quadratic.
 
 All programs read the same file in turn. A table shows the least time and the most memory of each. sha256sum hashes the whole file;
 its time is scaled to the bytes that the program has to hash. Loading is `items` of an extent with the write pointer 0, which prints
@@ -29,6 +31,7 @@ import argparse
 import os
 import sys
 import tempfile
+from functools import partial
 from pathlib import Path
 
 sys.path.insert(0, str(Path(__file__).resolve().parent.parent / "tests"))
@@ -58,7 +61,10 @@ KINDS = {
                + [[Subject(name, make, "sizes") for name, make in hostile.FILES.items()]],
     "items": [[Subject("frames end to end", kinds.frames_end_to_end, "items", 0.95)],
               [Subject("heads without frames", kinds.heads_without_frames, "items", 0.5)]],
+    "growth": [[Subject(f"{name} x{times}", partial(make, times=times)) for times in kinds.TIMES] for name, make in kinds.SHAPES.items()],
 }
+# Those that are measured if none is named.
+USUAL = [kind for kind in KINDS if kind != "growth"]
 
 
 def compare(programs, folder, group, given):
@@ -112,7 +118,7 @@ def numbers(word):
 def arguments():
     parser = argparse.ArgumentParser(prog="bench/disks.py", description=__doc__.partition("\n\n")[0],
                                      epilog=__doc__.partition("\n\n")[2], formatter_class=argparse.RawDescriptionHelpFormatter)
-    parser.add_argument("--kind", action="append", choices=KINDS, help="only disks of this kind; may be repeated")
+    parser.add_argument("--kind", action="append", choices=KINDS, help="only disks of this kind; may be repeated (default: all but growth)")
     parser.add_argument("--only", action="append", metavar="DISK", help="only this disk, by its name in the table; may be repeated")
     parser.add_argument("--workers", type=numbers, default=[0, 1, 3], metavar="N,..", help="how many workers: each 0 to 64 (default: 0,1,3)")
     parser.add_argument("--mib", type=int, default=512, help="size of the disks: a multiple of 64 from 192 to 704 (default: 512)")
@@ -132,7 +138,7 @@ def arguments():
 
 def main():
     parser, given = arguments()
-    groups = [group for kind in given.kind or KINDS for group in KINDS[kind]]
+    groups = [group for kind in given.kind or (KINDS if given.only else USUAL) for group in KINDS[kind]]
     if given.only:
         groups = [some for group in groups if (some := [subject for subject in group if subject.name in given.only])]
     if not groups:
@@ -145,7 +151,7 @@ def main():
     print_heads(*HEADS)
     with tempfile.TemporaryDirectory(prefix="shardscrub-bench-") as folder:
         right = [compare(programs, folder, group, given) for group in groups]
-        if not given.only and "small" in (given.kind or KINDS):
+        if not given.only and "small" in (given.kind or USUAL):
             right.append(repeat(this, folder, given.runs))
     return int(not all(right))
 

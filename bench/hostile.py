@@ -107,7 +107,7 @@ def hidden_places(file, page, pages, count, times):
 
 
 def places():
-    """Yields the rising offsets where a record may begin, each with the least page size whose extents reach past it."""
+    """Yields the ascending offsets where a record may begin, each with the least page size whose extents reach past it."""
     page = 64
     for offset in range(0, FIRST, 64):
         while offset + RECORD_HEAD + MOST_RUN_BYTES + DIGEST > page * MOST_PAGES and page < KIB:

@@ -1,7 +1,8 @@
-"""Makes disks to measure: large ones, many small chunks, damage, zeros, and two extents for `items`. MIB is the size of a disk."""
+"""Makes disks to measure: large ones, many small chunks, damage, zeros, and two extents for `items`. MIB is the size of a disk. Then disks
+of several shapes, each with 1, 2, 4 and 8 times the items, whose size follows from that."""
 import os
 
-from lib.disks import KIB, MIB, ROUND_PAYLOAD, DiskFile, head
+from lib.disks import KIB, MIB, ROUND_PAYLOAD, Disk, DiskFile, frame, head, locator, run, shard, uuid
 
 LEAST_LARGE, MOST_LARGE = 64 * KIB, MIB
 SMALL_PAYLOAD = 100
@@ -130,3 +131,76 @@ def heads_without_frames(file, _):
         end = b"\xff" * 16 if page == disk.pages - 1 else b""
         file.write(begun + b"x" * (disk.page - len(begun) - len(end)) + end)
     return disk.made() | {"right": {"status": 1, "torn": disk.pages, "items": disk.pages}}
+
+
+# Growth
+
+TIMES = (1, 2, 4, 8)
+LOCATORS, PAGE = 61, 4096
+
+
+def put(file, *texts, runs=(), **right):
+    """A disk whose extents from 1 on begin with these bytes, as large as the longest one needs. What is hashed isn't counted."""
+    disk = Disk(-(-max(map(len, texts)) // PAGE), len(texts) + 1, PAGE)
+    for extent, text in enumerate(texts, 1):
+        disk.put(extent, 0, text)
+        disk.pointers[extent - 1] = len(text)
+    disk.superblock(0, 1, *runs)
+    file.write(disk.bytes)
+    return {"sizes": disk.geometry(), "bytes": len(disk.bytes), "unreadable": [], "hashed": 0, "right": right}
+
+
+def run_frame(extent, number, entries):
+    """The first bytes of an extent with only a run, and the run's locator."""
+    name, payload = uuid(0x70 + number), run(*entries)
+    return frame(name, payload), locator(extent, 0, name, payload)
+
+
+def two_runs(file, _, times):
+    """Two runs with many locators a shard. Half of the shards are in both."""
+    shards = 600 * times
+    named = [locator(1, 0, uuid(0x11), b"abc")] * LOCATORS
+    entries = [[(shard(number), named) for number in range(first, first + shards)] for first in (0, shards // 2)]
+    (first, first_at), (second, second_at) = run_frame(2, 0, entries[1]), run_frame(3, 1, entries[0])
+    return put(file, frame(uuid(0x11), b"abc"), first, second, runs=[first_at, second_at], status=1, shards=shards + shards // 2, chunk=3)
+
+
+def side_by_side(file, _, times, is_hidden=False):
+    """Chunks side by side, each named by a shard; or in the payload of another chunk, so that each place is looked at."""
+    count = 40_000 * times
+    names = [shard(number) for number in range(count)]
+    parts = [frame(one, b"abc") for one in names]
+    entries = [(one, [locator(1, place * len(part) + 22 * is_hidden, one, b"abc")])
+               for place, (one, part) in enumerate(zip(names, parts))]
+    text = b"".join(parts)
+    index_run, at = run_frame(2, 0, entries)
+    return put(file, frame(uuid(0x22), text) if is_hidden else text, index_run, runs=[at], status=int(is_hidden), shards=count,
+               hidden=count * is_hidden, chunk=2 if is_hidden else count + 1)
+
+
+def hidden(file, _, times):
+    return side_by_side(file, _, times, True)
+
+
+def orphans(file, _, times):
+    """An extent of short chunks without an owner."""
+    count = 100_000 * times
+    return put(file, b"".join(frame(shard(number), b"abc") for number in range(count)), status=0, chunk=count, orphans=count)
+
+
+def extents(file, _, times, count=8_192, each=6):
+    """Extents of 5 pages of 64 bytes, each with so many chunks without an owner; up to 8 fit in."""
+    disk = DiskFile(file, 64, 5, count * times)
+    for _ in range(disk.extents - 1):
+        disk.next_extent()
+        for _ in range(each):
+            disk.put(b"")
+    return disk.made(status=1, clean=False, orphans=disk.chunks, live=0)
+
+
+def full_extents(file, _, times):
+    """As many such extents as there can be, with more and more chunks."""
+    return extents(file, _, 1, 65_536, times)
+
+
+SHAPES = {make.__name__.replace("_", " "): make for make in (two_runs, side_by_side, hidden, orphans, extents, full_extents)}

@@ -1,5 +1,5 @@
 #!/usr/bin/env python3
-"""Compares the program with the slow reference, tests/lib/reference.py, on made-up disks, byte for byte, and `compare` on made-up
+"""Compares the program with the slow reference, reference/shardscrub.py, on made-up disks, byte for byte, and `compare` on made-up
 pairs of images; and what it prints of a shard with its own manifest and report.
 
 A process stops at its first difference. It leaves the image or both, the map and both outputs in the folder shardscrub-difference, in the
@@ -16,8 +16,7 @@ from concurrent.futures import ProcessPoolExecutor
 from pathlib import Path
 
 sys.path.insert(0, str(Path(__file__).resolve().parent.parent / "tests"))
-from lib.comparison import COMMANDS, compared
-from lib.pairs import compared_pair
+from lib.comparison import COMMANDS, compared, compared_pair
 from lib.program import choose_program
 
 DIFFERENCE = Path(tempfile.gettempdir(), "shardscrub-difference")

@@ -12,9 +12,9 @@ from collections import Counter
 from pathlib import Path
 
 sys.path.insert(0, str(Path(__file__).resolve().parent.parent / "tests"))
-from lib import compare_laws, laws
-from lib.drive import Broken, Engine
-from lib.mishaps import MISTAKES, judge_mistake
+from lib.laws import hold_compare_laws_on, hold_laws_on
+from lib.mistakes import MISTAKES, judge_mistake
+from lib.node import Broken, Engine
 from lib.program import choose_program
 from lib.walk import row, trials, walk_honestly
 
@@ -27,9 +27,9 @@ def print_rows(engine, one, seed, found, tries):
 
 def checks(engine, given, seen):
     """Yields each check, as a function."""
-    for hold_laws_on in (laws.hold_laws_on, compare_laws.hold_laws_on):
+    for hold in (hold_laws_on, hold_compare_laws_on):
         for turn in range(given.laws):
-            yield lambda: hold_laws_on(engine, given.seed * 1_000_003 + turn, seen)
+            yield lambda: hold(engine, given.seed * 1_000_003 + turn, seen)
     for turn in range(given.disks):
         yield lambda: walk_honestly(engine, given.seed * 1_000_003 + turn, seen)
     for one in MISTAKES if given.tries else []:

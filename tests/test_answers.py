@@ -9,9 +9,9 @@ import signal
 import socket
 import subprocess
 
-from lib import failing_reads, full_output
 from lib.cases import RoomCase
 from lib.disks import Disk, be, digest, frame, head, locator, run, shard, uuid
+from lib.system import FAILING_READS, FULL_OUTPUT, run_failing, run_full
 
 SECONDS = 60
 SMALL = "--page 64 --pages 4 --extents 3"
@@ -164,10 +164,10 @@ class Items(AnswerCase):
     def test_a_page_whose_read_fails_is_lost(self):
         """Only the first page of extent 1 has the chunk."""
         self.given(disk_with((256, ABC)))
-        library, path = failing_reads.made(self.room), str(self.room / "disk.img")
+        library, path = FAILING_READS.made(self.room), str(self.room / "disk.img")
         words = ["items", *SMALL.split(), "--extent", "1", "--pointer", "41", path]
         for page, status, line in ((3, 0, ABC_LINE), (4, 1, "lost 0 41\n"), (5, 0, ABC_LINE)):
-            got, _ = failing_reads.run(self.program, words, library, path, 64, [(64 * page, 64 * page + 64)], False)
+            got, _ = run_failing(self.program, words, library, path, 64, [(64 * page, 64 * page + 64)], False)
             self.same(f"page {page}", got, (status, line.encode(), b""))
 
     def test_files_of_several_lengths(self):
@@ -560,10 +560,10 @@ class Outputs(AnswerCase):
     """An output that takes some bytes of a report, and then no more."""
 
     def check_each_number_of_bytes(self, words):
-        library = full_output.made(self.room)
+        library = FULL_OUTPUT.made(self.room)
         for room in range(len(ONE_SHARD) + 1):
             for fails in (True, False):
-                status, out, error = full_output.run(self.program, words, library, room, fails)
+                status, out, error = run_full(self.program, words, library, room, fails)
                 is_whole = room == len(ONE_SHARD)
                 wanted = (0, b"") if is_whole else (3, f"shardscrub: output failed after {room} bytes\n".encode())
                 self.same(f"{room} bytes, {'a fault' if fails else 'then 0'}", (status, error, out), (*wanted, ONE_SHARD[:room].encode()))

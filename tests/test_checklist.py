@@ -4,9 +4,9 @@ fuzz/checklist.py does so on others, and prints which box stops what."""
 from collections import Counter
 
 from lib.cases import Case, RoomCase, add_tests
-from lib.drive import Engine
 from lib.laws import hold_laws_on
-from lib.mishaps import HARMLESS, MISTAKES, TOO_LATE, UNSEEN, judge_mistake
+from lib.mistakes import HARMLESS, MISTAKES, TOO_LATE, UNSEEN, judge_mistake
+from lib.node import Engine
 from lib.walk import trials, walk_honestly
 
 SEED, LAWS, WALKS, TRIES = 1, 200, 100, 2

@@ -1,16 +1,16 @@
-"""What `compare` says of two images of a disk. What is right was written by hand, from docs/REPORT.md; of made-up pairs lib/compared.py
+"""What `compare` says of two images of a disk. What is right was written by hand, from docs/REPORT.md; of made-up pairs the reference
 has to give the same. The laws of `compare` are held on made-up pairs that are safe.
 """
 import subprocess
 from collections import Counter
 
 from lib.cases import RoomCase, add_tests
-from lib.compare_laws import hold_laws_on
+from lib.comparison import compared_pair
 from lib.disks import digest, frame, geometry, locator, run, sealed_frame, shard, uuid
-from lib.drive import Engine
-from lib.pairs import compared_pair
-from lib.worked_pairs import (EXTENTS, FIRST, IMAGES, NEW, OLD, OLD_RUN, PAGE, PAGES, POINTERS, SECOND, SEVENTH, SIZE, abc_at, moved,
-                              superblock, written)
+from lib.laws import hold_compare_laws_on
+from lib.node import Engine
+from lib.worked import (EXTENTS, FIRST, IMAGES, NEW, OLD, OLD_RUN, PAGE, PAGES, POINTERS, SECOND, SEVENTH, SIZE, abc_at, moved,
+                        superblock, written)
 
 # Of the made-up pairs beside the reference, and of those on which the laws are held.
 SEED, PAIRS, LAWS = 1, 400, 250
@@ -344,7 +344,7 @@ class Laws(RoomCase):
         cls.engine = Engine(cls.program, cls.room)
 
     def check(self, turn):
-        hold_laws_on(self.engine, SEED * 1_000_003 + turn, Counter())
+        hold_compare_laws_on(self.engine, SEED * 1_000_003 + turn, Counter())
 
 
 add_tests(Pairs, Pairs.check, [(f"pair {turn:03}", turn) for turn in range(PAIRS)])

@@ -9,9 +9,9 @@
 """
 import os
 
-from lib import allocations
 from lib.cases import RoomCase
 from lib.disks import Disk, frame, locator, run, shard, uuid
+from lib.system import ALLOCATIONS, run_counted
 
 # The bytes of a locator in memory, and a number of locators that no other list of the program has.
 LOCATOR_BYTES = 60
@@ -63,7 +63,7 @@ class Costs(RoomCase):
     @classmethod
     def setUpClass(cls):
         super().setUpClass()
-        cls.library = allocations.made(cls.room)
+        cls.library = ALLOCATIONS.made(cls.room)
         cls.sound = chunks(cls.room, "sound", 300, False)
         cls.hidden = chunks(cls.room, "hidden", 300, True)
         cls.processors = sorted(os.sched_getaffinity(0))[:MOST_PROCESSORS]
@@ -71,7 +71,7 @@ class Costs(RoomCase):
     def counts(self, words, wanted, **more):
         """How many allocations of a run had the counted size, and how many threads it started. Both are None unless the run ends
         with this status."""
-        (status, _, _), found = allocations.run(self.program, words, self.library, **more)
+        (status, _, _), found = run_counted(self.program, words, self.library, **more)
         return (found.sized, found.threads) if status == wanted and found else (None, None)
 
     def check_merging(self, shards):

@@ -5,7 +5,7 @@ Each of the two disks has two superblocks. The older one would give up an extent
 superblocks have the same write pointers, nothing is past them, and each record fits on a page. On the other disk each
 superblock has something past its pointers, and a record takes several pages. Each bit of each superblock is flipped in turn;
 then each page of extent 0 is unreadable in turn. `reclaimable` may name only candidates of the undamaged disk, and has to
-answer as lib/reference.py does: with nothing accepted, and on the disk with tails also with `--last 2`, the generation that the
+answer as reference/shardscrub.py does: with nothing accepted, and on the disk with tails also with `--last 2`, the generation that the
 newer superblock has. If that one doesn't count any more, nothing is named then. On the disk with tails the same is tried with the
 tails accepted by their lines.
 
@@ -19,7 +19,7 @@ import tempfile
 from lib.cases import Case, add_tests
 from lib.disks import Disk, geometry, record, run, shard, uuid
 from lib.program import program
-from lib.reference import Image, choose, reclaimable, records_of, scrub, superblocks
+from reference.shardscrub import Image, candidates, choose, reclaimable, records_of, scrub, superblocks
 
 EXTENTS = 5
 # The bytes per page and pages per extent of each disk. The older superblock is on page 0, the newer one in the middle.
@@ -93,17 +93,17 @@ def right(image, accepted=(), last=None):
     return 0 if clear else 1, text, ""
 
 
-def candidates(image):
-    return {candidate["extent"] for candidate in scrub(image)[0]["candidates"]}
+def given_up(image):
+    return {candidate.extent for candidate in candidates(scrub(image))}
 
 
 class Damage(Case):
     def check(self, image, accepted=(), last=None):
-        let_go = candidates(image)
+        let_go = given_up(image)
         middle = image.size // 2
         alone = changed(image, image.raw[:middle] + bytes(middle) + image.raw[image.size:])
         self.true("the newer superblock gives up an extent, and the older one alone another",
-                  let_go and candidates(alone) - let_go, (let_go, candidates(alone)))
+                  let_go and given_up(alone) - let_go, (let_go, given_up(alone)))
         self.same("the whole disk", reclaimable_answer(image, accepted, last), right(image, accepted, last))
         for what, disk in harmed(image):
             found = reclaimable_answer(disk, accepted, last)
@@ -204,8 +204,8 @@ class Torn(Case):
         for before, newest in LISTED:
             one = Overwritten(*sizes, before, newest)
             what = f"pages of {sizes[0]} bytes, {newest} runs over {before}"
-            let_go = candidates(one.with_sectors(one.record, len(one.record), [0]))
-            self.true(f"{what}: each gives up another extent", let_go and 1 in candidates(one.image) - let_go)
+            let_go = given_up(one.with_sectors(one.record, len(one.record), [0]))
+            self.true(f"{what}: each gives up another extent", let_go and 1 in given_up(one.image) - let_go)
             for how, disk in one.torn():
                 found = [answer(disk, "superblocks"), reclaimable_answer(disk), reclaimable_answer(disk, last=3)]
                 self.check_torn(f"{what}, {how}", one.image, disk, let_go, found)

@@ -1,6 +1,6 @@
 """Runs the examples of five pages, as lib/examples.py finds them, and compares their output with the pages.
 
-An example needs ddrescue, parallel, python3 or sqlite3 if it has that word, and jq if it has the word jq, row or rows; and what the
+An example needs ddrescue, parallel or python3 if it has that word, and jq if it has the word jq, row or rows; and what the
 example needs that wrote a file which it names.
 """
 import os
@@ -9,9 +9,8 @@ import tempfile
 import unittest
 
 from lib.cases import Case
-from lib.examples import PAGES, Transcript, examples_of, scans_of, starting
+from lib.examples import PAGES, Transcript, check_line, examples_of, is_row, scans_of, starting
 from lib.program import TOP, need, program
-from lib.schema import check_line, is_row
 
 
 class ExampleCase(Case):

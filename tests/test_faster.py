@@ -17,12 +17,12 @@ from lib.comparison import compared
 from lib.disks import Disk, locator, shard, uuid
 from lib.examples import Transcript
 from lib.program import FASTER, GENERAL, find, has_v3, program
-from lib.reference import answered
+from reference.shardscrub import answered
 
 SEED, DISKS = 3, 300
 PARTS = ("out", "error", "status")
 # An example has about one call, so fewer calls would be a fault of the test.
-LEAST_CALLS = 150
+LEAST_CALLS = 140
 # It keeps what each program answers to a call in a folder, and then answers as the first one does.
 SCRIPT = """#!/bin/sh
 folder=$(mktemp -d ROOM/XXXXXX)

@@ -15,8 +15,7 @@ from unittest import mock
 
 from lib import watched
 from lib.cases import Case
-from lib.program import PACKAGES, TOP, need, program
-from lib.starting import write
+from lib.program import PACKAGES, TOP, need, program, write
 
 SECONDS = 300
 # An rt whose prover works on a crate until the file `go` is there.
@@ -282,12 +281,12 @@ class Elsewhere(TreeCase):
     def test_a_path_with_blanks_quotes_and_letters_beyond_ascii(self):
         """Tests that give a path to a shell or to a tool with words of its own."""
         top = self.top / "Füße und 'mehr' für $HOME"
-        for name in ("docs", "examples", "tests", "view"):
+        for name in ("docs", "examples", "reference", "tests", "view"):
             shutil.copytree(TOP / name, top / name, ignore=shutil.ignore_patterns("__pycache__"))
         for path in TOP.glob("*.md"):
             shutil.copy(path, top)
         shutil.copy(program(), top / "the program")
-        names = ["views.Fleet.test_both", "views.Metrics.test_the_program", "examples.Examples.test_line_0016", "questions"]
+        names = ["views.Rows.test_digits_are_kept", "views.Metrics.test_the_program", "examples.Examples.test_line_0016", "questions"]
         begun = self.begin(sys.executable, top / "tests/run", "--program", top / "the program", *names)
         out, error = begun.communicate(timeout=SECONDS)
         self.assertEqual((begun.returncode, error), (0, ""), out)

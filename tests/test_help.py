@@ -9,8 +9,16 @@ from lib.program import TOP, need, program
 
 sys.path.insert(0, str(TOP / "tools"))
 import options  # noqa: E402
-from options import COMMANDS, OPTIONS, STATUSES, arguments_of, help_of, options_of, plain, required_of  # noqa: E402
+from options import COMMANDS, OPTIONS, about, arguments_of, help_of, options_of, plain, required_of  # noqa: E402
 
+# The statuses of the program as its help has them.
+STATUSES = {
+    0: "clean",
+    1: "findings, or a shard that cannot be had",
+    2: "the arguments or the map are invalid, or no sizes are found",
+    3: "the image or the map cannot be opened, the image is too long, or the output failed",
+    4: "out of memory",
+}
 # What clap adds by itself.
 OWN_OPTIONS = [("-h, --help", "Print help"), ("-V, --version", "Print version")]
 OWN_COMMAND = ("help", "Print this message or the help of the given subcommand(s)")
@@ -47,11 +55,11 @@ class Help(Case):
         status, out, text = said(name, "--help")
         self.same("status and output", (status, out), (0, ""))
         self.same("the same after the word help", said("help", name), (status, out, text))
-        self.same("the sentence", text.split("\n")[0], command.about)
+        self.same("the sentence", text.split("\n")[0], about(name))
         used = ["shardscrub", name, *["[OPTIONS]"] * (options_of(command) != ()), *map(written, required_of(command)),
                 *(f"<{image}>" for image in command.images), *["[EXTENT:PAGE]..."] * command.takes_pages]
         self.same("the usage", re.search("^Usage: (.*)$", text, re.M)[1], " ".join(used))
-        arguments = [(f"[{one}]..." if OPTIONS[one].is_repeated else f"<{one}>", plain(OPTIONS[one].help)) for one in arguments_of(command)]
+        arguments = [(f"[{one}]..." if OPTIONS[one].is_repeated else f"<{one}>", OPTIONS[one].help) for one in arguments_of(command)]
         self.same("the arguments", part_of(text, "Arguments"), arguments)
         wanted = [(written(one), help_of(one, command)) for one in options_of(command)]
         self.same("the options", part_of(text, "Options"), wanted + OWN_OPTIONS[:1])
@@ -66,21 +74,21 @@ class Help(Case):
         found = statuses_of(text)
         both = [plain(command.ok), *[plain(command.not_ok)] * (command.not_ok != "")]
         self.same("the statuses 0 and 1", [found.get(number) for number in range(len(both))], both)
-        unfound, too_long, unopened = ", or no sizes are found", "the image is too long, or ", STATUSES[3][0].partition(", the image is")[0]
-        invalid = STATUSES[2][0] if command.sizes is False else STATUSES[2][0].removesuffix(unfound)
-        failed = STATUSES[3][0] if command.takes_pages else f"{unopened}, or the output failed" if command.images else "the output failed"
+        unfound, too_long, unopened = ", or no sizes are found", "the image is too long, or ", STATUSES[3].partition(", the image is")[0]
+        invalid = STATUSES[2] if command.sizes is False else STATUSES[2].removesuffix(unfound)
+        failed = STATUSES[3] if command.takes_pages else f"{unopened}, or the output failed" if command.images else "the output failed"
         self.true(f"status 3 of {name}", found[3].partition(":")[0] == failed, found[3])
-        self.same("the other statuses", (found.get(2), found[4]), (invalid if command.images else None, STATUSES[4][0]))
-        self.true("the words of status 2 and 3", unfound in STATUSES[2][0] and too_long in STATUSES[3][0])
+        self.same("the other statuses", (found.get(2), found[4]), (invalid if command.images else None, STATUSES[4]))
+        self.true("the words of status 2 and 3", unfound in STATUSES[2] and too_long in STATUSES[3])
 
     def test_the_program(self):
         """The commands in their order, and the statuses."""
         status, out, text = said("--help")
         self.same("status and output", (status, out), (0, ""))
-        commands = [(name, command.about) for name, command in COMMANDS.items()]
+        commands = [(name, about(name)) for name in COMMANDS]
         self.same("the commands", part_of(text, "Commands"), [*commands, OWN_COMMAND])
         self.same("the options", part_of(text, "Options"), OWN_OPTIONS)
-        self.same("the statuses", statuses_of(text), {number: meaning for number, (meaning, _) in STATUSES.items()})
+        self.same("the statuses", statuses_of(text), STATUSES)
 
     def test_version(self):
         """The newest entry of CHANGELOG.md, from which README.md and the man page have it, is of the program's version."""
@@ -199,7 +207,7 @@ class Examples(RoomCase):
 
 class Tool(Case):
     def test_what_it_makes(self):
-        """docs/shardscrub.1, docs/REPORT.md, README.md and the completions have what the tables say."""
+        """docs/REPORT.md, README.md and the completions have what the tables say."""
         done = subprocess.run([sys.executable, TOP / "tools/options.py", "--check"], capture_output=True, text=True,
                               stdin=subprocess.DEVNULL)
         self.true("tools/options.py", done.returncode == 0, done.stdout + done.stderr)

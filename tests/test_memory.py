@@ -16,12 +16,12 @@ import shlex
 import unittest
 
 from lib import growths
-from lib.allocations import made, refusing, refusing_of_others
 from lib.cases import Case, RoomCase, add_tests
 from lib.disks import Disk, locator, run, shard, uuid
 from lib.program import TOP
-from lib.reference import answered
+from lib.system import ALLOCATIONS, refusing, refusing_of_others
 from lib.worked import behind_a_damaged_frame
+from reference.shardscrub import answered
 
 SMALL = "--page 64 --pages 4 --extents 3 examples/one-shard.img"
 SEVERAL = "--page 64 --pages 16 --extents 5 examples/several-findings.img 3:1"
@@ -90,7 +90,7 @@ COMMAND_LINES = {
 }
 # A report has several allocations for each item, so that only each 97th is refused.
 STEPS = {f"scan {MANY}": 97}
-# Those to which lib/reference.py has no answer.
+# Those to which reference/shardscrub.py has no answer.
 WITHOUT_REFERENCE = {"", "scan --help", "scan --workers 65"}
 # Those in which a worker that scans, or a reader of the image, takes memory on a thread of its own.
 WITH_THREADS = ["scan", "index with 2 workers", "locators", "locators with 2 workers", "reclaimable",
@@ -145,7 +145,7 @@ class LibraryCase(RoomCase):
     @classmethod
     def setUpClass(cls):
         super().setUpClass()
-        cls.library = made(cls.room)
+        cls.library = ALLOCATIONS.made(cls.room)
 
 
 class Runs(LibraryCase):

@@ -13,7 +13,7 @@ from pathlib import Path
 from lib.cases import Case, RoomCase
 from lib.disks import Disk, run, shard, uuid
 from lib.program import TOP, absent, need
-from lib.reference import Image, summary
+from reference.shardscrub import Image, summary
 
 try:
     import yaml

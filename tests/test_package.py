@@ -16,8 +16,7 @@ import unittest
 from datetime import datetime, timezone
 from pathlib import Path
 
-from lib.program import FASTER, GENERAL, TOP, V3_FLAGS, has_v3, need
-from lib.starting import TUNABLES, V2_FLAGS, processors, with_processor, write
+from lib.program import FASTER, GENERAL, TOP, TUNABLES, V2_FLAGS, V3_FLAGS, has_v3, need, processors, with_processor, write
 
 # Each installed file: its mode, and what it is a copy of.
 INSTALLED = {
@@ -35,7 +34,6 @@ INSTALLED = {
     **{f"share/doc/shardscrub/examples/{path.name}": (0o644, f"examples/{path.name}") for path in (TOP / "examples").iterdir()},
     "share/fish/vendor_completions.d/shardscrub.fish": (0o644, "release/completions/shardscrub.fish"),
     "share/man/man1/shardscrub.1": (0o644, "docs/shardscrub.1"),
-    "share/shardscrub/view/fleet.sql": (0o644, "view/fleet.sql"),
     "share/shardscrub/view/metrics": (0o755, "view/metrics"),
     "share/shardscrub/view/monitoring/cron": (0o644, "view/monitoring/cron"),
     "share/shardscrub/view/monitoring/nightly": (0o755, "view/monitoring/nightly"),
@@ -63,7 +61,7 @@ FIELDS = {
     "Architecture": "amd64",
     "Maintainer": "Tuzbelic maintainers <maintainers@users.noreply.tuzbelic.example>",
     "Recommends": "jq",
-    "Suggests": "gddrescue, parallel, sqlite3",
+    "Suggests": "gddrescue, parallel",
     "Section": "admin",
     "Priority": "optional",
 }

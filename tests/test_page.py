@@ -1,7 +1,7 @@
 """Tests view/report.html: what it says, lays out and refuses, under node; and in headless Chromium that it does so on the screen.
 
 The page judges nothing. So each verdict has to be the first line of summary, and each doubt, extent to reset and room a line of
-reclaimable; these are compared for many disks with lib/reference.py, and what is drawn with lib/picture.py. Pages with a planted
+reclaimable; these are compared for many disks with reference/shardscrub.py, and what is drawn with lib/page.py. Pages with a planted
 mistake are tried too, and each has to be found wrong. If the variable SHARDSCRUB_SCREENSHOTS names a folder, screenshots go there.
 """
 import json
@@ -11,14 +11,12 @@ import re
 import subprocess
 from itertools import combinations
 
-from lib import picture
-from lib.browser import Browser
+from lib import page
 from lib.cases import Case, add_tests
-from lib.page import DISKS, PAGE, file, script_in, text_of_page, value
-from lib.pictured import Pictured, disks, made_up_report, written
+from lib.examples import image_of, listed, summary_of
+from lib.page import (DISKS, PAGE, WRONG_PAGES, Browser, Pictured, disks, file, made_up_report, script_in, text_of_page, value,
+                      written)
 from lib.program import TOP, need, program
-from lib.summaries import image_of, listed, summary_of
-from lib.wrong_pages import WRONG_PAGES
 
 POLICY = ("default-src 'none'; script-src 'unsafe-inline'; style-src 'unsafe-inline'; connect-src 'self'; base-uri 'none'; "
           "form-action 'none'")
@@ -153,24 +151,24 @@ class Pictures(PageCase):
     """What is drawn of a disk is what its report and its outputs have."""
 
     def check_picture(self, what, drawn, report, outputs):
-        right = picture.pieces(report, outputs)
-        self.same(f"{what}: the pieces", [[[picture.KINDS[kind], start, stop] for kind, start, stop in some] for some in drawn["pieces"]], right)
+        right = page.pieces(report, outputs)
+        self.same(f"{what}: the pieces", [[[page.KINDS[kind], start, stop] for kind, start, stop in some] for some in drawn["pieces"]], right)
         self.same(f"{what}: the damage", dict(drawn["damage"]), {title: [[list(place) for place in places] for places in found]
-                                                                 for title, found in picture.damage(report, outputs).items()})
+                                                                 for title, found in page.damage(report, outputs).items()})
         tails = sum(one["tail"] > 0 for one in report["extents"])
         others = {title: count for title, count in (("Tails", tails), ("Doubtful shards", len(report["doubtful"]))) if count}
         self.same(f"{what}: tails and doubtful shards", dict(drawn["others"]), others)
-        self.same(f"{what}: the overview", [picture.CLASSES[one] for one in drawn["classes"]], picture.classes(report, outputs))
+        self.same(f"{what}: the overview", [page.CLASSES[one] for one in drawn["classes"]], page.classes(report, outputs))
         all_pieces = [(kind, stop - start) for some in right for kind, start, stop in some]
-        bytes_of = {name: [length for kind, length in all_pieces if kind == name] for name in picture.KINDS[1:]}
+        bytes_of = {name: [length for kind, length in all_pieces if kind == name] for name in page.KINDS[1:]}
         self.same(f"{what}: the kinds in the legend", [(kind, text.split(": ")[-1]) for kind, text in drawn["legend"] if kind > 0],
-                  [(kind, f"{len(some)}, {picture.short_size(sum(some))}") for kind, some in enumerate(bytes_of.values(), 1) if some])
+                  [(kind, f"{len(some)}, {page.short_size(sum(some))}") for kind, some in enumerate(bytes_of.values(), 1) if some])
         marks = self.marks(report, outputs)
         self.same(f"{what}: the rest of the legend", [text for kind, text in drawn["legend"] if kind < 0],
                   [f"{name}: {count}" for name, count in marks.items() if count])
         self.same(f"{what}: the legend of the overview", drawn["overview"],
-                  sorted({picture.CLASSES.index(one) for one in picture.classes(report, outputs)}))
-        lines = picture.lines_of(outputs, "reclaimable")
+                  sorted({page.CLASSES.index(one) for one in page.classes(report, outputs)}))
+        lines = page.lines_of(outputs, "reclaimable")
         rooms = {int(words[1]): dict(word=words[0], offset=int(words[2]), bytes=int(words[3]))
                  for words in lines if words[0] in ("room", "last-room")}
         listed_extents = {int(words[1]) for words in lines if words[0] == "reclaim"}
@@ -180,7 +178,7 @@ class Pictures(PageCase):
 
     def marks(self, report, outputs):
         """How many there are of what isn't a piece, by its name in the legend."""
-        sizes, words = report["geometry"], [line[0] for line in picture.lines_of(outputs, "reclaimable")]
+        sizes, words = report["geometry"], [line[0] for line in page.lines_of(outputs, "reclaimable")]
         on_disk = lambda name: sum(one["extent"] < sizes["extents"] and one["offset"] < sizes["page"] * sizes["pages"] for one in report[name])
         return {"extent not in the open files": len(report["retired"]) + ("superblocks" not in outputs),
                 "tail, from its first byte on": sum(one["tail"] > 0 for one in report["extents"]),
@@ -191,7 +189,7 @@ class Pictures(PageCase):
     def check_texts(self, what, drawn, report, outputs):
         """What is said of each item and mark, with the owners of live chunks and the spares of others."""
         owners, spares, shards, last = {}, {}, {}, None
-        for words in picture.lines_of(outputs, "locators"):
+        for words in page.lines_of(outputs, "locators"):
             if words[0] == "spare":
                 spares[int(words[1]), int(words[2])] = last
                 continue
@@ -200,7 +198,7 @@ class Pictures(PageCase):
                 shards.setdefault(last, []).append(int(words[4]))
             if words[6] == "sound":
                 owners.setdefault((int(words[2]), int(words[3])), []).append(last)
-        for extent, some in enumerate(picture.pieces(report, outputs)):
+        for extent, some in enumerate(page.pieces(report, outputs)):
             for (kind, start, stop), said in zip(some, drawn["said"][extent], strict=True):
                 item = f" {start} {stop}" if extent and kind not in ("lost", "noise") else ""
                 self.same(f"{what}: extent {extent}, {kind} at {start}", said[0].startswith(f"extent {extent}: ") and item in said[0], True)
@@ -225,15 +223,15 @@ class Pictures(PageCase):
             for (name, disk), drawn in zip(disks().items(), self.value(DRAWN, files=files), strict=True):
                 self.check_picture(f"{name} with {some}", drawn, disk.report, {output: disk.outputs[output] for output in some})
         reports = [(disk.report, disk.outputs) for disk in disks().values()]
-        self.same("the kinds that occur", {kind for pair in reports for some in picture.pieces(*pair) for kind, _, _ in some}, set(picture.KINDS[1:]))
-        self.same("the classes that occur", {one for pair in reports for one in picture.classes(*pair)}, set(picture.CLASSES))
+        self.same("the kinds that occur", {kind for pair in reports for some in page.pieces(*pair) for kind, _, _ in some}, set(page.KINDS[1:]))
+        self.same("the classes that occur", {one for pair in reports for one in page.classes(*pair)}, set(page.CLASSES))
 
     def test_search(self):
         """Each chunk is found by its UUID, and each shard by its identifier, also by their beginnings."""
         disk = disks()["made-up-17"]
         locators = [line.split() for line in disk.outputs["locators"].splitlines() if not line.startswith("spare")]
         for outputs in ([], ["locators"]):
-            wanted = {words[3] for _, words in picture.items_of(disk.report) if picture.is_chunk(words)}
+            wanted = {words[3] for _, words in page.items_of(disk.report) if page.is_chunk(words)}
             wanted |= {words[1] for words in locators if words[0] == "shard"} if outputs else {one["owner"][6:] for one in disk.report["dangling"]}
             texts = sorted(wanted)
             found = self.value(f"(() => {{ const picture = {PICTURE}; return texts.map((text) => ["
@@ -322,7 +320,7 @@ class Layout(PageCase):
                 return found; }}, last = rows.length - 1;
                 return [walk({{extent: 0, index: -1}}, 1), walk({{extent: last, index: rows[last].start.length}}, -1)]; }})()""",
                                 files=files_of("a", disks()[name], ["superblocks"]))
-            pieces = picture.pieces(disks()[name].report, disks()[name].outputs)
+            pieces = page.pieces(disks()[name].report, disks()[name].outputs)
             right = [[extent, start] for extent, some in enumerate(pieces) for _, start, _ in some]
             self.same(name, walked, [right, right[::-1]])
 

@@ -1,9 +1,10 @@
 """What single parts of the program find, on small images made by hand: which bytes a map lacks, records of any sizes, and what the
 pages of extent 0 hold. What is right was written by hand, from docs/FORMAT.md and docs/REPORT.md.
 """
-from lib import disks, failing_reads
+from lib import disks
 from lib.disks import fields, locator, record, record_head, run, shard, uuid, with_digest
-from lib.reference import answered
+from lib.system import FAILING_READS, run_failing
+from reference.shardscrub import answered
 from test_answers import SMALL, AnswerCase, abc, disk_with
 
 # The start of a map, before its blocks.
@@ -143,13 +144,13 @@ class Sizes(AnswerCase):
 
     def run_with(self, ranges, **limits):
         path = str(self.room / "disk.img")
-        (status, out, error), _ = failing_reads.run(self.program, ["sizes", path], self.library, path, 512, ranges, True, **limits)
+        (status, out, error), _ = run_failing(self.program, ["sizes", path], self.library, path, 512, ranges, True, **limits)
         return status, out.decode(), error
 
     @classmethod
     def setUpClass(cls):
         super().setUpClass()
-        cls.library = failing_reads.made(cls.room)
+        cls.library = FAILING_READS.made(cls.room)
 
     def test_each_record_has_its_own_sizes(self):
         self.given(FORMATTED_TWICE)

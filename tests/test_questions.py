@@ -4,7 +4,7 @@ import subprocess
 
 from lib.cases import Case
 from lib.examples import examples_of
-from lib.pictured import example_reports, written
+from lib.page import example_reports, written
 from lib.program import TOP, need
 
 # The filters with an argument, and what it may be; and those that read lines of locators.

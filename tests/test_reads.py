@@ -1,5 +1,5 @@
 """Images some of whose bytes can't be read. A page is lost just if a read of it alone fails: each answer has to be, byte for byte,
-the one on the same image with these pages named in the arguments, and that of lib/reference.py.
+the one on the same image with these pages named in the arguments, and that of reference/shardscrub.py.
 
 An image of 4 MiB or more is read by a thread for each processor, 256 KiB at once if it is large enough. If such a read fails, its
 pages are read again one by one. A page of 65,536 bytes may take several reads, each of which may fail.
@@ -8,10 +8,11 @@ import os
 import random
 from pathlib import Path
 
-from lib import disks, failing_reads
+from lib import disks
 from lib.cases import RoomCase, add_tests
 from lib.disks import DIGEST, HEAD, KIB, MIB, ROUND_SEALED, Disk, locator, sealed_frame, shard, uuid
-from lib.reference import answered
+from lib.system import FAILING_READS, run_failing
+from reference.shardscrub import answered
 
 BLOCK = 256 * KIB
 # With more processors than these no more threads load.
@@ -83,7 +84,7 @@ class FailingCase(RoomCase):
     @classmethod
     def setUpClass(cls):
         super().setUpClass()
-        cls.library = failing_reads.made(cls.room)
+        cls.library = FAILING_READS.made(cls.room)
 
     def named(self, image, pages, command):
         """The right answer: that of the reference on the image with these pages named. The program has to give it too, and another
@@ -95,7 +96,7 @@ class FailingCase(RoomCase):
         return right
 
     def answer(self, words, image, ranges, touched=False, processors=None, block=None, **limits):
-        return failing_reads.run(self.program, words, self.library, image.path, block or image.page, ranges, touched, processors,
+        return run_failing(self.program, words, self.library, image.path, block or image.page, ranges, touched, processors,
                                  **limits)
 
 
@@ -373,7 +374,7 @@ class Parted(RoomCase):
     @classmethod
     def setUpClass(cls):
         super().setUpClass()
-        cls.library = failing_reads.made(cls.room)
+        cls.library = FAILING_READS.made(cls.room)
 
     def image(self, page, pages, kind):
         """An image of four extents with bytes of a kind, but for what is around the payloads. The next runs are told its sizes."""
@@ -392,7 +393,7 @@ class Parted(RoomCase):
 
     def scan(self, *pages, ranges=(), **limits):
         words = ["scan", *self.sizes, self.path, *pages]
-        return failing_reads.run(self.program, words, self.library, self.path, self.page, ranges, True, **limits)
+        return run_failing(self.program, words, self.library, self.path, self.page, ranges, True, **limits)
 
     def right(self, *pages):
         return answered(["scan", *self.sizes, self.path, *pages])

@@ -1,6 +1,6 @@
 """Whole scrubs: the reports and indexes of worked disks, disks from files that are cut short or whose reads fail, and disks with more
 of one thing than in any example. What is right was written by hand, from docs/FORMAT.md and docs/REPORT.md; of the small disks
-lib/reference.py has to give the same.
+reference/shardscrub.py has to give the same.
 
 A body that answers out of memory for a long list meets every contract, so each list is made long by one of these disks.
 """
@@ -8,11 +8,12 @@ import json
 import os
 import struct
 
-from lib import failing_reads, worked
+from lib import worked
 from lib.cases import RoomCase
 from lib.disks import Disk, be, frame, geometry, locator, record, run, sealed_frame, shard, uuid, with_digest
-from lib.reference import answered
+from lib.system import FAILING_READS, run_failing
 from lib.worked import ONES, TWOS, abc, finish
+from reference.shardscrub import answered
 from test_answers import NO_SHARDS, ONE_SHARD
 from test_system import answer, written
 
@@ -180,17 +181,17 @@ class Loaded(RoomCase):
 
     def test_a_read_that_fails_makes_its_own_page_unreadable(self):
         """Either the first read of the page, or the second one, for the 24 bytes that the first one left."""
-        library = failing_reads.made(self.room)
+        library = FAILING_READS.made(self.room)
         for page in range(12):
             for begin in (64 * page, 64 * page + 40):
-                got, counts = failing_reads.run(self.program, self.scan, library, self.path, 64, [(begin, 64 * page + 64)], False)
+                got, counts = run_failing(self.program, self.scan, library, self.path, 64, [(begin, 64 * page + 64)], False)
                 self.same(f"from byte {begin}", got, self.without([page]))
                 self.true(f"from byte {begin}: a read fails", counts and counts.failed_short > 0, counts)
 
     def test_a_last_read_that_fails_is_no_fault(self):
         """It is that of a byte past the end of the disk."""
-        library = failing_reads.made(self.room)
-        got, counts = failing_reads.run(self.program, self.scan, library, self.path, 64, [(768, 769)], False)
+        library = FAILING_READS.made(self.room)
+        got, counts = run_failing(self.program, self.scan, library, self.path, 64, [(768, 769)], False)
         self.same("the report", got, (0, ONE_SHARD.encode(), b""))
         self.true("a read fails", counts and counts.failed_short > 0, counts)
 

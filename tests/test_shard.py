@@ -1,7 +1,7 @@
 """What `shard` writes of disks that are made by hand, and `shards` of all their shards.
 
 Right answers are written out here from what the command promises: the payloads of the shard's newest entry, in its order, each
-from the place of its locator, or else from its first spare. lib/reference.py has to give the same. Each disk is read with its
+from the place of its locator, or else from its first spare. reference/shardscrub.py has to give the same. Each disk is read with its
 sizes by several numbers of workers, and without the sizes if all its records have the same. The archive of all shards is read by
 Python's `tarfile`: it has the shard with the same bytes, and the error stream says the same of it.
 """
@@ -14,8 +14,8 @@ import tarfile
 from lib import worked
 from lib.cases import RoomCase
 from lib.disks import MIB, Disk, frame, geometry, locator, record, run, sealed_frame, shard, uuid
-from lib.reference import answered
 from lib.worked import FOURS, ONES, THREES, TWOS, abc, finish
+from reference.shardscrub import answered
 
 SECONDS = 60
 PAGE, PAGES, EXTENTS = 64, 16, 6

@@ -11,10 +11,10 @@ import time
 import unittest
 from pathlib import Path
 
-from lib import preloaded
 from lib.cases import RoomCase
-from lib.program import FASTER, GENERAL, TOP, V3_FLAGS, find, has_v3, need
-from lib.starting import TUNABLES, V2_FLAGS, processors, with_processor, write
+from lib.program import (FASTER, GENERAL, TOP, TUNABLES, V2_FLAGS, V3_FLAGS, find, has_v3, need, processors, with_processor,
+                         write)
+from lib.system import Library, run_with
 
 TOOLCHAIN = "rt of the tests"
 # It notes that it was called. As the command that builds a program, it makes one, and ends as on a processor without x86-64-v3. With
@@ -521,11 +521,11 @@ class Processor(RoomCase):
     """Each program looks for what it needs of the processor before anything else, and ends with 127 if something isn't there."""
 
     def check(self, name, cpu):
-        library = preloaded.made(self.room, "no-features", NO_FEATURES)
+        library = Library("no-features", NO_FEATURES).made(self.room)
         path = find(name)
         self.assertIsNotNone(path, f"there is no {name} of these sources: ./build or release/make makes it")
         for words in (["--version"], ["scan", "/nothing/here"]):
-            (status, out, error), _ = preloaded.run(path, words, library, {})
+            (status, out, error), _ = run_with(path, words, library, {})
             self.same(f"{path} {words[0]}", (status, out), (127, b""))
             self.true("it says what is missing", error.startswith(f"this machine lacks a feature of {cpu},".encode()), error)
 

@@ -2,7 +2,7 @@
 threads.
 
 No contract can say what a file gives or what a stream takes, so no proof can replace these tests. Answers on images have to be
-those of lib/reference.py. Tests that need `strace` or a loop device are skipped if there is none; that block devices are opened is
+those of reference/shardscrub.py. Tests that need `strace` or a loop device are skipped if there is none; that block devices are opened is
 tried without one, too.
 """
 import os
@@ -16,12 +16,12 @@ import tempfile
 from pathlib import Path
 from typing import NamedTuple
 
-from lib import disks, reference, told_kinds
+from lib import disks
 from lib.cases import RoomCase, add_tests
 from lib.disks import Disk, frame, geometry, locator, record, shard, uuid
 from lib.program import TOP, need, program
-from lib.reference import Image, answered, items, reclaimable, report_text, scrub, scrub_all, superblocks
-from lib.traces import need_traces, opened, state, suspects, traced
+from lib.system import TOLD_KINDS, need_traces, opened, run_told, state, suspects, traced
+from reference.shardscrub import Image, answered, broken_shards, items, read_map, scrub, shard_of, sizes
 
 SECONDS = 300
 MAP_SECONDS = 10
@@ -34,6 +34,8 @@ SHARD_1 = ["--id", f"{1:032}"]
 ON_IMAGE = (["scan", *SEVERAL], ["index", *SEVERAL], ["locators", *SEVERAL], ["superblocks", *SEVERAL], ["summary", *SEVERAL],
             ["manifest", *SEVERAL], ["reclaimable", *SEVERAL], ["items", *SEVERAL, "--extent", "3"],
             ["shard", *SEVERAL, *SHARD_1], ["shards", *SEVERAL], ["sizes"])
+# Commands that find the sizes if they are left out.
+UNSIZED = (["scan"], ["locators"], ["superblocks"], ["summary"], ["items", "--extent", "3"], ["shard", *SHARD_1], ["shards"])
 
 
 def answer(*words, **more):
@@ -66,48 +68,42 @@ def items_of(raw, p, n, e, extent, pointer):
     return listed(*items(Image(raw, p, n, e, []), extent, pointer))
 
 
-def shard_of(answers, name):
+def shard_answer(found, name):
     """The answer of `shard` by the reference."""
-    printed, wrong = answers.shard(bytes.fromhex(name))
+    printed, wrong = shard_of(found, bytes.fromhex(name))
     return (0, printed, b"") if wrong is None else (1, printed, f"shardscrub: {wrong}\n".encode())
 
 
-def some_shards(answers):
+def some_shards(found):
     """The first shard of a disk, the last one, one in the middle, a broken one, and one that isn't there."""
-    lines = map(str.split, answers.locators.splitlines())
-    named = sorted({words[1] for words in lines if words[0] == "shard"})
-    return {*named[:1], *named[-1:], *named[len(named) // 2:][:1], *answers.report["broken"][:1], "f" * 32}
+    named = list(found.shard_map)
+    some = [*named[:1], *named[-1:], *named[len(named) // 2:][:1], *broken_shards(found.checked)[:1]]
+    return {*(identifier.hex() for identifier in some), "f" * 32}
 
 
 def sizes_of(path, blocks=None):
     """The answer of `sizes` by the reference. It needs only the first 64 MiB."""
     with open(path, "rb") as file:
-        return listed(*reference.sizes(file.read(1 << 26), blocks))
+        return listed(*sizes(file.read(1 << 26), blocks))
 
 
 class DiskCase(RoomCase):
     def check_disk(self, path, p, n, e, workers=(0, 1, 3, 64)):
         """Compares all answers on a disk with those of the reference. Scans run with several numbers of workers."""
-        image = Image(Path(path).read_bytes(), p, n, e, [])
-        answers = scrub_all(image)
-        report, index, lines, status = answers.report, answers.index, answers.locators, 0 if answers.clean else 1
-        last = report["super"]["generation"] or 0
-        right = listed(*reclaimable(image, last=last))
-        for number in workers:
-            found = answer("reclaimable", "--last", str(last), *geometry(p, n, e), "--workers", str(number), path)
-            self.same(f"what may be reclaimed, with {number} workers", found, right)
-        self.same("superblocks", answer("superblocks", *geometry(p, n, e), path), listed(*superblocks(image)))
-        self.same("sizes", answer("sizes", path), sizes_of(path))
-        for number in workers:
-            found = answer("scan", *geometry(p, n, e), "--workers", str(number), path)
-            self.same(f"scan with {number} workers", found, (status, report_text(report), b""))
-        self.same("index", answer("index", *geometry(p, n, e), path), (status, index, b""))
-        self.same("locators", answer("locators", *geometry(p, n, e), path), (status, lines.encode(), b""))
-        for name in sorted(some_shards(answers)):
-            right = shard_of(answers, name)
+        found, words = scrub(Image(Path(path).read_bytes(), p, n, e, [])), [*geometry(p, n, e), str(path)]
+        last = str(found.choice["generation"] or 0)
+        for command, *own in (["reclaimable", "--last", last], ["scan"]):
+            right = answered([command, *own, *words])
             for number in workers:
-                found = answer("shard", *geometry(p, n, e), "--workers", str(number), "--id", name, path)
-                self.same(f"shard {name} with {number} workers", found, right)
+                self.same(f"{command} with {number} workers", answer(command, *own, *words, "--workers", str(number)), right)
+        for command in ("superblocks", "index", "locators"):
+            self.same(command, answer(command, *words), answered([command, *words]))
+        self.same("sizes", answer("sizes", path), sizes_of(path))
+        for name in sorted(some_shards(found)):
+            right = shard_answer(found, name)
+            for number in workers:
+                got = answer("shard", *words, "--workers", str(number), "--id", name)
+                self.same(f"shard {name} with {number} workers", got, right)
 
 
 class Files(DiskCase):
@@ -212,7 +208,7 @@ class Maps(RoomCase):
             self.same(command[0], answer(*command, *SMALL, "--map", path, ONE_SHARD), right)
             self.same(f"{command[0]}, and a pair", answer(*command, *SMALL, "--map", path, ONE_SHARD, "2:0"),
                       answer(*command, *SMALL, ONE_SHARD, *pairs, "2:0"))
-        self.same("sizes", answer("sizes", "--map", path, ONE_SHARD), sizes_of(ONE_SHARD, reference.read_map(form)))
+        self.same("sizes", answer("sizes", "--map", path, ONE_SHARD), sizes_of(ONE_SHARD, read_map(form)))
 
     def test_a_map(self):
         self.check_form(self.TEXT)
@@ -220,7 +216,7 @@ class Maps(RoomCase):
     def test_a_file_that_ends_within_a_block(self):
         """For `sizes` only bytes before the end of the file count. It has 768 bytes."""
         for text in (b"0 +\n0 768 +\n", b"0 +\n0 767 +\n", b"0 +\n0 768 +\n768 64 -\n", b"0 +\n0 767 +\n768 64 +\n"):
-            right = sizes_of(ONE_SHARD, reference.read_map(text))
+            right = sizes_of(ONE_SHARD, read_map(text))
             self.same(f"{text!r}", answer("sizes", "--map", self.given_map(text), ONE_SHARD), right)
 
     def test_carriage_returns(self):
@@ -418,8 +414,8 @@ class Words(RoomCase):
 
     def test_twelve_pairs(self):
         pairs = [(x, g) for x in range(3) for g in range(4)]
-        report, _, _, _ = scrub(Image(Path(ONE_SHARD).read_bytes(), 64, 4, 3, pairs))
-        self.same("scan", answer("scan", *SMALL, ONE_SHARD, *(f"{x}:{g}" for x, g in pairs)), (1, report_text(report), b""))
+        words = ["scan", *SMALL, ONE_SHARD, *(f"{x}:{g}" for x, g in pairs)]
+        self.same("scan", answer(*words), answered(words))
 
     def test_names_of_images(self):
         """The program gets all arguments as they were typed, and names in UTF-8 of any kind."""
@@ -604,7 +600,8 @@ class Calls(RoomCase):
         self.addCleanup(folder.cleanup)
         kept = folder.name
         raw = SEVERAL_IMAGE.read_bytes()
-        for name, text in [("image", raw), ("longer", raw + b"\0"), ("map", b"0 ?\n0 5000 +\n"), ("no-map", b"0 ?\n0 1 x\n")]:
+        for name, text in [("image", raw), ("longer", raw + b"\0"), ("map", b"0 ?\n0 5000 +\n"), ("no-map", b"0 ?\n0 1 x\n"),
+                           ("whole", f"0 ?\n0 {len(raw)} +\n".encode())]:
             Path(kept, name).write_bytes(text)
         for words, files in runs:
             for stream in (subprocess.PIPE, "/dev/full"):
@@ -634,6 +631,15 @@ class Calls(RoomCase):
                 runs.append(([*command, *given, before, after], [*given[1:], *files]))
         self.check_changes_nothing([*runs, ([*command, "--map", "no-map", "image", "image"], ["no-map"])])
 
+    def check_left_out(self, command):
+        """Sizes that are left out are found in the same files from which the pages are loaded: map and image are opened once. So it is
+        if the image is too long, if no sizes are found in it, because the map lacks bytes or there is no record, or if a page is refused
+        once they are found."""
+        runs = [([*command, *given, name, *pages], [*given[1:], name])
+                for given in ([], ["--map", "whole"], ["--map", "map"]) for name in ("image", "longer", "whole")
+                for pages in ([], ["2:1"], ["9:9"])]
+        self.check_changes_nothing([*runs, ([*command, "--map", "no-map", "image"], ["no-map"]), ([*command, "--map", "map", "nothing"], ["map"])])
+
     def check_command(self, command):
         runs = []
         for given in ([], ["--map", "map"]):
@@ -643,6 +649,7 @@ class Calls(RoomCase):
 
 
 add_tests(Calls, Calls.check_command, [(f"{command[0]} changes nothing", command) for command in ON_IMAGE])
+add_tests(Calls, Calls.check_left_out, [(f"{command[0]} opens each file once", command) for command in UNSIZED])
 
 
 class Threads(RoomCase):
@@ -759,14 +766,14 @@ class ToldDevices(RoomCase):
     @classmethod
     def setUpClass(cls):
         super().setUpClass()
-        cls.library = told_kinds.made(cls.room)
+        cls.library = TOLD_KINDS.made(cls.room)
         cls.image, cls.map_file = str(cls.room / "image"), str(cls.room / "map")
         Path(cls.image).write_bytes(SEVERAL_IMAGE.read_bytes())
         Path(cls.map_file).write_bytes(b"0 ?\n0 4096 +\n4096 512 -\n")
 
     def told(self, kind, words, *files):
         """The answer of a run in which these files are told to be of this kind."""
-        got, count = told_kinds.run(self.program, words, self.library, kind, *files)
+        got, count = run_told(self.program, words, self.library, kind, *files)
         self.true(f"{' '.join(words)}: each file is told to be of the kind", count >= len(files), count)
         return got
 

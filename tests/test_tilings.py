@@ -4,11 +4,11 @@ with the slow reference, and the tails with lines written by hand from docs/FORM
 import json
 
 from lib.cases import RoomCase
-from lib.disks import (CLOSING_MARK, DIGEST, MAGIC, ROUND_PAYLOAD, ROUND_SEALED, SEALED_MAGIC, Disk, be, frame, head, record_head,
-                       sealed_frame, uuid)
-from lib.reference import answered
-from lib.worked import (ENDS_IN_MAGIC, ONES, THREES, TWOS, abc, broken_newest_run, deleted_in_the_newest_run, finish, many_shards,
+from lib.disks import (CLOSING_MARK, DIGEST, MAGIC, ROUND_PAYLOAD, ROUND_SEALED, SEALED_MAGIC, Disk, be, frame, head,
+                       record_head, sealed_frame, uuid)
+from lib.worked import (ENDS_IN_MAGIC, ONES, THREES, TWOS, broken_newest_run, deleted_in_the_newest_run, finish, many_shards,
                         nine_locators, one_shard, overwritten_end, past_the_pointer, put_run, second_of_two, two_superblocks)
+from reference.shardscrub import answered
 from test_system import answer
 
 RUN = uuid(0xAA)

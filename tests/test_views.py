@@ -1,4 +1,4 @@
-"""Tries view/metrics, view/row and view/fleet.sql, and compares what they give with what lib/reference.py says of the same disks."""
+"""Tries view/metrics and view/row, and compares what they give with what reference/shardscrub.py says of the same disks."""
 import json
 import os
 import re
@@ -6,17 +6,14 @@ import subprocess
 from collections import Counter
 
 from lib.cases import RoomCase
-from lib.disks import Disk, geometry, run, shard, uuid
+from lib.disks import geometry
+from lib.examples import check_line, examples, listed, made_up, summary_of
 from lib.program import TOP, need
-from lib.schema import check_line
-from lib.summaries import examples, line_of, listed, made_up, summary_of
 
 METRICS, ROW = TOP / "view/metrics", TOP / "view/row"
 VERDICTS = {"sound": "0", "doubt": "1", "wrong": "2"}
 # Names of disks that need care in a label, in JSON, or as an argument.
 NAMES = ("sda", "a disk", 'say "a"', "back\\slash", "two\nlines", "\\n", '\\"', "%s%d", "&", "{disk=", "-v", "Größe", "'", "\t", "\\")
-# The numbers of a summary that the table of the disks has, in its order.
-NUMBERS = ("superblock_tie", "runs_lost", "shards", "shards_broken", "unreadable_pages", "candidate_bytes")
 # What the program's own line says if it doesn't find the sizes.
 NO_SIZES = "shardscrub: sizes not found: run shardscrub sizes"
 
@@ -276,135 +273,3 @@ class Rows(RowCase):
         need("flock")
         done = subprocess.run(["flock", ROW, "timeout", "1", ROW, "scan", "a disk"], capture_output=True, stdin=subprocess.DEVNULL)
         self.same("status and output", (done.returncode, done.stdout), (124, b""))
-
-
-class Fleet(RowCase):
-    """The database of the rows of many disks."""
-
-    @classmethod
-    def setUpClass(cls):
-        need("sqlite3")
-        super().setUpClass()
-        cls.lines, one = listed() + cls.made_up, cls()
-        cls.of = {command: one.rows(command, cls.lines) for command in ("summary", "scan", "reclaimable")}
-        cls.answers = {line.split("\t")[0]: summary_of(line) for line in cls.lines if line.split("\t")[0] not in ("missing", "failing")}
-
-    def made(self, *rows):
-        """The status and the error stream of making a database of these rows."""
-        self.path = self.room / "fleet.db"
-        self.path.unlink(missing_ok=True)
-        done = subprocess.run(["sqlite3", self.path, ".read view/fleet.sql"], cwd=TOP, input="".join(rows), capture_output=True,
-                              encoding="utf-8")
-        return done.returncode, done.stderr
-
-    def asked(self, question):
-        """The rows of an answer, with numbers and texts as SQLite has them."""
-        done = subprocess.run(["sqlite3", "-json", self.path, question], capture_output=True, encoding="utf-8")
-        self.same(question, (done.returncode, done.stderr), (0, ""))
-        return [tuple(row.values()) for row in json.loads(done.stdout or "[]")]
-
-    def wanted_disks(self, has_verdict):
-        """What the table of the disks has to say of each disk with an answer, by the reference."""
-        rows = {}
-        for name, summary in self.answers.items():
-            generation = summary["superblock_generation"] if summary["superblocks"] != "0" else "null"
-            numbers = [int(summary[key]) for key in NUMBERS]
-            is_known = has_verdict or summary["verdict"] == "wrong"
-            rows[name] = (summary["verdict"] if is_known else None, generation, *numbers)
-        return rows
-
-    def check_disks(self, what, has_verdict):
-        columns = "verdict, generation, tie, lost, shards, broken, unreadable, candidates"
-        found = self.asked(f"SELECT disk, {columns} FROM disks WHERE status < 2")
-        wanted = self.wanted_disks(has_verdict)
-        self.same(f"{what}: disks", sorted(name for name, *_ in found), sorted(wanted))
-        for name, *numbers in found:
-            self.same(f"{what}: {name}", tuple(numbers), wanted[name])
-        unanswered = self.asked(f"SELECT disk, status, {columns} FROM disks WHERE status > 1")
-        self.same(f"{what}: unanswered", sorted(unanswered), [("failing", 2) + (None,) * 8, ("missing", 3) + (None,) * 8])
-        self.check_ranks(what, wanted)
-
-    def check_ranks(self, what, disks):
-        """The disks are in the order that READING gives."""
-        verdicts = ["wrong", "doubt", None, "sound"]
-
-        def order(name):
-            verdict, _, tie, lost, shards, broken, unreadable, _ = disks[name]
-            return verdicts.index(verdict), shards > 0, -tie, -lost, -broken, -unreadable, name
-
-        ranks = self.asked("SELECT rank, disk FROM worst ORDER BY rank")
-        self.same(f"{what}: ranks", ranks, list(enumerate(["failing", "missing", *sorted(disks, key=order)], 1)))
-
-    def test_disks_that_may_lack_shards_come_before_sound_ones(self):
-        """Those without a superblock, with a tie, with a lost run, and without a known shard; also by rows of scan."""
-        entry, tied, empty = shard(1), Disk(4, 3), Disk(4, 3)
-        run_of_tied = tied.chunk(2, 0, uuid(2), run((entry, [tied.chunk(1, 0, uuid(1), b"abc")])))
-        for page in (0, 2):
-            tied.superblock(page, 7, run_of_tied)
-        empty.superblock(0, 1)
-        lines = [line for line in self.lines if line.split("\t")[0] in ("one-shard", "lost-run", "no-superblock")]
-        for name, disk in (("tie", tied), ("without shards", empty)):
-            (self.room / name).write_bytes(disk.bytes)
-            lines.append(line_of(name, self.room / name, (disk.page, disk.pages, disk.extents)))
-        lines += [lines[0].replace("one-shard", f"a sound one {number}", 1) for number in range(3)]
-        for command in ("summary", "scan"):
-            self.same("status", self.made(*self.rows(command, lines)), (0, ""))
-            ranked = [name for name, in self.asked("SELECT disk FROM worst ORDER BY rank")]
-            sound = [*(f"a sound one {number}" for number in range(3)), "one-shard"]
-            self.same(command, ranked, ["no-superblock", "tie", "lost-run", "without shards", *sound])
-
-    def test_rows_of_summary(self):
-        self.same("status", self.made(*self.of["summary"], *self.of["reclaimable"]), (0, ""))
-        self.check_disks("summary", True)
-        nameless = [(name, None) for name, summary in self.answers.items() if summary["shards_broken"] != "0"]
-        self.true("disks with broken shards", len(nameless) > 2, nameless)
-        self.same("broken shards", sorted(self.asked("SELECT disk, shard FROM broken")), sorted(nameless))
-
-    def test_rows_of_scan(self):
-        self.same("status", self.made(*self.of["scan"], *self.of["reclaimable"]), (0, ""))
-        self.check_disks("scan", False)
-        broken = [(row["disk"], shard) for row in map(json.loads, self.of["scan"]) for shard in row.get("broken", [])]
-        self.same("broken shards", sorted(self.asked("SELECT disk, shard FROM broken")), sorted(broken))
-
-    def test_both(self):
-        """Rows of scan stand in the place of those of summary where shards are broken, as in READING."""
-        takes_scan = [self.answers.get(line.split("\t")[0], {"shards_broken": "0"})["shards_broken"] != "0" for line in self.lines]
-        rows = [scan if is_taken else summary for is_taken, scan, summary in zip(takes_scan, self.of["scan"], self.of["summary"])]
-        self.same("status", self.made(*rows, *self.of["reclaimable"]), (0, ""))
-        self.check_disks("both", True)
-        broken = [(row["disk"], shard) for row in map(json.loads, self.of["scan"]) for shard in row.get("broken", [])]
-        self.same("broken shards", sorted(self.asked("SELECT disk, shard FROM broken")), sorted(broken))
-
-    def test_what_may_be_gained(self):
-        self.made(*self.of["summary"], *self.of["reclaimable"])
-        gains, doubts = [], []
-        for row in map(json.loads, self.of["reclaimable"]):
-            name, lines = row["disk"], row["lines"]
-            if lines is None:
-                gains.append((name, None))
-                doubts.append((name, "unanswered", row["text"]))
-            else:
-                gains.append((name, sum(int(line[2]) for line in lines if line[0] == "reclaim")))
-                doubts += [(name, line[1], " ".join(line[2:])) for line in lines if line[0] == "doubt"]
-        self.same("gains", sorted(self.asked("SELECT disk, gain FROM reclaimable"), key=str), sorted(gains, key=str))
-        self.same("doubts", sorted(self.asked("SELECT disk, kind, words FROM doubts")), sorted(doubts))
-
-    def test_a_disk_without_a_row_of_reclaimable(self):
-        self.same("status", self.made(self.of["summary"][0]), (0, ""))
-        self.same("doubts", self.asked("SELECT disk, kind, words FROM doubts"), [("one-shard", "unanswered", "")])
-
-    def test_refused(self):
-        """The database then stays empty."""
-        summary, scan, reclaimable = (self.of[command][0] for command in ("summary", "scan", "reclaimable"))
-        wrong = {"no row": "x\n", "a row of summary that is cut short": summary[:-9], "a row of scan that is cut short": scan[:-9],
-                 "a row of reclaimable that is cut short": reclaimable[:-4], "two rows of summary": summary * 2,
-                 "a row of summary and one of scan": summary + scan, "two rows of reclaimable": summary + reclaimable * 2,
-                 "two rows without an answer": '{"disk":"a","status":2,"text":""}\n' * 2,
-                 "an answer with a status of none": summary.replace('"status":0', '"status":2'),
-                 "no answer with a status of one": '{"disk":"a","status":0,"text":""}\n'}
-        for key in ("disk", "status", "text", "superblock_generation", *NUMBERS):
-            wrong[f"no {key}"] = json.dumps({name: value for name, value in json.loads(summary).items() if name != key}) + "\n"
-        for what, rows in wrong.items():
-            status, error = self.made(self.of["summary"][1], rows)
-            self.true(f"{what}: status and error stream", status == 1 and error, (status, error))
-            self.same(f"{what}: tables", self.asked("SELECT name FROM sqlite_schema"), [])

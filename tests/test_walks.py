@@ -1,6 +1,6 @@
 """What follows from the statuses of locators, and index runs as threads read them, on small disks made by hand.
 
-Each disk is asked whole, and with each of its pages unreadable in turn. The right answers are those of lib/reference.py: plain walks
+Each disk is asked whole, and with each of its pages unreadable in turn. The right answers are those of reference/shardscrub.py: plain walks
 over all chunks and all named locators, and a dictionary that the runs are put into, newest first. States of runs, and what is said of
 a chunk with many owners, were written by hand.
 """
@@ -8,11 +8,12 @@ import json
 import os
 from functools import partial
 
-from lib import allocations, worked
+from lib import worked
 from lib.cases import RoomCase, add_tests
 from lib.disks import Disk, locator, run, shard
-from lib.reference import Image, report_text, scrub_all
+from lib.system import ALLOCATIONS, run_counted
 from lib.worked import ONES, TWOS, abc, finish, one_shard
+from reference.shardscrub import Image, index, locators, manifest, scan
 from test_system import answer
 
 
@@ -78,12 +79,11 @@ class WalkCase(RoomCase):
     def check_commands(self, what, disk, words, unreadable, **more):
         """Compares what is printed with the reference."""
         pages = [tuple(map(int, pair.split(":"))) for pair in unreadable]
-        right = scrub_all(Image(disk.bytes, disk.page, disk.pages, disk.extents, pages))
-        status, report = int(not right.clean), report_text(right.report)
-        for command, wanted in ((("scan", "--workers", "0"), (status, report)), (("scan", "--workers", "3"), (status, report)),
-                                (("locators",), (status, right.locators.encode())), (("index",), (status, right.index)),
-                                (("manifest",), (int(not right.whole), right.manifest.encode()))):
-            self.same(f"{' '.join(command)}, {what}", answer(*command, *words, *unreadable, **more), (*wanted, b""))
+        image = Image(disk.bytes, disk.page, disk.pages, disk.extents, pages)
+        for call, *own in ((scan, "--workers", "0"), (scan, "--workers", "3"), (locators,), (index,), (manifest,)):
+            printed, is_good = call(image)
+            wanted = int(not is_good), printed if isinstance(printed, bytes) else printed.encode(), b""
+            self.same(f"{call.__name__} {' '.join(own)}, {what}", answer(call.__name__, *own, *words, *unreadable, **more), wanted)
 
 
 class Walks(WalkCase):
@@ -166,10 +166,10 @@ class Runs(WalkCase):
 
     def test_several_threads_read_32_runs(self):
         """Nothing else in this command starts threads, since no locator of the shard has a place to look at."""
-        library = allocations.made(self.room)
+        library = ALLOCATIONS.made(self.room)
         _, words, _ = self.put(runs_in_a_row(False))
         for processors in self.processors:
-            _, found = allocations.run(self.program, ["locators", "--workers", "0", *words], library, processors=processors)
+            _, found = run_counted(self.program, ["locators", "--workers", "0", *words], library, processors=processors)
             is_right = found is not None and (found.threads > 0) == (len(processors) > 1)
             self.true(f"{len(processors)} processors", is_right, found)
 

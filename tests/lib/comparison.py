@@ -2,18 +2,91 @@
 manifests with resets, superblocks, items, what may be reclaimed, sizes, bytes of one shard and of all, and the status and error stream of each;
 with the sizes and, where they may be left out, without them; with right and wrong generations for --last. Some disks have a map of
 GNU ddrescue, and some of these maps are refused. Some texts to accept, extents, pointers and identifiers are refused, too. What
-`shard` prints also has to agree with what the program prints by `manifest` and `scan`."""
+`shard` prints also has to agree with what the program prints by `manifest` and `scan`. On made-up pairs of images it compares `compare`."""
 import json
 import os
 import random
 import subprocess
 from collections import Counter
+from hashlib import sha256
+from types import SimpleNamespace
 from typing import NamedTuple
 
-from lib.agreement import EMPTY, Listed
 from lib.disks import geometry
-from lib.made_up import Made, Tended
-from lib.reference import ACCEPTABLE, answered, choose, disk_of, frame_at, read_arguments, read_run, refusal, scrub
+from lib.made_up import Made, Tended, made_pair
+from reference.shardscrub import ACCEPTABLE, answered, choose, disk_of, read_arguments, refusal, scrub
+
+
+# What shard prints, beside the manifest and the report. The reference has no part in it
+
+# Where the payload of a chunk begins in its frame.
+BEGINS = {"chunk": 22, "sealed": 54}
+DOUBT = b"shardscrub: a newer entry may be lost\n"
+NONE = b"shardscrub: no such shard\n"
+# The length and the digest of no bytes.
+EMPTY = "0", sha256(b"").hexdigest()
+
+
+class Locator(NamedTuple):
+    """A locator of a shard, as the manifest has it: its number in the entry, the length and the digest of the payload, and
+    whether it dangles without a spare, and asks for bytes."""
+    number: str
+    length: int
+    digest: str
+    is_lost: bool
+
+
+class Listed:
+    """What the program printed of a disk: its manifest and its report. `raw` has the bytes of the image."""
+
+    def __init__(self, raw, manifest, report):
+        self.raw, self.report, self.shards = raw, json.loads(report), {}
+        for words in map(str.split, manifest.decode().splitlines()):
+            if words[0] == "shard":
+                _, identifier, number, length, digest, *rest = words
+                of_shard = self.shards.setdefault(identifier, [])
+                of_shard.append(Locator(number, int(length), digest, rest[-1] == "none" and (length, digest) != EMPTY))
+
+    def payloads(self):
+        """The payload of each chunk in the items."""
+        size = self.report["geometry"]["page"] * self.report["geometry"]["pages"]
+        for row in self.report["extents"]:
+            for kind, start, _, *rest in map(str.split, row["items"]):
+                if kind in BEGINS:
+                    begin = row["extent"] * size + int(start) + BEGINS[kind]
+                    yield self.raw[begin:begin + int(rest[1])]
+
+    def laws(self, identifier, answer):
+        """For the answer of `shard` with this identifier, each law that it has to keep, and whether it does."""
+        status, printed, error = answer
+        locators = self.shards.get(identifier, [])
+        lost = [locator for locator in locators if locator.is_lost]
+        yield "there is no such shard just if the manifest has none", (error == NONE) == (locators == [])
+        yield "a payload is lost just if the manifest says so", error.startswith(b"shardscrub: payload lost: ") == (lost != [])
+        if locators and not lost:
+            yield from self.laws_of_bytes(locators, printed)
+            yield "a newer entry may be lost just if the report says so", (error == DOUBT) == (identifier in self.report["doubtful"])
+            yield "the status is 1 just if something is said", (status, error) in ((0, b""), (1, DOUBT))
+        else:
+            yield "the status is 1, and nothing is written", (status, printed) == (1, b"")
+        if lost:
+            first = lost[0]
+            yield "the number is that of the first lost payload", error == f"shardscrub: payload lost: {first.number}\n".encode()
+            yield "no chunk has the lost payload", not any(
+                len(payload) == first.length and sha256(payload).hexdigest() == first.digest for payload in self.payloads())
+
+    def laws_of_bytes(self, locators, printed):
+        """The bytes are payloads with the lengths and the digests of the manifest, one directly after another."""
+        begin = 0
+        for locator in locators:
+            payload = printed[begin:begin + locator.length]
+            yield f"payload {locator.number} has its length and digest", (
+                len(payload) == locator.length and sha256(payload).hexdigest() == locator.digest)
+            begin += locator.length
+        yield "nothing comes after the last payload", len(printed) == begin
+
+
+# Disks
 
 COMMANDS = ("scan", "index", "summary", "locators", "shards", "superblocks", "manifest", "reclaimable", "sizes", "items", "shard")
 # Those for which the sizes may be left out, except `items` and `shard`, which need more.
@@ -108,7 +181,7 @@ class MadeUp(NamedTuple):
         return disk_of(read_arguments(["scan", *self.sizes, self.image, *self.pairs]))
 
     def named(self):
-        """The identifiers of the known shards, rising."""
+        """The identifiers of the known shards, ascending."""
         lines = map(str.split, self.answer("locators")[1].decode().splitlines())
         return sorted({words[1] for words in lines if words[0] == "shard"})
 
@@ -191,13 +264,10 @@ def kinds_of_shard(listed, identifier, error, deleted):
 
 def deleted_on(disk):
     """The identifiers of the shards whose newest entry has no locator."""
-    image = disk_of(read_arguments(["scan", *disk.shared()]))
-    chosen, newest = choose(image), {}
-    for c, row in zip(chosen["runs"], scrub(image)[0]["runs"]):
-        if row["state"] == "read":
-            payload = frame_at(image, c["extent"], chosen["pointers"][c["extent"] - 1], c["offset"])[3]
-            for identifier, locators in read_run(payload):
-                newest.setdefault(identifier.hex(), locators)
+    newest = {}
+    for one in scrub(disk_of(read_arguments(["scan", *disk.shared()]))).runs:
+        for identifier, locators in one.entries or []:
+            newest.setdefault(identifier.hex(), locators)
     return {identifier for identifier, locators in newest.items() if not locators}
 
 
@@ -295,3 +365,59 @@ def compared(seed, turn, folder):
     if status != 2:
         count(seen, json.loads(report), disk, given)
     return Comparison(bytes(made.raw), given, seen)
+
+
+# Pairs
+
+def kind_of_change(line):
+    """What is counted of a line: its first words, and of a manifest's line its status."""
+    words = line.split()
+    if words[0] == "doubt":
+        return " ".join(words[:3])
+    if words[0] == "named":
+        return f"named {words[1]} {words[-1]}"
+    if words[0] in ("lost", "new", "spare"):
+        return " ".join([*words[:2], *words[6:7]])
+    return f"{words[0]} 0" if words[:2] == ["written", "0"] else words[0]
+
+
+class ComparedPair(NamedTuple):
+    """A made-up pair in a folder: the calls to compare, and what was written with the kinds of lines in the right answers."""
+    calls: list
+    seen: Counter
+
+    def laws(self, found):
+        return ()
+
+
+def words_of_pair(choice, pair, folder):
+    """Writes the files of a pair, and a map for some; the words of each call."""
+    names = [os.path.join(folder, name) for name in ("before", "after", "map")]
+    texts = [pair.before.raw, pair.after.raw]
+    is_mapped = choice.random() < .1
+    if is_mapped:
+        texts.append(Made.map(SimpleNamespace(c=choice, raw=pair.before.raw, p=pair.before.page)))
+    for name, text in zip(names, texts):
+        with open(name, "wb") as file:
+            file.write(text)
+    before, after, map_file = names
+    own = ["compare", *geometry(pair.before.page, pair.before.pages, pair.before.extents), *["--map", map_file] * is_mapped]
+    pages = [f"{e}:{g}" for e, g in sorted(pair.before.unreadable)]
+    others = [choice.randrange(0 if choice.random() < .02 else 1, pair.before.extents) for _ in range(choice.choice([1, 2]))]
+    for resets, first, second in ((pair.resets, before, after), (others, before, after), (pair.resets, after, before),
+                                  (pair.resets, after, after)):
+        yield [*own, "--workers", choice.choice("03"), *option("--reset", resets), first, second, *pages]
+
+
+def compared_pair(seed, turn, folder):
+    """Makes up the pair of this seed and turn, and writes its files into this folder."""
+    choice = random.Random(f"{seed} {turn}")
+    pair = made_pair(choice)
+    calls = [Call("compare", words, answered(words), None) for words in words_of_pair(choice, pair, folder)]
+    seen = Counter(f"compare: written: {kind}" for kind in pair.written)
+    for number, call in enumerate(calls):
+        seen[f"compare: status {call.right[0]}"] += 1
+        if number == 0:
+            seen[f"compare: status {call.right[0]} of the pair as it was written"] += 1
+        seen.update({f"compare: {kind_of_change(line)}" for line in call.right[1].decode().splitlines()})
+    return ComparedPair(calls, seen)

@@ -1,6 +1,6 @@
 """Writes locators, frames, index runs, superblocks and disks, as docs/FORMAT.md lays them out.
 
-It knows only the layout of bytes. reference.py judges them, and the two share no code.
+It knows only the layout of bytes. reference/shardscrub.py judges them, and the two share no code.
 """
 import os
 import random
@@ -64,7 +64,7 @@ def locator(extent, offset, name, payload):
 # Runs and superblocks
 
 def run(*entries):
-    """The payload of an index run. The entries are pairs of an identifier and a list of locators, by rising identifier."""
+    """The payload of an index run. The entries are pairs of an identifier and a list of locators, by ascending identifier."""
     text = (identifier + be(1, len(locators)) + b"".join(locators) for identifier, locators in entries)
     return with_digest(b"RUN1" + be(4, len(entries)) + b"".join(text))
 

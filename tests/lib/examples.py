@@ -1,24 +1,41 @@
-"""The examples of five pages: examples/README.md, README.md, docs/READING.md, docs/RECLAIMING.md and the man page, in this order. An
-example is a line in a block that begins with "$ ". The lines up to the next such line or the end of the block are its output, on both
-streams. `sh` runs the line.
+"""The examples of five pages, the disks of examples/ and of made-up lists, and the schema of reports and rows.
+
+The pages are examples/README.md, README.md, docs/READING.md, docs/RECLAIMING.md and the man page, in this order. An example is a line
+in a block that begins with "$ ". The lines up to the next such line or the end of the block are its output, on both streams. `sh` runs
+the line.
 
 Some examples use files that earlier ones wrote. So an example that is run alone runs those before it, too. All run in a copy of the
 folders, whose ./shardscrub is a script of the test. Each has a shell of its own; what an example NAME=$(mktemp -d) sets stays set.
 """
+import json
 import os
+import random
 import re
 import shlex
 import shutil
 import subprocess
 import tempfile
+import unittest
+from functools import cache
 from pathlib import Path
 from typing import NamedTuple
 
-from lib.program import TOP
+from lib.disks import Disk, run, shard, uuid
+from lib.made_up import Made, Tended
+from lib.program import TOP, absent
+from reference.shardscrub import Image, lost_by_map, read_map, sizes, summary
+
+try:
+    from jsonschema import Draft202012Validator
+except ImportError:
+    Draft202012Validator = None
+
+
+# The examples of the pages
 
 PAGES = {"Examples": "examples/README.md", "Readme": "README.md", "Reading": "docs/READING.md",
          "Reclaiming": "docs/RECLAIMING.md", "Manual": "docs/shardscrub.1"}
-TOOLS = {"jq": r"jq|rows?", **{tool: tool for tool in ("ddrescue", "parallel", "python3", "sqlite3")}}
+TOOLS = {"jq": r"jq|rows?", **{tool: tool for tool in ("ddrescue", "parallel", "python3")}}
 
 
 class Example(NamedTuple):
@@ -120,3 +137,114 @@ class Transcript:
                            stderr=subprocess.STDOUT)
             out.seek(0)
             return out.read().decode("utf-8", "replace")
+
+
+# Disks of a list, as view/row takes them
+
+MADE_UP = 24
+# The greatest number that a generation may be, and two that floating point can't tell apart.
+GREAT = (2 ** 64 - 1, 2 ** 53, 2 ** 53 + 1)
+
+
+def line_of(name, image, geometry=("-", "-", "-"), blocks="-", lost=()):
+    """A disk's line in the list."""
+    pairs = " ".join(f"{extent}:{page}" for extent, page in lost) or "-"
+    return "\t".join([name, str(image), *map(str, geometry), blocks, pairs])
+
+
+def listed():
+    return (TOP / "examples/disks.tsv").read_text(encoding="utf-8").splitlines()
+
+
+def examples():
+    """Each image of the examples; its sizes are those of its records."""
+    return [line_of(path.name, f"examples/{path.name}") for path in sorted((TOP / "examples").glob("*.img"))]
+
+
+def made_up(folder):
+    """Made-up disks, the first of them with great generations."""
+    for generation in GREAT:
+        disk = Disk(4, 3)
+        entry = shard(1), [disk.chunk(1, 0, uuid(1), b"abc")]
+        disk.superblock(0, generation, disk.chunk(2, 0, uuid(2), run(entry)))
+        image = folder / f"generation-{generation}"
+        image.write_bytes(disk.bytes)
+        yield line_of(image.name, image, (disk.page, disk.pages, disk.extents))
+    for seed in range(MADE_UP):
+        made = (Tended if seed % 2 == 0 else Made)(random.Random(seed))
+        lost = made.make()
+        image = folder / f"made-up-{seed}"
+        image.write_bytes(made.raw)
+        yield line_of(image.name, image, (made.p, made.n, made.e), lost=lost)
+
+
+def geometry_of(raw, geometry, blocks):
+    """The three sizes; if they are left out, those of the records, or None if `sizes` isn't sure of them."""
+    if geometry != ["-"] * 3:
+        return tuple(map(int, geometry))
+    lines, is_sure = sizes(raw, blocks)
+    return tuple(map(int, lines.split()[3:6])) if is_sure else None
+
+
+def image_of(line):
+    """The image of the disk of this line, or None if its sizes aren't found."""
+    _, image, *geometry, map_file, lost = line.split("\t")
+    raw = (TOP / image).read_bytes()
+    blocks = read_map((TOP / map_file).read_bytes()) if map_file != "-" else None
+    geometry = geometry_of(raw, geometry, blocks)
+    if geometry is None:
+        return None
+    page, pages, extents = geometry
+    unreadable = [tuple(map(int, pair.split(":"))) for pair in lost.split() if pair != "-"]
+    if blocks is not None:
+        unreadable += [divmod(number, pages) for number in lost_by_map(blocks, page, pages * extents)]
+    return Image(raw, page, pages, extents, unreadable)
+
+
+def summary_of(line):
+    """The verdict and the numbers of the disk of this line, as texts by their names; or None if its sizes aren't found."""
+    image = image_of(line)
+    return image and dict(line.split(" ") for line in summary(image)[0].splitlines())
+
+
+# The schema of reports and rows
+
+try:
+    from jsonschema import Draft202012Validator
+except ImportError:
+    Draft202012Validator = None
+
+
+@cache
+def validators():
+    """The validators of a report, and of the rows of scan, reclaimable and summary."""
+    if Draft202012Validator is None:
+        raise unittest.SkipTest(absent("Python's jsonschema"))
+    schema = json.loads((TOP / "docs/report.schema.json").read_text(encoding="utf-8"))
+    Draft202012Validator.check_schema(schema)
+    rows = ({"$defs": schema["$defs"], "$ref": f"#/$defs/{name}"} for name in ("row", "reclaimableRow", "summaryRow"))
+    return [Draft202012Validator(schema), *map(Draft202012Validator, rows)]
+
+
+def is_row(line):
+    """Whether a printed line is a report or a row."""
+    return line.startswith(('{"broken":', '{"disk":'))
+
+
+def spoilt(row):
+    """The row without one of its keys, with one more, and with another status."""
+    yield from ({key: row[key] for key in row if key != less} for less in row)
+    yield row | {"more": 0}
+    if "disk" in row:
+        right = row["status"] if row["status"] < 2 else 2
+        yield from (row | {"status": wrong} for wrong in {0, 1, 2, 256} - {right})
+
+
+def check_line(case, what, line):
+    """Checks that the schema accepts a report or a row, and refuses it if it is spoilt."""
+    row = json.loads(line)
+    validator = validators()[0 if "disk" not in row else 2 if "lines" in row else 3 if "verdict" in row else 1]
+    faults = [fault.message[:1000] for fault in validator.iter_errors(row)]
+    case.same(f"{what}: faults", faults, [])
+    taken = sum(map(validator.is_valid, spoilt(row)))
+    case.same(f"{what}: spoilt ones that are accepted", taken, 0)

@@ -8,8 +8,8 @@ import re
 import subprocess
 from collections import Counter
 
-from lib.allocations import refusing, refusing_of_others
 from lib.program import TOP
+from lib.system import refusing, refusing_of_others
 
 PROGRAM = TOP / "crates/scrub_refused_memory/out/scrub_refused_memory"
 RIGHT = (0, b"right\n", b"")
@@ -21,9 +21,9 @@ LISTED = TOP / "crates/scrub_refused_memory/stdout"
 # Calls without a growth. Every other call has at least one.
 WITHOUT_GROWTH = {"ExtentQueue::split"}
 # These look as if they took memory, but take none: an empty list, the contents of a list, a fault of another kind.
-TAKING_NONE = {"Batch::new", "Workspace::new", "WorkerCore::new", "Geometry::new", "write_out"}
+TAKING_NONE = {"Batch::new", "Workspace::new", "WorkerCore::new", "Geometry::new", "fill", "write_out"}
 # Functions that no command makes, each with the call that makes it.
-WITHIN_CALLS = {"Entry::copy": "merge"}
+WITHIN_CALLS = {"Entry::copy": "merge", "scan_by_one": "scrub_in_order"}
 # Functions that are tried in whole runs alone, each with a command line of tests/test_memory.py that makes it.
 IN_RUNS = {
     "Batch::append": "locators with a spare",
@@ -43,10 +43,11 @@ IN_RUNS = {
     "scan_extents_in": "scan",
     "claimed_frame": "scan",
     "RunWriter::new": "index of several findings",
+    "RunWriter::append": "index of several findings",
+    "RunWriter::finish": "index of several findings",
     "merge_by_threads": "scan",
     "liveness_by": "scan",
-    "liveness_of": "locators",
-    "LocatorIndex::of": "locators",
+    "LocatorIndex::of": "summary",
     "LocatorIndex::by_threads": "scan",
     "twins_by_threads": "scan",
     "Spares::of": "locators with a spare",
@@ -57,9 +58,10 @@ IN_RUNS = {
     "check_named": "scan",
     "scan_by": "scan",
     "scan_chosen": "summary",
-    "scan_with_resets": "manifest with resets",
-    "parts_of": "locators",
-    "parts_and_twins": "summary",
+    "judged_of": "locators",
+    "liveness_and_twins": "summary",
+    "liveness_and_twins_by": "scan",
+    "id_text": "locators",
     "owner_text": "locators",
     "append_line": "locators",
     "list_locators": "locators",
@@ -77,8 +79,9 @@ IN_RUNS = {
     "page_doubts": "reclaimable",
     "lost_runs": "reclaimable",
     "append_doubt_text": "reclaimable with another generation",
-    "unsound_extents": "reclaimable",
-    "sorted": "reclaimable",
+    "barred_extents": "reclaimable",
+    "ExtentSet::of": "reclaimable",
+    "candidates_by": "reclaimable",
     "list_reclaimable": "reclaimable",
     "compare": "compare",
     "read_shard": "shard",
@@ -87,7 +90,7 @@ IN_RUNS = {
 # The crates whose public functions are in this account.
 LIBRARIES = ["sha_lanes"] + [
     f"scrub_{name}"
-    for name in ("disk", "map", "frame", "super", "scan", "run", "merge", "check", "book", "pool", "report", "listings",
+    for name in ("disk", "map", "frame", "super", "scan", "run", "merge", "check", "book", "pool", "found", "report", "listings",
                  "reclaim", "compare", "shard")
 ]
 # A public function: its indentation, its name, and its signature up to the clauses or the body.

@@ -1,4 +1,5 @@
-"""Which program the tests, the benchmarks and the comparison run, and which tools are there."""
+"""Which program the tests, the benchmarks and the comparison run, which tools are there, and what tests of the script ./shardscrub make
+up: processors, and small programs."""
 import os
 import re
 import shutil
@@ -7,6 +8,7 @@ import sys
 import unittest
 from functools import cache
 from pathlib import Path
+
 
 TOP = Path(__file__).resolve().parent.parent.parent
 # The programs of a build or a release: the one for x86-64-v2, which all processors since about 2009 have, and the one for x86-64-v3.
@@ -27,7 +29,7 @@ PACKAGES = {
     "bash": "bash", "cc": "gcc", "chromedriver": "chromium-driver", "chromium": "chromium", "ddrescue": "gddrescue", "dpkg": "dpkg",
     "dpkg-deb": "dpkg", "dpkg-parsechangelog": "dpkg-dev", "fish": "fish", "flock": "util-linux", "git": "git", "groff": "groff-base",
     "jq": "jq", "lintian": "lintian", "losetup": "mount", "make": "make", "man": "man-db", "mandoc": "mandoc", "node": "nodejs",
-    "objdump": "binutils", "parallel": "parallel", "promtool": "prometheus", "python3": "python3", "sqlite3": "sqlite3", "strace": "strace",
+    "objdump": "binutils", "parallel": "parallel", "promtool": "prometheus", "python3": "python3", "strace": "strace",
     "systemd-analyze": "systemd", "zsh": "zsh",
     "Python's jsonschema": "python3-jsonschema", "Python's selenium": "python3-selenium", "Python's yaml": "python3-yaml",
 }
@@ -85,3 +87,30 @@ def need(tool):
     why = absent(tool)
     if shutil.which(tool) is None:
         raise unittest.SkipTest(why)
+
+
+# For tests of ./shardscrub
+
+# What the script sets for the C library.
+TUNABLES = "glibc.malloc.hugetlb=1:glibc.malloc.mmap_threshold=4194304"
+# Words of /proc/cpuinfo for an old processor and, with V3_FLAGS, for a new one.
+V2_FLAGS = {"fpu", "cx16", "lahf_lm", "popcnt", "sse4_1", "sse4_2", "ssse3", "avx512f", "avx2x", "xsavec"}
+
+
+def write(path, text, mode=0o644):
+    path.parent.mkdir(parents=True, exist_ok=True)
+    path.write_text(text)
+    path.chmod(mode)
+
+
+def processors(*flags):
+    """The text of /proc/cpuinfo for processors with these flags."""
+    return "".join(f"processor\t: {number}\nmodel name\t: made up abm avx2\nflags\t\t: {' '.join(sorted(some))}\nbugs\t\t: fma\n\n"
+                   for number, some in enumerate(flags))
+
+
+def with_processor(script, cpuinfo):
+    """Has a copy of ./shardscrub read this file in the place of /proc/cpuinfo."""
+    text = script.read_text()
+    assert text.count("</proc/cpuinfo") == 1
+    script.write_text(text.replace("</proc/cpuinfo", f"<'{cpuinfo}'"))

@@ -1,10 +1,13 @@
 """Runs tests side by side, each part of them in a process of its own, with a folder of its own for passing files. tests/run starts it.
 
-What a process prints goes to a file. When all parts of a module have ended, it is shown as a whole, and then the module's line.
+Test modules are cut into parts, the longest first. What a process prints goes to a file. When all parts of a module have ended, it is
+shown as a whole, and then the module's line.
 """
 import argparse
 import json
+import math
 import os
+import re
 import shutil
 import signal
 import sys
@@ -17,9 +20,151 @@ from pathlib import Path
 from typing import NamedTuple
 
 from lib.cases import Compared
-from lib.outcomes import WORDS, Outcomes, counted, flat, is_part, name_of
-from lib.parts import Part, in_order
 from lib.program import BUILT, FASTER, GENERAL, RELEASED, choose_program
+
+
+# Names of tests, and how tests ended
+
+# How many wrong answers of a test are shown.
+MOST_SHOWN = 10
+WORDS = ("passed", "failed", "skipped")
+
+
+def name_of(test):
+    """A test's name, without what all modules' names begin with."""
+    return test.id().removeprefix("test_")
+
+
+def is_part(name, whole):
+    """Whether a name is one of a module, of a class or of a test, or the beginning of a test's name."""
+    return whole == name or whole.startswith(name + ".") or (name.count(".") == 2 and whole.startswith(name))
+
+
+def flat(suite):
+    for test in suite:
+        if isinstance(test, unittest.TestSuite):
+            yield from flat(test)
+        else:
+            yield test
+
+
+def counted(of):
+    """How many tests passed, failed and were skipped, by their outcomes."""
+    counts = Counter(of.values())
+    return [counts[word] for word in WORDS]
+
+
+class Outcomes(unittest.TestResult):
+    """Each test's outcome, by its name: passed, failed or skipped. Failures are printed at once. `note` is called with the name of
+    each test that begins, and with its name and its outcome when it has ended."""
+
+    def __init__(self, tests, note=lambda *words: None):
+        super().__init__()
+        self.of = {name_of(test): "skipped" for test in tests}
+        self.reasons, self.shown, self.note = Counter(), Counter(), note
+
+    def startTest(self, test):
+        super().startTest(test)
+        self.of[name_of(test)] = "passed"
+        self.note(name_of(test))
+
+    def stopTest(self, test):
+        super().stopTest(test)
+        name = name_of(test)
+        if self.shown[name] > MOST_SHOWN:
+            print(f"FAILED: {name}: and {self.shown[name] - MOST_SHOWN} more", flush=True)
+        self.note(name, self.of[name])
+
+    def addSkip(self, test, reason):
+        """A test is skipped, or all tests of a class."""
+        name = name_of(test)
+        if name not in self.of:
+            owner = re.search(r"\((\S+)\)", name)[1].removeprefix("test_")
+            self.reasons[reason] += sum(is_part(owner, one) for one in self.of)
+        elif self.of[name] != "failed":
+            self.of[name] = "skipped"
+            self.reasons[reason] += 1
+
+    def addFailure(self, test, error):
+        self.fail(test, error)
+
+    def addError(self, test, error):
+        self.fail(test, error)
+
+    def addSubTest(self, test, subtest, error):
+        if error is not None:
+            self.fail(test, error)
+
+    def fail(self, test, error):
+        """Prints why a test failed: the words of an assertion, or where any other exception came from."""
+        name = name_of(test)
+        self.of[name] = "failed"
+        self.shown[name] += 1
+        if self.shown[name] <= MOST_SHOWN:
+            is_assertion = issubclass(error[0], test.failureException) if isinstance(test, unittest.TestCase) else False
+            text = str(error[1]) if is_assertion else "".join(traceback.format_exception(*error)).rstrip()
+            print(f"FAILED: {name}: {text}", flush=True)
+
+
+# Parts
+
+class Long(NamedTuple):
+    """A class of tests that takes long: its seconds, and how many parts its tests are dealt to. Each part makes anew what the class
+    makes for its tests, so a class whose tests share much stays in one part. What measures time runs alone, after all others."""
+    seconds: float
+    parts: int = 1
+    is_alone: bool = False
+
+
+# The seconds of each module on one processor, without those of the classes below. A module without its seconds is begun first.
+SECONDS = {
+    "answers": 5, "checklist": .1, "compare": 1, "costs": .3, "documents": 4, "examples": 5, "gate": 4, "help": .6, "last": .5,
+    "listings": .6, "memory": 1, "monitoring": 1, "outside": 45, "package": 8, "page": 12, "parts": 1, "questions": .7, "reads": 22,
+    "release": .7, "scrubs": 4, "shard": 6, "sources": .1, "start": 3, "stray": .3, "system": 7, "tilings": 8, "walks": 3,
+}
+LONG = {
+    "checklist.Laws": Long(5), "checklist.Mistakes": Long(30, 3), "checklist.Walks": Long(13, 2), "compare.Laws": Long(12, 2),
+    "compare.Pairs": Long(25, 3), "damage.Damage": Long(24, 5), "damage.Torn": Long(12, 3),
+    "faster.Examples": Long(5), "faster.Lengths": Long(30, 3), "faster.MadeUp": Long(60, 6), "memory.Growths": Long(40, 4),
+    "memory.Runs": Long(50, 4), "package.Dpkg": Long(5), "package.Package": Long(20), "page.InBrowser": Long(60),
+    "page.WrongPages": Long(21, 2), "reference.Disks": Long(20, 2), "scrubs.Large": Long(8, 3), "shard.Large": Long(9),
+    "start.Kept": Long(12, 3), "system.Files": Long(7), "system.LargeDisks": Long(20, 4), "system.Streams": Long(8),
+    "views.Metrics": Long(4), "views.Rows": Long(9),
+}
+
+
+class Part(NamedTuple):
+    """Tests of a module that run in one process, one after another. Nobody may know how long they take: then it is infinity."""
+    module: str
+    tests: list
+    seconds: float
+    is_alone: bool = False
+
+
+def class_of(test):
+    return name_of(test).rpartition(".")[0]
+
+
+def parts_of(module, tests):
+    """The parts of a module, each with tests of one of its long classes, or of all its other classes."""
+    of_classes = {}
+    for test in tests:
+        of_classes.setdefault(class_of(test) if class_of(test) in LONG else module, []).append(test)
+    for name, some in of_classes.items():
+        long = LONG.get(name, Long(SECONDS.get(name, math.inf)))
+        count = min(long.parts, len(some))
+        for number in range(count):
+            yield Part(module, some[number::count], long.seconds / long.parts, long.is_alone)
+
+
+def in_order(modules):
+    """All parts of these modules: those that run side by side, the longest first, and those that run alone."""
+    parts = [part for module, tests in modules.items() for part in parts_of(module, tests)]
+    parts.sort(key=lambda part: -part.seconds)
+    return [part for part in parts if not part.is_alone], [part for part in parts if part.is_alone]
+
+
+# Processes
 
 TESTS = Path(__file__).resolve().parent.parent
 # How long processes have to end by themselves after Ctrl-C.

@@ -6,12 +6,11 @@ import collections
 import functools
 import random
 
-from lib import reference
 from lib.disks import frame, sealed_frame
-from lib.drive import (Engine, Full, acceptable, all_accepted, bindings_of, doubts_in, held, is_held, lines_with, locator_of,
-                       named_locators, open_doubts_in, place_of, put_record, record_pages, require, run_of)
-from lib.node import DRIVES, WRITTEN_AFTER, Node, worn
-from lib.reference import SEALED, choose, frame_at, write_locator
+from lib.node import (DRIVES, WRITTEN_AFTER, Engine, Full, Node, acceptable, all_accepted, bindings_of, doubts_in, held,
+                      is_held, lines_with, locator_of, named_locators, open_doubts_in, place_of, put_record, record_pages,
+                      require, run_of, worn)
+from reference.shardscrub import SEALED, choose, frame_at, records_of, sha, write_locator
 
 FIELDS = ("generation", "pointers", "retired", "runs")
 GREATEST = 2 ** 64 - 1
@@ -144,7 +143,7 @@ class Walk:
         payload = frame_at(self.first.image(), place[0], chosen["pointers"][place[0] - 1], place[1])[3]
         named = [(owner, c, status) for owner, c, status in named_locators(self.first) if owner == identifier]
         entry = [{**c, "extent": place[0], "offset": place[1], "uuid": uuid}
-                 if status not in ("sound", "hidden") and (c["length"], c["digest"]) == (length, reference.sha(payload)) else c
+                 if status not in ("sound", "hidden") and (c["length"], c["digest"]) == (length, sha(payload)) else c
                  for _, c, status in named]
         payload = run_of([(identifier, entry)])
         rooms = [words[1:3] for word in ("room", "last-room") for words in lines_with(self.listing, word) if int(words[3]) >= len(payload) + 38]
@@ -320,7 +319,7 @@ class Walk:
 
     def write_on(self, drive, fields):
         """Writes a superblock with a generation greater than any on the disk. False if there is none, or no place."""
-        newest = max([self.fields["generation"], *(r.generation for r in reference.records_of(drive.image()).values())])
+        newest = max([self.fields["generation"], *(r.generation for r in records_of(drive.image()).values())])
         if newest == GREATEST:
             return False
         text = drive.record(*({**fields, "generation": newest + 1}[key] for key in FIELDS))
@@ -416,7 +415,7 @@ def expected(walk, before):
     """What the disk should hold, with what the node has written meanwhile."""
     if walk.node is None:
         return before
-    payloads = {reference.sha(payload): payload for payload in walk.drive.payloads}
+    payloads = {sha(payload): payload for payload in walk.drive.payloads}
     known = {write_locator(c): before[i][k] for i, locators in walk.first_shards.items() for k, c in enumerate(locators)}
     return {i: [known.get(write_locator(c), payloads.get(c["digest"])) for c in locators] for i, locators in walk.node.shards.items()}
 
