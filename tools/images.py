@@ -52,15 +52,6 @@ def collision():
     return disk
 
 
-def closed_collision():
-    """The same, but the first is a sealed chunk of 130 bytes. The crash lost its closing mark."""
-    disk = Disk(4, 3)
-    disk.chunk(1, 0, b"\x33" * 14 + MAGIC, b"x" * 58, sealed_frame)
-    chunk = disk.chunk(1, 128, uuid(0x11), b"abc")
-    disk.superblock(0, 1, disk.chunk(2, 0, uuid(0x22), run((shard(1), [chunk]))))
-    return disk
-
-
 def lost_run():
     """The newer of two runs has a flipped bit. It only deletes shard 1."""
     disk = Disk(4, 4)
@@ -164,14 +155,6 @@ def formatted_twice():
     return disk
 
 
-def letters():
-    """The payload of a chunk has the letters with which a superblock begins, a hundred times."""
-    disk = Disk(8, 3)
-    chunk = disk.chunk(1, 0, uuid(0x11), b"--" + b"SSB1" * 100)
-    disk.superblock(0, 1, disk.chunk(2, 0, uuid(0x22), run((shard(1), [chunk]))))
-    return disk
-
-
 def reclaimed_before():
     """Extent 1 was reset and then partly written again. Parts of extents 2, 3 and 4 may be reclaimed.
 
@@ -258,16 +241,6 @@ def full():
     return disk
 
 
-def both():
-    """Shard 1 names `abc` in extents 1 and 3, and shard 2 names `de` in extent 1. Extent 2 is garbage."""
-    disk = Disk(8, 4)
-    chunks = disk.chunk(1, 0, uuid(0x11), b"abc"), disk.chunk(3, 0, uuid(0x44), b"abc")
-    other = disk.chunk(1, 41, uuid(0x22), b"de")
-    disk.chunk(2, 0, uuid(0x66), bytes(26))
-    disk.superblock(0, 1, disk.chunk(3, 41, uuid(0xAA), run((shard(1), chunks), (shard(2), [other]))))
-    return disk
-
-
 def to_move_disk():
     """Shard 1's chunk has garbage after it. In extent 2 a chunk of 66 bytes has lost the last two in a crash, at the page
     boundary. Its UUID ended with the two bytes of the magic. Returns the disk and the locator of its run."""
@@ -321,9 +294,9 @@ def rescued_map():
             "#      pos        size  status\n") + READ_AND_NOT
 
 
-IMAGES = (one_chunk, one_shard, no_superblock, tie, collision, closed_collision, lost_run, retired_extent, twins,
-          several_findings, later_run, flipped_bit, failing, rescued, formatted_twice, letters, reclaimed_before, rotted, copied,
-          behind, two_copies, less, full, both, to_move, damaged_copy, completed)
+IMAGES = (one_chunk, one_shard, no_superblock, tie, collision, lost_run, retired_extent, twins,
+          several_findings, later_run, flipped_bit, failing, rescued, formatted_twice, reclaimed_before, rotted, copied,
+          behind, two_copies, less, full, to_move, damaged_copy, completed)
 MAPS = (failing_map, rescued_map)
 
 

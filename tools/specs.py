@@ -9,12 +9,14 @@ WORD = r"[^\W\d][\w?!'-]*"
 USE = re.compile(r"^\s*(?:ghost |pub )*use ([\w.]+)\.\{([^}]*)\}", re.M)
 
 
-def crates():
-    lines = (line.split("#")[0] for line in (TOP / "crates.txt").read_text(encoding="utf-8").splitlines())
-    return [line.split(":")[0].split()[0] for line in lines if ":" in line]
+def below():
+    """For each crate those of its own words in crates.txt, in the order there."""
+    lines = (line.split("#")[0].partition(":") for line in (TOP / "crates.txt").read_text(encoding="utf-8").splitlines())
+    return {name.split()[0]: words.split() for name, colon, words in lines if colon}
 
 
-CRATES = crates()
+BELOW = below()
+CRATES = list(BELOW)
 
 
 def without_comments(text, mark):
@@ -45,7 +47,6 @@ class Spec:
     def __init__(self, path):
         self.path = path
         text = path.read_text(encoding="utf-8")
-        self.lines = text.count("\n")
         head = re.match(r"(?:--.*\n)+", text)
         self.head = " ".join(line[2:].strip() for line in head.group().splitlines()) if head else ""
         self.sentence = re.split(r"(?<=\.) ", self.head)[0]
@@ -70,26 +71,25 @@ class Spec:
                 self.definitions[name] += line + "\n"
 
     def comments(self):
-        """For each definition the comment above it, on one line, and whether it is public; in the order of the file."""
-        lines = self.text.splitlines()
+        """For each definition the comment above it, on one line, in the order of the file."""
         found = {}
-        for name, text in self.definitions.items():
-            place = lines.index(text.splitlines()[0])
-            begin = place
-            while begin > 0 and re.match(r" *--(?!--)", lines[begin - 1]):
-                begin -= 1
-            comment = " ".join(line.strip()[2:].strip() for line in lines[begin:place])
-            found[name] = (comment, re.match(r" *(?:abbrev |unfoldable )?pub ", lines[place]) is not None)
+        for name in self.definitions:
+            lines, begin, place = self.place(name)
+            found[name] = " ".join(line.strip()[2:].strip() for line in lines[begin:place])
         return found
+
+    def place(self, name):
+        """The lines of the file, where the comment above a definition begins, and where the definition does."""
+        lines = self.text.splitlines()
+        begin = place = lines.index(self.definitions[name].splitlines()[0])
+        while begin > 0 and re.match(r" *--(?!--)", lines[begin - 1]):
+            begin -= 1
+        return lines, begin, place
 
     def source(self, name):
         """The definition as it stands in the file, with the comment above it."""
-        lines = self.text.splitlines()
-        held = self.definitions[name].rstrip().splitlines()
-        begin = end = lines.index(held[0])
-        while begin > 0 and re.match(r" *--(?!--)", lines[begin - 1]):
-            begin -= 1
-        end += len(held)
+        lines, begin, place = self.place(name)
+        end = place + len(self.definitions[name].rstrip().splitlines())
         if without_comments("\n".join(lines[begin:end]), "--").split() != self.definitions[name].split():
             raise ValueError(f"{self.path}: {name} isn't in one piece")
         return "\n".join(lines[begin:end])
@@ -133,12 +133,16 @@ def spec_files(crate):
             if path not in (folder / "Lib.antt", folder / "steps.antt")]
 
 
+def listed_files(crate):
+    """The files of definitions that Lib.antt and steps.antt of a crate list."""
+    folder = TOP / "crates" / crate / "specs"
+    lists = [(path, inner) for path, inner in ((folder / "Lib.antt", ""), (folder / "steps.antt", "steps.")) if path.is_file()]
+    return {spec_path(crate, inner + name) for path, inner in lists
+            for name in re.findall(r"(?m)^pub mod (\w+)", path.read_text(encoding="utf-8")) if name != "steps"}
+
+
 def is_step(path):
     return path.parent.name == "steps"
-
-
-def named(names):
-    return ", ".join(f"`{name}`" for name in names)
 
 
 def linked(path):
