@@ -41,6 +41,7 @@ abbrev pub AreGiven : List Row → List Text → Type 0
 AreGiven rows [] = Unit {0}
 AreGiven rows (name ∷ names) = (is_given name rows ≡ true) × AreGiven rows names
 
+-- If no fault says that a required argument is missing, each of them is given.
 pub are_given : (rows : List Row) (names : List Text) →
     (if is_lacking rows names then MissingRequiredArgument ∷ [] else []) ≡ [] → AreGiven rows names
 are_given rows [] clean = tt
@@ -55,11 +56,13 @@ are_given rows (name ∷ names) clean = go (is_given name rows) clean (are_given
 module _ (c : List Rule) (rows : List Row) (sound : EachRow (IsSound c) rows) (name : Text) (a : Rule)
     (rule : arg_by_id c name ≡ Some a) where
   module _ (most : ℕ) (parser : a.parser ≡ Some (Signed (pos 0) (pos most))) (plain : a.ignore_case ≡ false) where
+    -- An argument for a number that is given has one, a whole number from 0 to `most`.
     pub has_number : is_given name rows ≡ true → HasNumberTo most rows name
     has_number given =
         let row = given_row _ name rows given (number_there most c name a rows sound rule parser plain) in
         (row.2.0, ap (option_and_then row_text) row.1 ∙ row.2.1, row.2.2)
 
+    -- An argument for a number has no value, or a whole number from 0 to `most`.
     pub may_have_number : (one_of name rows ≡ None) ⊎ HasNumberTo most rows name
     may_have_number =
         go (find (λ r. bytes_eq r.id name) rows) refl (number_there most c name a rows sound rule parser plain)
@@ -71,15 +74,17 @@ module _ (c : List Rule) (rows : List Row) (sound : EachRow (IsSound c) rows) (n
         go None at there = inl (ap (option_and_then row_text) at)
         go (Some r) at there = inr (there.0, ap (option_and_then row_text) at ∙ there.1, there.2)
 
+  -- An argument that has a rule has a first value if it is given.
   pub has_text : is_given name rows ≡ true → (text : Text) × (first_of name rows ≡ Some text)
   has_text given =
       let row = given_row _ name rows given (text_there c name a rows sound rule) in
       (row.2.0, ap (option_and_then (λ (r : Row). slice_get r.values 0)) row.1 ∙ row.2.1)
 
--- the rule with this name takes a whole number up to a maximum, and the one with that name takes a text
+-- The rule with this name takes a whole number up to a maximum.
 abbrev pub IsNumberRule : List Rule → ℕ → Text → Type 0
 IsNumberRule c most name =
     (a : Rule) × (arg_by_id c name ≡ Some a) × (a.parser ≡ Some (Signed (pos 0) (pos most))) × (a.ignore_case ≡ false)
 
+-- The table has a rule with this name.
 abbrev pub IsTextRule : List Rule → Text → Type 0
 IsTextRule c name = (a : Rule) × (arg_by_id c name ≡ Some a)

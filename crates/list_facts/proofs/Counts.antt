@@ -92,6 +92,7 @@ counted_contained (x ∷ xs) e some = by (x == e) refl (counted_contained xs e)
         let rest = later (omega (arith, some, sum_by-cons (one_for e) x xs, one_for-other e x is)) in
         (suc rest.0, omega (arith, rest.1), rest.2)
 
+-- If no element passes a test, none is counted.
 pub count_none : {X : Type 0} (p : X → Bool) (xs : List X) → All (λ x. p x ≡ false) xs → count_by p xs ≡ 0
 count_none p xs none = sym (length-filter p xs) ∙ ap length (filter_none p xs none)
 

@@ -57,7 +57,7 @@ pub decided_some : (o : Option ℕ) (v : ℕ) → Decided (o ≡ Some v)
 decided_some None v = inr (λ e. none-some v e)
 decided_some (Some u) v = decided_like (decided_number u v) (ap Some) (same_Some u v)
 
--- whether there is no byte
+-- An optional number is missing, or it isn't.
 pub decided_none : (o : Option ℕ) → Decided (o ≡ None)
 decided_none None = inl refl
 decided_none (Some v) = inr (λ e. absurd (some_none v e))

@@ -1,4 +1,4 @@
--- What a list contains: behind a first element, after a test, and after a map.
+-- What a list contains: behind a first element, after a test, and after a map; what equal lists begin with.
 use Rattle.std.proofs.Common.{◌++◌, ◌+◌, ◌<◌, ◌∙◌, ◌∷◌, ◌≡◌, ◌⊎◌, [], All, ap, arith, Bool, cond, Contains, false, get_or, inl, inr, length, length-append, List, map, None, Option, refl, Some, subst, suc, sum_by, sym, true, zero, ℕ}
 use Rattle.std.specs.List.{cons_option, Contains, filter_map, flat_map}
 use Rattle.std.specs.Prelude.{filter}
@@ -131,3 +131,20 @@ All-first P xs rest x is all = All-head P x rest (rw is at all)
 -- a sum over one and the rest
 pub sum_by-first_and_rest : {X : Type 0} (f : X → ℕ) (xs rest : List X) (x : X) → xs ≡ x ∷ rest → sum_by f xs ≡ f x + sum_by f rest
 sum_by-first_and_rest f xs rest x is = ap (λ (l : List _). sum_by f l) is ∙ sum_by-cons f x rest
+
+-- Equal lists have the same first element.
+pub same_first : {X : Type 0} (x y : X) (xs ys : List X) → (x ∷ xs) ≡ (y ∷ ys) → x ≡ y
+same_first x y xs ys e = cc
+
+-- Equal lists have the same elements behind the first.
+pub same_behind_first : {X : Type 0} (x y : X) (xs ys : List X) → (x ∷ xs) ≡ (y ∷ ys) → xs ≡ ys
+same_behind_first x y xs ys e = cc
+
+-- The empty list has no first element.
+pub nil_has_no_first : {X : Type 0} (x : X) (xs : List X) → [] ≡ (x ∷ xs) → ⊥
+nil_has_no_first x xs e = cc
+
+-- Two lists that make the empty list one after the other are both empty.
+pub both_nil : {X : Type 0} (xs ys : List X) → xs ++ ys ≡ [] → (xs ≡ []) × (ys ≡ [])
+both_nil [] ys e = (refl, e)
+both_nil (x ∷ xs) ys e = absurd (nil_has_no_first x (xs ++ ys) (sym e))

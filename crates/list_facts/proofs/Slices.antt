@@ -5,6 +5,7 @@ use Rattle.std.proofs.Math.Seq.{drop-cons}
 use Rattle.std.proofs.lemmas.Bool.Decides.{nat_tests, not_from_Decides}
 use Rattle.std.proofs.lemmas.List.{drop_at, nil_from_length, take_at}
 use Rattle.std.proofs.lemmas.Slice.Eq.{bytes_eq-Decides}
+use Rattle.list_facts.proofs.Bools.{false_from_not}
 
 -- the k elements at place m, and all that follow them
 pub part-rest : (x : List ℕ) (k m : ℕ) → take k (drop m x) ++ drop (m + k) x ≡ drop m x
@@ -44,8 +45,4 @@ ne_false x y b e h = (bytes_eq-Decides x y).0 (not_false (pointwise eqb x y) (sy
 
 -- and that they differ
 pub ne_true : (x y : List ℕ) (b : Bool) → b ≡ not (pointwise eqb x y) → b ≡ true → x ≡ y → ⊥
-ne_true x y b e h same = not_from_Decides _ (bytes_eq-Decides x y) (not_true (pointwise eqb x y) (sym e ∙ h)) same
-  where
-    not_true : (b : Bool) → not b ≡ true → b ≡ false
-    not_true true e = sym e
-    not_true false e = refl
+ne_true x y b e h same = not_from_Decides _ (bytes_eq-Decides x y) (false_from_not (pointwise eqb x y) (sym e ∙ h)) same

@@ -56,11 +56,12 @@ module _ (f : Found) (name : Text) where
       (λ u x g. g.0) fits has.2 in
       cc (read.1)
 
+  -- If the parser took a whole number of 32 bits, `parse` doesn't fail on its text.
   pub number_there : HasNumber (rows_of f) name →
       ((t : Text) → one_text f name ≡ Some t → (e : ParseIntError) × Parses t (Err e)) → ⊥
   number_there = number_to_there 4294967295 (omega arith)
 
-  -- `get_one` gave a number up to the greatest one, or none
+  -- A number that `get_one` gave isn't above the greatest one that the parser takes.
   pub number_up_to : (most : ℕ) (n : ℕ) → most < 2 ^ 32 → (one_of name (rows_of f) ≡ None) ⊎ HasNumberTo most (rows_of f) name →
       (one_text f name ≡ None → Some n ≡ None)
       → ((t : Text) → one_text f name ≡ Some t → Parses t (Ok n)) → IsNumberOf (rows_of f) name n × (n ≤ most)
@@ -154,6 +155,7 @@ pub texts_or_none : (o : Option (Bor (List (Bor Text)))) (r : Bor (List (Bor Tex
 texts_or_none None r found is default = rw (← is, default) refl
 texts_or_none (Some s) r found is default = rw (← is, default) refl
 
+-- To map an option by `g` and then by `f` is to map it by `f (g x)`.
 pub twice : {A B C : Type 0} (f : B → C) (g : A → B) (o : Option A) →
     option_map (λ x. f (g x)) o ≡ option_map f (option_map g o)
 twice f g None = refl
@@ -177,6 +179,7 @@ module _ (command : Option (Text × List Row)) (name : Text) (found : List Row) 
       go None whole named has = cc
       go (Some met) whole named has = rw (same_Some _ _ named, same_Some _ _ has) whole
 
+  -- A command that lists the whole disk has an image, sizes or none, and at most 64 workers.
   pub disk_of_whole : (wanted : Wanted) → name ≡ command_of wanted → HasScan found
   unfolding clap_on_literals
   disk_of_whole Report is = subst (λ (n : Text). IsWholeCommand n found) is met_whole
@@ -196,26 +199,32 @@ module _ (command : Option (Text × List Row)) (name : Text) (found : List Row) 
       go true e needs = needs.last
       go false e needs = absurd (false≢true e)
 
+  -- The command `manifest` has the values of a scan, and a number of 32 bits for each `--reset`.
   pub manifest_of_whole : name ≡ codes "manifest" → HasManifest found
   unfolding clap_on_literals
   manifest_of_whole asked = subst (λ (n : Text). IsWholeCommand n found) asked met_whole
 
+  -- The command `compare` has what `manifest` needs, and the name of the later image.
   pub compare_of_whole : name ≡ codes "compare" → HasCompare found
   unfolding clap_on_literals
   compare_of_whole asked = subst (λ (n : Text). IsWholeCommand n found) asked met_whole
 
+  -- The command `shard` has the values of a scan, and a text for `--id`.
   pub shard_of_whole : name ≡ codes "shard" → HasShard found
   unfolding clap_on_literals
   shard_of_whole asked = subst (λ (n : Text). IsWholeCommand n found) asked met_whole
 
+  -- The command `superblocks` has the name of an image, and numbers of 32 bits for the sizes given.
   pub image_of_whole : name ≡ codes "superblocks" → HasImage found
   unfolding clap_on_literals
   image_of_whole asked = subst (λ (n : Text). IsWholeCommand n found) asked met_whole
 
+  -- The command `sizes` has the name of an image.
   pub name_of_whole : name ≡ codes "sizes" → HasImageName found
   unfolding clap_on_literals
   name_of_whole asked = subst (λ (n : Text). IsWholeCommand n found) asked met_whole
 
+  -- The command `items` has what `superblocks` needs, the number of an extent, and a pointer or none.
   pub items_of_whole : name ≡ codes "items" → HasItems found
   unfolding clap_on_literals
   items_of_whole asked = subst (λ (n : Text). IsWholeCommand n found) asked met_whole

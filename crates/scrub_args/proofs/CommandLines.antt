@@ -23,6 +23,7 @@ pub simple : is_simple_and_free shardscrub_app ≡ true
 unfolding clap_on_literals
 simple = refl
 
+-- The command line is simple, which is all that some contracts of `clap` ask for.
 pub simple_alone : is_simple shardscrub_app ≡ true
 unfolding clap_on_literals
 simple_alone = refl

@@ -1,9 +1,14 @@
 -- Lemmas that several proofs of this crate share.
+
+-- the command line, and what arguments without a fault name
 pub mod CommandLines
+pub mod UsualRules
 pub mod Whole
-pub mod Examples
-pub mod Acceptable
+-- the values of options and arguments
 pub mod ArgsFound
-pub mod LongNumbers
 pub mod Numbers
+pub mod LongNumbers
 pub mod Pairs
+pub mod Acceptable
+-- worked examples
+pub mod Examples

@@ -69,9 +69,11 @@ no_numbers found name numbers none empty = rw (← none, empty) tt
 
 -- these were
 module _ (found : List Row) (name : Text) (all : List Text) (are : Some all ≡ many_of name found) where
+  -- If the parser took only numbers of 32 bits, each of these texts is read of one.
   pub each_number : HasNumbers found name → All IsReadNumber all
   each_number has = rw (← are) at has
 
+  -- Numbers that these texts spell, one by one, are those found for the option.
   pub numbers_found : (numbers : List ℕ) → AllZip IsNumeralOf all numbers → AreNumbersOf found name numbers
   numbers_found numbers numerals = rw (← are) numerals
 
@@ -135,6 +137,7 @@ all_read all (text ∷ rest) after numbers so_far step = absurd step
 
 -- ---- ascending, each once
 
+-- Numbers sorted, with repetitions left out, ascend strictly and are the same numbers.
 pub rising_once : (numbers sorted once : List ℕ) → IsPermutation numbers sorted → IsSorted nat_cmp sorted →
     IsFiltered (DiffersFromLast eqb) [] sorted once →
     IsStrictlyIncreasing once × ((n : ℕ) → Contains numbers n ↔ Contains once n)

@@ -351,9 +351,9 @@ Never copy into an extent that you reset before you run reclaimable again. If no
 first reset an extent without move lines, and begin again; only if none is listed, use a last-room.
 
 Before the reset make a new image, and check that reclaimable with --last and the generation that you
-wrote ends with status 0 and names the extent without a move line; and that manifest with --reset for
-this extent prints what manifest printed at the beginning. Begin again after each reset, with the same
-map and the same pages. docs/RECLAIMING.md has all steps.
+wrote ends with status 0 and names the extent without a move line; and that compare with --reset for
+this extent, of the image at the beginning and the new one, prints safe. Begin again after each reset,
+with the same map and the same pages. docs/RECLAIMING.md has all steps.
 
 Exit status:
   0  no line begins with doubt; there may be nothing to reclaim, and the disk may have other faults

@@ -74,6 +74,7 @@ module _ (image : Image) (plan : PlanValue) where
         (All-contains (IsScanned image plan) p.arrivals (get_or all k d) are (is.arrived k d below)).found;
   }
 
+  -- Whatever the schedule, a complete pool has each planned extent once, with what one reader finds.
   pub every_schedule : ArePlanned plan.geometry.extents plan.planned → EveryScheduleFinds image plan
   every_schedule planned workers events p leads complete =
       let pool = leads_keeps image plan (start plan workers) events p leads (start_is image plan workers) in

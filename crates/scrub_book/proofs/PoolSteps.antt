@@ -40,6 +40,7 @@ module _ {D : Type 0} {s : _} where
     pub at : m ≡ get_or ms (worker_of event) m
     pub ready : IsReady image m
 
+  -- Among the machine's members, the one that the event names has the value of `m`.
   pub place : {image : Image} {queue : List ℕ} {ms : List (Member D s)} {arrived : List (ExtentResult D s)} {event : Event} {m : Member D s} →
       IsNamed image queue ms arrived event m →
       slice_get (map (λ (x : Member D s). member_value x) ms) (worker_of event) ≡ Some (member_value m)
@@ -63,6 +64,7 @@ module _ {D : Type 0} {s : _} where
   -- what an event did, which wrote n over member m
   module _ {image : Image} {queue : List ℕ} {ms : List (Member D s)} {arrived : List (ExtentResult D s)} {v : ℕ}
       {m : Member D s} where
+    -- Writing `n`, whose value is that of `m` after it took the front of the queue, is a take of member `v`.
     pub take_is : IsNamed image queue ms arrived (Take v) m → (e : ℕ) (rest : List ℕ) (n : Member D s) →
         queue ≡ e ∷ rest → member_value n ≡ taking (member_value m) e →
         IsTake (state_of queue ms arrived) v (state_of rest (set ms v n) arrived)
@@ -75,6 +77,7 @@ module _ {D : Type 0} {s : _} where
       is = wrote rest ms arrived v n _ value;
     }
 
+    -- Writing `n`, whose value has the result of what `m` held, is what the machine does when `v` is done.
     pub done_is : IsNamed image queue ms arrived (Done v) m →
         (plan : PlanValue) (r : ExtentResult D s) (n : Member D s) → result_image r ≡ image →
         pointer_of plan r.extent ≡ Some r.pointer →
@@ -90,6 +93,7 @@ module _ {D : Type 0} {s : _} where
       is = wrote queue ms arrived v n _ value;
     }
 
+    -- Writing `n`, which is through, and appending the results of `m` to the arrivals retires member `v`.
     pub retire_is : IsNamed image queue ms arrived (Retire v) m → (after : List (ExtentResult D s)) (n : Member D s) →
         member_value n ≡ through (member_value m) → after ≡ arrived ++ results_in m →
         IsRetire (state_of queue ms arrived) v (state_of queue (set ms v n) after)

@@ -146,6 +146,7 @@ module _ (image : Image) (plan : PlanValue) where
             (member_of old.members v m step.at pool.members).results;
       })
 
+  -- A state that meets `IsPool` still meets it after an event that isn't refused.
   pub step_keeps : (old : PoolState) (event : Event) (new : PoolState) → refusal old event ≡ None →
       IsStep image plan old event new → IsPool image plan old → IsPool image plan new
   step_keeps old (Take v) new may step pool = take_keeps old v new may step pool
@@ -163,6 +164,7 @@ module _ (image : Image) (plan : PlanValue) where
   replicated (suc n) zero d below = idle_member
   replicated (suc n) (suc k) d below = replicated n k d (omega (arith, below))
 
+  -- The first state meets `IsPool`, however many members it has.
   pub start_is : (n : ℕ) → IsPool image plan (start plan n)
   start_is n = record {
     account = λ f. omega (arith, sum_by-replicate (λ x. sum_by f (having x)) n idle);
@@ -170,6 +172,7 @@ module _ (image : Image) (plan : PlanValue) where
     arrivals = λ k d below. absurd (omega (arith, below));
   }
 
+  -- A state that meets `IsPool` still meets it after any schedule.
   pub leads_keeps : (old : PoolState) (events : List Event) (new : PoolState) → Leads image plan old events new →
       IsPool image plan old → IsPool image plan new
   leads_keeps old [] new is pool = rw is pool

@@ -1,7 +1,7 @@
 -- What a frame that is claimed at a locator's place says of the locator.
 use Rattle.std.proofs.Common.{◌≡◌, ◌+◌, ℕ, Option, Some, None, MatchOption, arith, sym, ◌∙◌, ap}
 use Rattle.std.proofs.lemmas.Option.{same_Some}
-use Rattle.scrub_disk.specs.Image.{Image, byte}
+use Rattle.scrub_disk.specs.Image.{Image, image_byte}
 use Rattle.scrub_frame.specs.declared.form.Form.TheVariants.{Plain}
 use Rattle.scrub_frame.specs.declared.frame.Head.{Head}
 use Rattle.scrub_frame.specs.declared.locator.Locator.{Locator}
@@ -40,7 +40,7 @@ judged_by_claim image plan l found known s left seen by is =
 
 -- a claimed frame with a byte that can't be read is none
 pub gap_is_no_frame : (image : Image) (p : ChunkAt) (w : ℕ) (h : Head) → IsClaimedAt (extent_of image p.extent w) p.offset h →
-    HasGap (byte image p.extent) p.offset (h.length + frame_overhead h.form) → NoFrameAt (extent_of image p.extent w) p.offset
+    HasGap (image_byte image p.extent) p.offset (h.length + frame_overhead h.form) → NoFrameAt (extent_of image p.extent w) p.offset
 gap_is_no_frame image p w h claim gap = λ f u b k.
     let is = only_frame (extent_of image p.extent w) p.offset h claim f u b k in
     let round : frame_overhead h.form ≡ frame_overhead f = ap frame_overhead is.0 in

@@ -1,3 +1,2 @@
--- How many elements pass a test, and how often one occurs in a sorted list.
-pub use Rattle.list_facts.proofs.Sorted.{BelowAt, ThroughAt, below_through, parted_below, parted_through}
-pub use Rattle.list_facts.proofs.Counts.{any_counts, count_in, count_map, count_out}
+-- The lemma on counts that a contract of this crate is proved with.
+pub use Rattle.list_facts.proofs.Counts.{any_counts}

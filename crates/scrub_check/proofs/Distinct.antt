@@ -13,7 +13,7 @@ use Rattle.std.proofs.lemmas.Map.Lookups.{CmpEqualImpliesEq}
 use Rattle.std.proofs.lemmas.Map.Views.{tells_apart}
 use Rattle.scrub_check.specs.steps.Distinct.{AreDistinct}
 
--- a list that is sorted, and then freed of what equals the one before it, if elements that the order makes equal are one
+-- Sorted, and freed of what equals the one before it, a list has its elements once each, ascending.
 pub distinct_made : {X : Type 0} {R : X → X → Ordering} (o : IsTotalOrder R) (exact : CmpEqualImpliesEq R) {E : X → X → Bool} (ties : (x y : X) → E x y ≡ eq_by_cmp R x y) (xs sorted once : List X) →
     IsPermutation xs sorted → IsSorted R sorted → IsFiltered (DiffersFromLast E) [] sorted once → AreDistinct R xs once
 distinct_made {X} {R} o exact {E} ties xs sorted once moved rising left =

@@ -2,9 +2,9 @@
 use Rattle.std.proofs.Common.{◌≡◌, ◌≢◌, ◌<◌, ◌≤◌, ◌+◌, ℕ, Bool, List, [], ◌∷◌, replicate, arith, refl, sym, ◌∙◌, ap, Some, None, slice_index, lit<}
 use Rattle.std.proofs.lemmas.List.Elements.{All-cons, All-nil}
 use Rattle.sha2.specs.Sha256.{sha256}
-use Rattle.scrub_disk.specs.Image.{Image, byte, AreBytesAt, extent_bytes}
+use Rattle.scrub_disk.specs.Image.{Image, image_byte, AreBytesAt, extent_bytes}
 use Rattle.scrub_frame.specs.declared.form.Form.TheVariants.{Plain}
-use Rattle.scrub_frame.specs.Frame.{frame}
+use Rattle.scrub_frame.specs.Frame.{frame_of}
 use Rattle.scrub_frame.specs.declared.locator.Locator.{Locator}
 use Rattle.scrub_scan.specs.declared.item.Item.TheVariants.{Chunk}
 use Rattle.scrub_scan.specs.Extent.{extent_of, FrameAt}
@@ -39,7 +39,7 @@ record HoldsAbc (image : Image) : Type 0 where
   page : image.geometry.page ≡ 64
   pages : image.geometry.pages ≡ 4
   extents : image.geometry.extents ≡ 3
-  stands : AreBytesAt (byte image 1) 0 (frame Plain ones abc)
+  stands : AreBytesAt (image_byte image 1) 0 (frame_of Plain ones abc)
 
 -- a locator of the start of an extent
 abbrev start_of_extent : ℕ → ℕ → List ℕ → List ℕ → Locator
@@ -75,12 +75,12 @@ finds image n u d a h = record {
     some_not_none : (x : ℕ) → Some x ≡ None → ⊥
     some_not_none x e = cc
 
-    readable : (i : ℕ) → i < 41 → byte image 1 i ≡ None → ⊥
+    readable : (i : ℕ) → i < 41 → image_byte image 1 i ≡ None → ⊥
     readable i low none =
         let at : 0 + i ≡ i = omega arith in
-        let there : byte image 1 (0 + i) ≡ Some (slice_index (frame Plain ones abc) i) = a.stands i (omega (arith, low)) in
-        let same : Some (slice_index (frame Plain ones abc) i) ≡ None = sym there ∙ ap (byte image 1) at ∙ none in
-        some_not_none (slice_index (frame Plain ones abc) i) same
+        let there : image_byte image 1 (0 + i) ≡ Some (slice_index (frame_of Plain ones abc) i) = a.stands i (omega (arith, low)) in
+        let same : Some (slice_index (frame_of Plain ones abc) i) ≡ None = sym there ∙ ap (image_byte image 1) at ∙ none in
+        some_not_none (slice_index (frame_of Plain ones abc) i) same
 
 in_extent_0 : (image : Image) (d : List ℕ) → HasStatus image 41 (start_of_extent 0 3 ones d) OutOfRange
 in_extent_0 image d h = omega (arith, h.from_one)

@@ -4,17 +4,17 @@ use Rattle.std.proofs.lemmas.Nat.{div_below}
 use Rattle.list_facts.proofs.Arithmetic.{div_rises, place_in_row}
 use Rattle.list_facts.proofs.Filters.{Contains-filter_range, filter_range-passes}
 use Rattle.list_facts.proofs.Options.{None_from_is_none}
-use Rattle.scrub_disk.specs.Image.{Image, byte, extent_bytes, unreadable_pages, HasWholePages}
+use Rattle.scrub_disk.specs.Image.{Image, image_byte, extent_bytes, unreadable_pages, HasWholePages}
 use Rattle.scrub_disk.proofs.HeldBytes.{byte-unreadable}
 use Rattle.scrub_scan.specs.Extent.{HasGap}
 use Rattle.scrub_scan.proofs.BytesAt.{page_byte}
 use Rattle.scrub_check.proofs.Searches.{LiesBetween}
 
--- one of the bytes from `start` up to `end` can't be read exactly if one of their pages can't
+-- If one of the pages of the `size` bytes from `start` on can't be read, one of these bytes can't.
 pub gap_pages : (image : Image) (e start size page first last : ℕ) → HasWholePages image → e < image.geometry.extents →
     start + size ≤ extent_bytes image.geometry → 0 < size →
     page ≡ image.geometry.page → first ≡ start / page → last ≡ (start + size - 1) / page →
-    LiesBetween (unreadable_pages image e) first last → HasGap (byte image e) start size
+    LiesBetween (unreadable_pages image e) first last → HasGap (image_byte image e) start size
 gap_pages image e start size page first last whole he fits some hp hf hl (q, there, low, high) =
     let pos : 0 < page = omega (arith, hp, image.geometry.page_least) in
     let is = filter_range-passes (λ p. is_none (image.page e p)) 0 image.geometry.pages q there in
@@ -29,11 +29,11 @@ gap_pages image e start size page first last whole he fits some hp hf hl (q, the
           (ap (image.page e) (ap (λ p. place.0 / p) (sym hp) ∙ place.3) ∙ None_from_is_none (image.page e q) is.2);
     }
 
--- a byte that can't be read is on an unreadable page
+-- If one of the `size` bytes from `start` on can't be read, one of their pages can't.
 pub pages_gap : (image : Image) (e start size page first last : ℕ) → HasWholePages image → e < image.geometry.extents →
     start + size ≤ extent_bytes image.geometry → 0 < size →
     page ≡ image.geometry.page → first ≡ start / page → last ≡ (start + size - 1) / page →
-    HasGap (byte image e) start size → LiesBetween (unreadable_pages image e) first last
+    HasGap (image_byte image e) start size → LiesBetween (unreadable_pages image e) first last
 pages_gap image e start size page first last whole he fits some hp hf hl gap =
     let pos : 0 < page = omega (arith, hp, image.geometry.page_least) in
     let inside : gap.place < extent_bytes image.geometry = omega (arith, gap.high, fits) in

@@ -7,11 +7,12 @@ use Rattle.std.proofs.lemmas.List.Elements.{All-head, All-tail, All-map, All-fil
 use Rattle.std.proofs.lemmas.List.Folds.{list_any_at}
 use Rattle.std.proofs.lemmas.List.Sums.{AllPass-from_list_all}
 use Rattle.std.proofs.lemmas.List.Sorted.{All-permutation}
+use Rattle.list_facts.proofs.Counts.{any_counts}
+use Rattle.list_facts.proofs.Elements.{Contains-behind, Contains-cases}
 use Rattle.scrub_disk.specs.Image.{Image}
 use Rattle.scrub_frame.specs.declared.form.Form.{Form}
 use Rattle.scrub_frame.specs.declared.locator.Locator.{Locator}
 use Rattle.scrub_super.specs.Plan.{PlanValue, pointer_of}
-use Rattle.scrub_frame.proofs.Elements.{Contains-cases, Contains-behind}
 use Rattle.scrub_scan.specs.declared.item.Item.{Item}
 use Rattle.scrub_scan.specs.declared.item.Item.TheVariants.{Chunk, Pad, Torn, Noise, Lost}
 use Rattle.scrub_scan.specs.Extent.{Extent, extent_of, FrameAt}
@@ -21,7 +22,7 @@ use Rattle.scrub_scan.specs.Scanned.{Scanned}
 use Rattle.scrub_check.specs.declared.lists.kept_chunk.KeptChunk.{KeptChunk}
 use Rattle.scrub_check.specs.declared.statuses.checked.Checked.{Checked}
 use Rattle.scrub_check.specs.declared.statuses.status.Status.{Status}
-use Rattle.scrub_check.specs.declared.statuses.status.Status.TheVariants.{OutOfRange, Retired, PastPointer, Unreadable, NoFrame, WrongUuid, WrongLength, WrongDigest, Hidden, Sound}
+use Rattle.scrub_check.specs.declared.statuses.status.Status.TheVariants.{OutOfRange, Sound}
 use Rattle.scrub_check.specs.Checked.{is_sound, HaveStatuses}
 use Rattle.scrub_check.specs.Status.{HasStatus, HasStatusIn}
 use Rattle.scrub_check.specs.Live.{has_sound_at, is_chunk, live_chunks, live_bytes}
@@ -31,9 +32,8 @@ use Rattle.scrub_check.specs.SafeCandidates.{IsKept, AreSafe}
 use Rattle.scrub_check.specs.steps.LiveAndOrphans.{kept_of}
 use Rattle.scrub_check.specs.steps.LocatorIndex.{reclaimable}
 use Rattle.scrub_check.specs.steps.SoundPlaces.{is_sound_at, is_live}
-use Rattle.scrub_check.proofs.Counts.{any_counts}
 use Rattle.scrub_check.proofs.Starts.{begins_among}
-use Rattle.scrub_check.proofs.RunStates.{named_in_use}
+use Rattle.scrub_check.proofs.RunStates.{named_in_use, Sound_from_is_sound}
 
 -- the item at a frame is a chunk
 chunk_at : (x : Extent) (i : Item) (f : Form) (u b : List ℕ) → Fits x i → FrameAt x (start_of i) f u b →
@@ -69,18 +69,6 @@ live_there x checked e p f u b (item ∷ items) each frame named there =
     by false is rest (inl first) = absurd (let f : false ≡ true = sym is ∙ here first in false≢true f)
     by false is rest (inr later) = rest later
 
-sound_is : (s : Status) → is_sound s ≡ true → s ≡ Sound
-sound_is Sound e = refl
-sound_is OutOfRange e = absurd (false≢true e)
-sound_is Retired e = absurd (false≢true e)
-sound_is PastPointer e = absurd (false≢true e)
-sound_is Unreadable e = absurd (false≢true e)
-sound_is NoFrame e = absurd (false≢true e)
-sound_is WrongUuid e = absurd (false≢true e)
-sound_is WrongLength e = absurd (false≢true e)
-sound_is WrongDigest e = absurd (false≢true e)
-sound_is Hidden e = absurd (false≢true e)
-
 -- a sound locator is one to its place
 names_its_place : (checked : List Checked) (c : Checked) → Contains checked c → c.status ≡ Sound →
     has_sound_at checked c.locator.extent c.locator.offset ≡ true
@@ -102,7 +90,7 @@ sound_alone checked f c alone there same =
     let passes : (not (c.locator.extent == f.extent) || is_sound c.status) ≡ true =
     All-contains (λ d. (not (d.locator.extent == f.extent) || is_sound d.status) ≡ true) checked c
     (AllPass-from_list_all (λ d. not (d.locator.extent == f.extent) || is_sound d.status) checked alone) there in
-    sound_is c.status (sym (ap (λ t. not t || is_sound c.status) (eq-eqb c.locator.extent f.extent same)) ∙ passes)
+    Sound_from_is_sound c.status (sym (ap (λ t. not t || is_sound c.status) (eq-eqb c.locator.extent f.extent same)) ∙ passes)
 
 -- its status under the pointer of its extent
 under_pointer : (image : Image) (o : Option ℕ) (l : Locator) (w : ℕ) (s : Status) → o ≡ Some w → s ≡ Sound →
@@ -170,6 +158,7 @@ reclaimable_safe image plan all checked whole statuses =
     (has_sound_alone checked f) (not (nat_lt f.pointer (2 * live_bytes checked f))) passes)
     (All-contains_itself checked j e within) same)
 
+-- After a whole scan a candidate keeps the chunk of each locator into its extent, and each of these is sound.
 pub candidates_safe : (image : Image) (plan : PlanValue) (all : List Scanned) (checked : List Checked) (in_doubt : Bool) (candidates : List CandidateValue) →
     IsWholeScan image plan all → HaveStatuses image plan checked → AreCandidates plan all checked in_doubt candidates →
     AreSafe checked candidates

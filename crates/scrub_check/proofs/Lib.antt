@@ -23,7 +23,6 @@ pub mod SortedPlaces
 pub mod PartedPlaces
 pub mod Starts
 -- searches and counts among what ascends
-pub mod Between
 pub mod Counts
 pub mod Rising
 pub mod Distinct

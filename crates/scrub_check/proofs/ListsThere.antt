@@ -36,8 +36,6 @@ some_broken checked =
     let once = sorted_once id_cmp_total id_cmp_exact (filter_map broken_owner checked) in
     (once.0, broken_found checked once.0 (record { rising = once.1; same = once.2 }))
 
--- ---- each list can be sorted
-
 -- ---- candidates
 
 -- and, with findings, a list of candidates

@@ -141,7 +141,7 @@ some_status_lem image w l none =
           }),
     ))
 
--- exactly one, under a pointer and by a plan
+-- Under a write pointer a locator has exactly one status.
 pub one_under_pointer : (image : Image) (w : ℕ) (l : Locator) → ExactlyOne (HasStatus image w l)
 one_under_pointer image w l = record { one = one_status_lem image w l; some = some_status_lem image w l }
 

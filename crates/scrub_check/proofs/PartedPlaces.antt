@@ -13,7 +13,7 @@ use Rattle.scrub_check.specs.steps.Places.{chunk_at_cmp, is_place}
 use Rattle.scrub_check.specs.steps.LiveAndOrphans.{LiesBefore, AreBefore, IsFirstFrom, HasPassed}
 use Rattle.scrub_check.proofs.SortedPlaces.{place_total, found_counts}
 
--- a place that is below another lies before its byte, and the other way round
+-- A place that is below another lies before its byte.
 pub less_before : (a b p q : ℕ) → is_lt (ordering_then (nat_cmp a b) (nat_cmp p q)) ≡ true → (a ≤ b) × (a ≡ b → p < q)
 less_before a b p q less = by (nat_cmp a b) (nat_cmp p q) refl refl less
   where
@@ -27,6 +27,7 @@ less_before a b p q less = by (nat_cmp a b) (nat_cmp p q) refl refl less
     by Equal Greater x y h = absurd (true≢false (sym h))
     by Greater o x y h = absurd (true≢false (sym h))
 
+-- and the other way round
 before_less : (a b p q : ℕ) → (a ≤ b) → (a ≡ b → p < q) → ordering_then (nat_cmp a b) (nat_cmp p q) ≡ Less
 before_less a b p q low inner = by (nat_cmp a b) (nat_cmp p q) refl refl
   where

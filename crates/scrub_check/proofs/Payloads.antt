@@ -2,9 +2,9 @@
 use Rattle.std.proofs.Common.{◌≡◌, ◌⊎◌, ◌<◌, ◌+◌, ◌-◌, ◌/◌, ◌%◌, ℕ, Bool, true, false, cond, nat_lt, List, Option, Some, None, MatchBool, MatchOption, option_and_then, slice_get, slice_index, length, arith, refl, sym, ◌∙◌, subst, inl, inr}
 use Rattle.std.proofs.lemmas.Bool.Decides.{nat_tests}
 use Rattle.std.proofs.lemmas.Option.{none-some}
-use Rattle.scrub_disk.specs.Image.{Image, byte, extent_bytes}
+use Rattle.scrub_disk.specs.Image.{Image, image_byte, extent_bytes}
 use Rattle.scrub_frame.specs.declared.form.Form.{Form}
-use Rattle.scrub_frame.specs.Frame.{frame, frame_overhead}
+use Rattle.scrub_frame.specs.Frame.{frame_of, frame_overhead}
 use Rattle.scrub_frame.proofs.Frames.{length-frame, overhead}
 use Rattle.scrub_frame.specs.declared.locator.Locator.{Locator}
 use Rattle.scrub_super.specs.Plan.{PlanValue, pointer_of}
@@ -22,7 +22,7 @@ use Rattle.scrub_check.specs.Runs.{NamesChunkIn, HasRunIn}
 use Rattle.scrub_check.proofs.RunStates.{HasStatusInUse, named, unnamed, named_in_use}
 
 -- a byte that is there lies in the extent
-in_extent : (image : Image) (e place x : ℕ) → byte image e place ≡ Some x → place < extent_bytes image.geometry
+in_extent : (image : Image) (e place x : ℕ) → image_byte image e place ≡ Some x → place < extent_bytes image.geometry
 in_extent image e place x there = by (nat_lt place (extent_bytes image.geometry)) refl there
   where
     read : Option ℕ
@@ -37,9 +37,9 @@ in_extent image e place x there = by (nat_lt place (extent_bytes image.geometry)
 pub within : (image : Image) (e w p : ℕ) (f : Form) (u b : List ℕ) → FrameAt (extent_of image e w) p f u b →
     FrameAt (extent_of image e (extent_bytes image.geometry)) p f u b
 within image e w p f u b h =
-    let long : length (frame f u b) ≡ frame_overhead f + length b = length-frame f u b h.has_frame.sixteen in
+    let long : length (frame_of f u b) ≡ frame_overhead f + length b = length-frame f u b h.has_frame.sixteen in
     let last : p + (length b + frame_overhead f - 1) < extent_bytes image.geometry =
-    in_extent image e (p + (length b + frame_overhead f - 1)) (slice_index (frame f u b) (length b + frame_overhead f - 1))
+    in_extent image e (p + (length b + frame_overhead f - 1)) (slice_index (frame_of f u b) (length b + frame_overhead f - 1))
     (h.stands (length b + frame_overhead f - 1) (omega (arith, long, overhead f))) in
     record { has_frame = h.has_frame; fits = omega (arith, last); stands = h.stands }
 

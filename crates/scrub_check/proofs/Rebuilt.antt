@@ -32,6 +32,7 @@ module _ (image : Image) (plan : PlanValue) (before named later : List Named) (t
       let both = length-append before (take i named) in
       omega (arith, long, taken, both)
 
+  -- As long as a named locator isn't checked yet, the number of those checked is an index into `tells`.
   pub inside : (at : ℕ) → at ≡ length checked → at < length tells
   inside at here =
       let long = AllZip-long (IsKnownBefore image plan) (before ++ (named ++ later)) tells known in
@@ -39,6 +40,7 @@ module _ (image : Image) (plan : PlanValue) (before named later : List Named) (t
       let more = length-append named later in
       omega (arith, many, here, long, within, more, below)
 
+  -- The element of `tells` at that index is what is known of named locator `i` before its place is read.
   pub tell : (at : ℕ) (name : Named) (status : Option Status) → at ≡ length checked → name ≡ get_or named i name → status ≡ get_or tells at status →
       IsKnownBefore image plan name status
   tell at name status here is told =
@@ -50,6 +52,7 @@ module _ (image : Image) (plan : PlanValue) (before named later : List Named) (t
       known_at image plan (before ++ (named ++ later)) tells at name status (omega (arith, place, within, more, below))
       (is ∙ sym among ∙ ap (λ k. get_or (before ++ (named ++ later)) k name) place) told known
 
+  -- With named locator `i` checked and appended, `before` and the first `i + 1` of `named` are checked.
   pub one_more : (name : Named) (one : Checked) (new : List Checked) → name ≡ get_or named i name → IsChecked image plan name one →
       new ≡ checked ++ one ∷ [] → AllZip (IsChecked image plan) (before ++ take (i + 1) named) new
   one_more name one new is right grown =

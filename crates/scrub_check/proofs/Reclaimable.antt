@@ -6,13 +6,13 @@ use Rattle.std.specs.List.{All, AllPairs, filter, list_any, list_all, count_by}
 use Rattle.std.specs.List.Sorted.{IsSorted, IsPermutation, IsStrictlySortedBy, IsStrictlyIncreasing, IsSearchInRange, IsBinarySearchResult}
 use Rattle.std.proofs.lemmas.Cmp.{then_total, on_total, back_total}
 use Rattle.std.proofs.lemmas.Bool.{cases_lt, eq-eqb}
-use Rattle.std.proofs.lemmas.Grind.{common_steps}
 use Rattle.std.proofs.lemmas.Map.Lookups.{exact_unsigned}
 use Rattle.std.proofs.lemmas.List.Elements.{recursion_from_All}
 use Rattle.std.proofs.lemmas.List.Folds.{list_any_at, list_any_none}
-use Rattle.std.proofs.lemmas.List.Kept.{AllPairs-from_increasing}
 use Rattle.std.proofs.lemmas.List.Sums.{sum_by-cons, get_or-le-sum_by}
 use Rattle.std.proofs.lemmas.List.Sorted.{searchable_from_sorted, list_any-IsPermutation, sum_by-IsPermutation, ranks_by, sorted_far, IsPermutation-refl}
+use Rattle.list_facts.proofs.Counts.{count_map, rising_once, sum_by-filter-le}
+use Rattle.list_facts.proofs.Orders.{is_eq-nat_cmp}
 use Rattle.scrub_disk.specs.declared.geometry.Geometry.{Geometry}
 use Rattle.scrub_super.specs.Plan.{PlanValue}
 use Rattle.scrub_scan.specs.declared.item.Item.{Item}
@@ -24,8 +24,7 @@ use Rattle.scrub_check.specs.Checked.{is_sound}
 use Rattle.scrub_check.specs.steps.SoundPlaces.{AreSoundPlaces, is_live, is_live_by}
 use Rattle.scrub_check.specs.steps.LocatorIndex.{AreBarredExtents, reclaimable, by_free}
 use Rattle.scrub_check.specs.Candidates.{CandidateValue, is_reclaimable, candidate_of, AreCandidates}
-use Rattle.scrub_check.proofs.Sizes.{sum_of_kept}
-use Rattle.scrub_check.proofs.SortedPlaces.{live_sizes, same_number}
+use Rattle.scrub_check.proofs.SortedPlaces.{live_sizes}
 
 -- ---- the extents that locators name which aren't sound
 
@@ -33,12 +32,12 @@ use Rattle.scrub_check.proofs.SortedPlaces.{live_sizes, same_number}
 pub found_number : (xs : List ℕ) (n : ℕ) (r : Result ℕ ℕ) → IsSorted nat_cmp xs → IsSearchInRange r (length xs) →
     IsBinarySearchResult (λ y. nat_cmp y n) xs r → is_ok r ≡ list_any (λ m. m == n) xs
 found_number xs n (Ok i) sorted within result =
-    sym (list_any_at (λ m. m == n) xs i n within (sym (same_number (get_or xs i n) n) ∙ ap is_eq (result n)))
+    sym (list_any_at (λ m. m == n) xs i n within (sym (is_eq-nat_cmp (get_or xs i n) n) ∙ ap is_eq (result n)))
 found_number xs n (Err i) sorted within result =
     let point = result (searchable_from_sorted nat_cmp_total (λ y. y) xs n sorted) in
     sym (list_any_none (λ m. m == n) xs (λ k d below. elim (cases_lt k i) [
-      | inl less ↦ sym (same_number (get_or xs k d) n) ∙ ap is_eq (point.0 k d (omega arith) less)
-      | inr more ↦ sym (same_number (get_or xs k d) n) ∙ ap is_eq (point.1 k d more below)
+      | inl less ↦ sym (is_eq-nat_cmp (get_or xs k d) n) ∙ ap is_eq (point.0 k d (omega arith) less)
+      | inr more ↦ sym (is_eq-nat_cmp (get_or xs k d) n) ∙ ap is_eq (point.1 k d more below)
     ]))
 
 -- each locator to an extent is sound exactly if no other one names it
@@ -60,6 +59,7 @@ named_by_sound (c ∷ cs) e = by (is_sound c.status) (c.locator.extent == e) ref
     by false true is more = sym (ap (λ b. not (b || list_any (λ x. x == e) (map (λ c. c.locator.extent) others))) is)
     by false false is more = more ∙ sym (ap (λ b. not (b || list_any (λ x. x == e) (map (λ c. c.locator.extent) others))) is)
 
+-- Each locator into extent `e` is sound exactly if `e` isn't one of the barred extents.
 pub named_by_sound_alone : (checked : List Checked) (extents : List ℕ) (e : ℕ) → AreBarredExtents checked extents →
     list_all (λ c. not (c.locator.extent == e) || is_sound c.status) checked ≡ not (list_any (λ x. x == e) extents)
 named_by_sound_alone checked extents e are =
@@ -84,59 +84,19 @@ parted_of_live known y checked starts e f is js are same items h =
 abbrev Having : {X : Type 0} → (X → ℕ) → ℕ → List X → ℕ
 Having number e xs = count_by (λ x. number x == e) xs
 
-having_map : {X Y : Type 0} (h : X → Y) (number : Y → ℕ) (e : ℕ) (xs : List X) →
-    Having number e (map h xs) ≡ Having (λ x. number (h x)) e xs
-having_map h number e [] = refl
-having_map h number e (x ∷ xs) =
-    sum_by-cons (λ y. cond (number y == e) 1 0) (h x) (map h xs)
-    ∙ ap (λ n. cond (number (h x) == e) 1 0 + n) (having_map h number e xs)
-    ∙ sym (sum_by-cons (λ y. cond (number (h y) == e) 1 0) x xs)
-
-none_above : (e : ℕ) (ns : List ℕ) → All (λ n. e < n) ns → Having (λ n. n) e ns ≡ 0
-none_above e [] above = refl
-none_above e (n ∷ ns) above =
-    let first : e < n = above 0 n (omega arith) in
-    let rest : Having (λ n. n) e ns ≡ 0 = none_above e ns (λ k d lt. above (suc k) d (omega (arith, lt))) in
-    let other : (n == e) ≡ false = grind (arith, common_steps, first) in
-    let whole : Having (λ n. n) e (n ∷ ns) ≡ 0 + Having (λ n. n) e ns =
-    sum_by-cons (λ y. cond (y == e) 1 0) n ns ∙ ap (λ b. cond b 1 0 + Having (λ n. n) e ns) other in
-    omega (arith, whole, rest)
-
-is_same : (o : Ordering) → is_eq o ≡ true → o ≡ Equal
-is_same Equal e = refl
-is_same Less e = absurd (cc)
-is_same Greater e = absurd (cc)
-
-once_among : (e : ℕ) (ns : List ℕ) → AllPairs (λ x y. x < y) ns → Having (λ n. n) e ns ≤ 1
-once_among e [] rising = omega arith
-once_among e (n ∷ ns) rising =
-    by (n == e) refl (once_among e ns (λ i j d lt below. rising (suc i) (suc j) d (omega (arith, lt)) (omega (arith, below))))
-  where
-    whole : (b : Bool) → (n == e) ≡ b → Having (λ n. n) e (n ∷ ns) ≡ cond b 1 0 + Having (λ n. n) e ns
-    whole b is = sum_by-cons (λ y. cond (y == e) 1 0) n ns ∙ ap (λ b. cond b 1 0 + Having (λ n. n) e ns) is
-
-    by : (b : Bool) → (n == e) ≡ b → Having (λ n. n) e ns ≤ 1 → Having (λ n. n) e (n ∷ ns) ≤ 1
-    by true is rest =
-        let same : n ≡ e = exact_unsigned n e (is_same (nat_cmp n e) (same_number n e ∙ is)) in
-        let none : Having (λ n. n) e ns ≡ 0 =
-        none_above e ns (λ k d lt. rw same at (rising 0 (suc k) d (omega arith) (omega (arith, lt)))) in
-        let w : Having (λ n. n) e (n ∷ ns) ≡ 1 + Having (λ n. n) e ns = whole true is in
-        omega (arith, w, none)
-    by false is rest = let w : Having (λ n. n) e (n ∷ ns) ≡ 0 + Having (λ n. n) e ns = whole false is in omega (arith, w, rest)
-
 pub each_once : (g : Geometry) (all : List Scanned) (checked : List Checked) (e : ℕ) →
     IsStrictlyIncreasing (extent_numbers all) → Having (λ c. c.extent) e (reclaimable g all checked) ≤ 1
 each_once g all checked e rising =
-    let one = having_map (candidate_of checked) (λ c. c.extent) e (filter (is_reclaimable g checked) all) in
+    let one = count_map (λ c. c.extent == e) (candidate_of checked) (filter (is_reclaimable g checked) all) in
     let few : Having (λ f. f.extent) e (filter (is_reclaimable g checked) all) ≤ Having (λ f. f.extent) e all =
-    sum_of_kept (λ f. cond (f.extent == e) 1 0) (is_reclaimable g checked) all in
-    let numbers = having_map (λ (f : Scanned). f.extent) (λ n. n) e all in
-    let once : Having (λ n. n) e (extent_numbers all) ≤ 1 =
-    once_among e (extent_numbers all) (AllPairs-from_increasing (extent_numbers all) rising) in
+    sum_by-filter-le (λ f. cond (f.extent == e) 1 0) (is_reclaimable g checked) all in
+    let numbers = count_map (λ n. n == e) (λ (f : Scanned). f.extent) all in
+    let once : Having (λ n. n) e (extent_numbers all) ≤ 1 = rising_once (extent_numbers all) e rising in
     omega (arith, one, few, numbers, once)
 
 -- ---- their order
 
+-- Candidates are totally ordered by what they free, falling, and then by extent.
 pub free_total : IsTotalOrder by_free
 free_total =
     then_total (back_total (on_total (λ (c : CandidateValue). c.free) nat_cmp_total))

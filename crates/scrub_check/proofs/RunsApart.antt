@@ -91,6 +91,7 @@ module _ (image : Image) (plan : PlanValue) (l : Locator) where
       true_false : true ≡ false → ⊥
       true_false e = cc
 
+  -- What was read of a run and what became of it, if each is right alone, are right together.
   pub together : (run : Option (List EntryValue)) (state : RunState) → IsRunIn image plan l run → HasRunStateIn image plan l state →
       HasRunIn image plan l run state
   together run state = by (is_retired plan l.extent) (pointer_of plan l.extent) refl refl

@@ -19,7 +19,7 @@ parted pages first rising i j d le below later = elim (cases_eq i j) [
 abbrev pub PartedAt : List ℕ → ℕ → ℕ → Type 0
 PartedAt pages first i = IsPartitionPoint (λ p. nat_lt p first ≡ true) (λ p. nat_lt p first ≡ false) pages i
 
--- one of them lies from the first through the last exactly if the next one does
+-- one of the pages lies from the first through the last
 abbrev pub LiesBetween : List ℕ → ℕ → ℕ → Type 0
 LiesBetween pages first last = (q : ℕ) × Contains pages q × (first ≤ q) × (q ≤ last)
 

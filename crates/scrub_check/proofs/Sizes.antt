@@ -17,7 +17,6 @@ use Rattle.std.proofs.lemmas.Bool.Decides.{nat_tests}
 use Rattle.std.proofs.lemmas.List.{get_or-map, length-map}
 use Rattle.scrub_scan.specs.Scanned.{Scanned}
 use Rattle.scrub_scan.specs.AllFindings.{extent_numbers, entry_of}
-pub use Rattle.list_facts.proofs.Counts.{sum_by-filter-le as sum_of_kept}
 
 -- items that join from one place to the pointer take what lies between
 joined_sizes : (x : Extent) (a : ℕ) (items : List Item) → 0 < x.page → Joins a x.pointer items → All (IsItem x) items →

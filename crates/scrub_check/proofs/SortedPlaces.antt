@@ -23,7 +23,6 @@ use Rattle.scrub_scan.specs.Item.{start_of}
 use Rattle.scrub_check.specs.Live.{sound_at, has_sound_at, is_chunk}
 use Rattle.scrub_check.specs.steps.Places.{chunk_at_cmp, is_place}
 use Rattle.scrub_check.specs.steps.SoundPlaces.{is_sound_at, is_live, place_of_checked, sound_places, AreSoundPlaces, is_live_by, is_named_by}
-pub use Rattle.list_facts.proofs.Orders.{is_eq-nat_cmp as same_number}
 
 -- places are in a total order
 pub place_total : IsTotalOrder chunk_at_cmp

@@ -26,7 +26,7 @@ starts_rise x items pos h = go 0 items h.joined h.each
         subst (λ (n : ℕ). get_or (map start_of (next ∷ is)) k 0 < get_or (map start_of (i ∷ next ∷ is)) n 0) {x = suc (k + 1)}
         (omega arith) more
 
--- an item of the tiling begins where the i-th one does, and one that begins there is among them
+-- An item of the tiling begins where the i-th one does.
 pub begins : (x : Extent) (items : List Item) (i p : ℕ) → IsTiling x items → i < length items →
     slice_index (map start_of items) i ≡ p → BeginsAt x p
 begins x items i p tiled below at =

@@ -1,12 +1,12 @@
 -- Each test of a locator is decided, so each locator has a status; and each index run that a plan names was read or lost.
-use Rattle.std.proofs.Common.{◌≡◌, ◌≢◌, ◌⊎◌, ◌<◌, ◌≤◌, ◌+◌, ◌-◌, ℕ, suc, Bool, true, false, List, [], ◌∷◌, map, zip, length, Contains, arith, refl, sym, ◌∙◌, ap, subst, Option, Some, None, MatchBool, MatchOption, inl, inr}
+use Rattle.std.proofs.Common.{◌≡◌, ◌⊎◌, ◌<◌, ◌≤◌, ◌+◌, ◌-◌, ℕ, suc, Bool, true, false, List, [], ◌∷◌, map, zip, length, Contains, arith, refl, sym, ◌∙◌, ap, subst, Option, Some, None, MatchBool, MatchOption, inl, inr}
 use Rattle.std.specs.List.{AllZip}
 use Rattle.std.proofs.lemmas.Bool.{false≢true}
 use Rattle.std.proofs.lemmas.List.Elements.{All-cons, All-nil}
 use Rattle.std.proofs.lemmas.Option.{none-some, same_Some}
 use Rattle.sha2.specs.Sha256.{sha256}
 use Rattle.list_facts.proofs.Decisions.{Decided, decided_at_most, decided_both, decided_less, decided_like, decided_none, decided_number, decided_numbers, some_below, some_element}
-use Rattle.scrub_disk.specs.Image.{Image, byte, extent_bytes}
+use Rattle.scrub_disk.specs.Image.{Image, image_byte, extent_bytes}
 use Rattle.scrub_frame.specs.declared.form.Form.{Form}
 use Rattle.scrub_frame.specs.declared.locator.Locator.{Locator}
 use Rattle.scrub_super.specs.Plan.{PlanValue, pointer_of}
@@ -100,6 +100,7 @@ module _ (image : Image) (w : ℕ) (l : Locator) where
       by (inr none) = (NoFrame, (can, none))
       by (inl x) = judge_frame x.1 x.2 (record { can = can; form = x.0; frame = x.3 })
 
+  -- Under each write pointer a locator has a status.
   pub some_status : (s : Status) × HasStatus image w l s
   some_status = by_range (decided_in_range image l)
     where
@@ -110,7 +111,7 @@ module _ (image : Image) (w : ℕ) (l : Locator) where
           by_pointer : Decided (end_of l ≤ w) → (s : Status) × HasStatus image w l s
           by_pointer (inr past) = (PastPointer, (in_range, past))
           by_pointer (inl below) =
-              by_bytes (decided_gap (byte image l.extent) l.offset (l.length + 38))
+              by_bytes (decided_gap (image_byte image l.extent) l.offset (l.length + 38))
             where
               by_bytes : Decided (HasUnreadableByte image l) → (s : Status) × HasStatus image w l s
               by_bytes (inl gap) = (Unreadable, (in_range, below, gap))

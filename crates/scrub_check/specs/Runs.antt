@@ -39,7 +39,8 @@ pub record AreCounted (r : ReadRunsValue) : Type 0 where
   pub same : len r.states ≡ len r.runs
   pub few : len r.runs ≤ 32
 
--- the runs that a plan names, in its order: what was read of each, and what became of it
+-- the runs that a plan names, in its order: what was read of each, and what became of it; both lists are as
+-- long, because `zip` ends with the shorter one
 pub record AreReadRuns (image : Image) (plan : PlanValue) (r : ReadRunsValue) : Type 0 where
   pub same : len r.states ≡ len r.runs
   pub each : AllZip (λ l x. HasRunIn image plan l x.0 x.1) plan.runs (zip r.runs r.states)

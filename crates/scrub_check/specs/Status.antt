@@ -5,7 +5,7 @@ use Rattle.std.specs.Prelude.{length as len}
 use Rattle.std.specs.List.{list_any}
 use Rattle.sha2.specs.Sha256.{sha256}
 use Rattle.scrub_disk.specs.declared.geometry.Geometry.{Geometry}
-use Rattle.scrub_disk.specs.Image.{Image, byte, extent_bytes}
+use Rattle.scrub_disk.specs.Image.{Image, image_byte, extent_bytes}
 use Rattle.scrub_frame.specs.declared.form.Form.{Form}
 use Rattle.scrub_frame.specs.declared.locator.Locator.{Locator}
 use Rattle.scrub_super.specs.Plan.{PlanValue, pointer_of}
@@ -20,7 +20,7 @@ use Rattle.scrub_check.specs.declared.statuses.status.Status.TheVariants.{OutOfR
 abbrev pub end_of : Locator → ℕ
 end_of l = l.offset + l.length + 38
 
--- the locator's least frame would be in an extent that chunks are written to
+-- the locator's least frame would be in an extent of the disk other than extent 0, retired or not
 pub record InRange (g : Geometry) (l : Locator) : Type 0 where
   pub from_one : 1 ≤ l.extent
   pub in_disk : l.extent < g.extents
@@ -28,7 +28,7 @@ pub record InRange (g : Geometry) (l : Locator) : Type 0 where
 
 -- one byte of the locator's least frame can't be read
 abbrev pub HasUnreadableByte : Image → Locator → Type 0
-HasUnreadableByte image l = HasGap (byte image l.extent) l.offset (l.length + 38)
+HasUnreadableByte image l = HasGap (image_byte image l.extent) l.offset (l.length + 38)
 
 -- the locator's least frame would be in range, at or before the pointer, and on readable pages
 pub record CanStand (image : Image) (w : ℕ) (l : Locator) : Type 0 where

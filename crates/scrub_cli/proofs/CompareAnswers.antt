@@ -7,12 +7,10 @@ use Rattle.scrub_cli.specs.declared.process.fault.Fault.{Fault}
 use Rattle.scrub_args.specs.declared.args.CompareArgs.{CompareArgs}
 use Rattle.scrub_cli.specs.Compare.{IsCompareFault, IsEarlierLoaded}
 use Rattle.scrub_cli.specs.DiskImage.{AreReadBefore, IsLoadedBy, IsLossesFault, IsRawFault}
-use Rattle.scrub_cli.specs.DiskGeometry.{IsGeometryFault}
 use Rattle.scrub_cli.specs.KnownFiles.{KnownMaps, KnownRaw}
 use Rattle.scrub_cli.specs.Manifest.{MayBeReset}
 use Rattle.scrub_cli.proofs.DiskAnswers.{of_losses_fault, of_raw_fault}
 use Rattle.scrub_cli.proofs.Rescues.{lost_geometry}
-use Rattle.scrub_cli.proofs.ScanAnswers.{of_geometry_fault}
 
 -- an image that was loaded for a disk of some sizes has them
 pub loaded_sizes : {known : KnownRaw} {g : Sizes} {pages : List (ℕ × ℕ)} {blocks : Option (List MapBlock)} {image : Image} →
@@ -20,13 +18,6 @@ pub loaded_sizes : {known : KnownRaw} {g : Sizes} {pages : List (ℕ × ℕ)} {b
 loaded_sizes {blocks = blocks} {image} l = lost_geometry blocks l.before image l.rescued ∙ l.loaded.geometry
 
 module _ (known : List ℕ → KnownRaw) (maps : KnownMaps) (args : CompareArgs) where
-  -- a fault of the sizes is one of `compare`
-  pub compare_geometry_fault : (fault : Fault) →
-      IsGeometryFault (known args.before.scan.image.name.now) maps args.before.scan.image fault → IsCompareFault known maps args fault
-  compare_geometry_fault fault =
-      of_geometry_fault (IsCompareFault known maps args) (known args.before.scan.image.name.now) maps args.before.scan.image
-      (λ limit is. is) (λ is. is) (λ name is. inl is) (λ k is. inl is) (λ name is. inl (inl is)) tt fault
-
   module _ (g : Sizes) (places : MayBeReset (known args.before.scan.image.name.now) maps args.before g) where
     -- so is one of what is lost
     pub compare_losses_fault : (fault : Fault) → IsLossesFault maps args.before.scan.image g fault → IsCompareFault known maps args fault

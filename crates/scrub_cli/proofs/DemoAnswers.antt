@@ -6,16 +6,17 @@ use Rattle.scrub_disk.specs.Image.{Image}
 use Rattle.scrub_disk.specs.Memory.{IsBlank, Puts}
 use Rattle.scrub_frame.specs.declared.locator.Locator.{Locator}
 use Rattle.scrub_frame.specs.declared.form.Form.TheVariants.{Plain}
-use Rattle.scrub_frame.specs.Frame.{frame}
+use Rattle.scrub_frame.specs.Frame.{frame_of}
 use Rattle.scrub_run.specs.Run.{run_bytes}
 use Rattle.scrub_super.specs.Record.{record_bytes}
 use Rattle.scrub_cli.specs.Demo.{demo_pointers, demo_run, demo_shard, demo_superblock, located, ones, twos, IsDemoDisk}
 
+-- A blank disk on which the demo's chunk, run and superblock were put is the demo's disk.
 pub demo_made : (blank with_chunk with_run image : Image) (g : Geometry)
     (u v abc payload chunk run superblock : List ℕ) (l m : Locator) →
     IsBlank blank g → HasSizes g 64 4 3 → u ≡ ones → v ≡ twos → abc ≡ codes "abc" →
-    chunk ≡ frame Plain u abc → l ≡ located 1 u abc → payload ≡ run_bytes (record { id = demo_shard; locators = l ∷ [] } ∷ []) →
-    run ≡ frame Plain v payload → m ≡ located 2 v payload →
+    chunk ≡ frame_of Plain u abc → l ≡ located 1 u abc → payload ≡ run_bytes (record { id = demo_shard; locators = l ∷ [] } ∷ []) →
+    run ≡ frame_of Plain v payload → m ≡ located 2 v payload →
     superblock ≡ record_bytes g (record { generation = 1; pointers = demo_pointers; retired = None; runs = m ∷ [] }) →
     Puts blank with_chunk 1 0 chunk → Puts with_chunk with_run 2 0 run → Puts with_run image 0 0 superblock → IsDemoDisk image
 demo_made blank with_chunk with_run image g u v abc payload chunk run superblock l m zero sizes hu hv habc hc hl hp hr hm hs
@@ -25,12 +26,12 @@ demo_made blank with_chunk with_run image g u v abc payload chunk run superblock
       zeros = subst (λ (x : Geometry). IsBlank blank x) (sym zero.geometry) zero;
       with_chunk = with_chunk;
       chunk =
-          subst (λ (b : List ℕ). Puts blank with_chunk 1 0 b) (hc ∙ ap (λ x. frame Plain x abc) hu ∙ ap (frame Plain ones) habc)
+          subst (λ (b : List ℕ). Puts blank with_chunk 1 0 b) (hc ∙ ap (λ x. frame_of Plain x abc) hu ∙ ap (frame_of Plain ones) habc)
           put_chunk;
       with_run = with_run;
       run =
           subst (λ (b : List ℕ). Puts with_chunk with_run 2 0 b)
-          (hr ∙ ap (λ x. frame Plain x payload) hv ∙ ap (frame Plain twos) run_is) put_run;
+          (hr ∙ ap (λ x. frame_of Plain x payload) hv ∙ ap (frame_of Plain twos) run_is) put_run;
       superblock = subst (λ (b : List ℕ). Puts with_run image 0 0 b) record_is put_superblock;
     }
   where

@@ -98,6 +98,7 @@ loaded_extent_more raw fails few many g pages e image le l = record {
 abbrev pub marks_from : ℕ → List Bool → List Bool
 marks_from first all = take (length all - first) (drop first all)
 
+-- Of `first + pages` marks, `marks_from first` has `pages`.
 pub length-marks_from : (first pages count : ℕ) (all : List Bool) → length all ≡ count → count ≡ first + pages →
     length (marks_from first all) ≡ pages
 length-marks_from first pages count all every count_is =

@@ -3,9 +3,10 @@ use Rattle.std.proofs.Common.{◌≡◌, ◌≤◌, ℕ, Bool, List, Option, Non
 use Rattle.scrub_disk.specs.declared.geometry.Geometry.{Geometry as Sizes}
 use Rattle.scrub_listings.specs.Sizes.{AreSizesOf}
 use Rattle.scrub_map.specs.declared.map.RescueMap.{RescueMap}
-use Rattle.scrub_cli.specs.DiskGeometry.{AreFoundBy, AreSizesRead}
+use Rattle.scrub_cli.specs.DiskGeometry.{AreSizesFoundBy, AreSizesRead}
 use Rattle.scrub_cli.specs.KnownFiles.{KnownRaw}
 
+-- Sizes found with at most `most` failed reads are those read of an image in which `most` may fail.
 pub sizes_read : {E : Type 0} (bytes : Option (List ℕ)) (fails : ℕ → ℕ → Bool) (most : ℕ) (lacking : List ℕ) (failures : ℕ) (r : Result (Option Sizes) E) →
     failures ≤ most → IfOk r (AreSizesOf bytes lacking fails failures) →
     IfOk r (AreSizesRead (record { bytes = bytes; fails = fails; most_failures = most }) lacking)
@@ -24,7 +25,7 @@ read_as_known known bytes fails most lacking found same may bound read = record 
 
 -- if the sizes are left out, those that were found with a map that was read before are found with the same map now
 pub found_again : {O Given : Type 0} (known : KnownRaw) (g : Sizes) (opened : Option O) (map_of : O → Option RescueMap) (map : Option RescueMap) →
-    MatchOption opened (Given → ⊥) (λ o. AreFoundBy known (map_of o) g) → IfSome opened (λ o. map ≡ map_of o) → Given →
-    AreFoundBy known map g
+    MatchOption opened (Given → ⊥) (λ o. AreSizesFoundBy known (map_of o) g) → IfSome opened (λ o. map ≡ map_of o) → Given →
+    AreSizesFoundBy known map g
 found_again known g None map_of map found same left = absurd (found left)
 found_again known g (Some o) map_of map found same left = λ blocks keeps. found blocks (rw same at keeps)

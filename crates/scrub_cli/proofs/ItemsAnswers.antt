@@ -27,6 +27,7 @@ placed known maps args g pointer size limit sizes in_disk is size_is limit_is wi
       pointer_is,
     )
 
+-- A pointer past the end of its extent is the fault `Pointer` of `items`.
 pub pointer_fault : (known : KnownRaw) (maps : KnownMaps) (args : ItemsArgs) (g : Sizes) (pointer size limit : ℕ) →
     IsGeometryOf known maps args.image g → args.extent < g.extents →
     pointer ≡ unwrap_or args.pointer size → size ≡ extent_bytes g → limit ≡ extent_bytes g → limit < pointer →
@@ -51,6 +52,7 @@ items_geometry_fault known maps args fault =
     of_geometry_fault (IsItemsFault known maps args) known maps args.image (λ limit is. is) (λ is. is) (λ name is. inl is)
     (λ k is. inl is) (λ name is. inl is) tt fault
 
+-- The listing of the extent under the pointer, in the image that was loaded, is the answer of `items`.
 pub items_answer : (known : KnownRaw) (maps : KnownMaps) (args : ItemsArgs) (g : Sizes) (image : Image) (pointer : ℕ)
     (text : List ℕ) (outcome : Outcome) →
     AreInDisk known maps args g → IsLoadedDisk known maps args.image g image → pointer ≡ given_pointer args g →

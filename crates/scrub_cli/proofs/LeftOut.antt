@@ -21,7 +21,7 @@ use Rattle.scrub_cli.specs.Items.{AreInDisk, IsItemsFault, IsPlacedFault}
 use Rattle.scrub_cli.specs.KnownFiles.{KnownMaps, KnownRaw}
 use Rattle.scrub_cli.specs.LeftOut.{AreFoundFor, FindsSizes, IsFindingFault, LeavesOut, request_with, with_sizes}
 use Rattle.scrub_cli.specs.Scan.{IsDiskOf, IsLoadFault, IsScanFault}
-use Rattle.scrub_cli.specs.Shard.{IsFaultAfterId, IsNamed, IsShardFault, IsShardLost, IsShardRead}
+use Rattle.scrub_cli.specs.Shard.{IsFaultAfterId, IsShardFault, IsShardLost, IsShardRead}
 use Rattle.scrub_cli.proofs.DiskAnswers.{of_disk_fault}
 
 -- ---- the sizes, and the disk

@@ -2,8 +2,8 @@
 use Rattle.std.proofs.Common.{◌≡◌, ◌<◌, ◌+◌, ℕ, List, [], ◌∷◌, ◌++◌, length, take, get_or, All}
 use Rattle.std.specs.Borrow.{Bor}
 use Rattle.std.proofs.lemmas.List.Elements.{All-nil, All-cons}
+use Rattle.list_facts.proofs.Zips.{AllZip-take_more}
 use Rattle.scrub_disk.specs.declared.geometry.Geometry.{Geometry}
-use Rattle.scrub_disk.proofs.Zips.{AllZip-take_more}
 use Rattle.scrub_cli.specs.DiskImage.{NamesPage, NamePages}
 
 -- one more argument, and the page that it names

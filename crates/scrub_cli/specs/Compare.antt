@@ -1,6 +1,5 @@
 -- What the command `compare` answers for two image files, and why it doesn't.
 use Rattle.std.specs.Prelude.{◌≡◌, ◌<◌, ◌⊎◌, ℕ, List, Bool, Option, IfSome, length}
-use Rattle.clap.specs.Words.{Text}
 use Rattle.scrub_disk.specs.declared.geometry.Geometry.{Geometry as Sizes}
 use Rattle.scrub_disk.specs.Image.{Image, disk_bytes}
 use Rattle.scrub_map.specs.declared.block.MapBlock.{MapBlock}

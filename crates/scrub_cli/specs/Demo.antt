@@ -6,7 +6,7 @@ use Rattle.scrub_disk.specs.Image.{Image}
 use Rattle.scrub_disk.specs.Memory.{IsBlank, Puts}
 use Rattle.scrub_frame.specs.declared.locator.Locator.{Locator}
 use Rattle.scrub_frame.specs.declared.form.Form.TheVariants.{Plain}
-use Rattle.scrub_frame.specs.Frame.{frame}
+use Rattle.scrub_frame.specs.Frame.{frame_of}
 use Rattle.scrub_run.specs.declared.shard_id.ShardId.{ShardId}
 use Rattle.scrub_run.specs.Run.{run_bytes}
 use Rattle.scrub_super.specs.Contents.{Contents}
@@ -50,9 +50,9 @@ pub record IsDemoDisk (image : Image) : Type 0 where
   pub sizes : HasSizes blank.geometry 64 4 3
   pub zeros : IsBlank blank blank.geometry
   pub with_chunk : Image
-  pub chunk : Puts blank with_chunk 1 0 (frame Plain ones (codes "abc"))
+  pub chunk : Puts blank with_chunk 1 0 (frame_of Plain ones (codes "abc"))
   pub with_run : Image
-  pub run : Puts with_chunk with_run 2 0 (frame Plain twos demo_run)
+  pub run : Puts with_chunk with_run 2 0 (frame_of Plain twos demo_run)
   pub superblock : Puts with_run image 0 0 (record_bytes blank.geometry demo_superblock)
 
 -- the answer is the report of the demo's disk, with its outcome

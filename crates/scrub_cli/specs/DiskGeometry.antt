@@ -1,5 +1,5 @@
 -- The sizes of a disk: those that the arguments give, or else those that its superblock records have.
-use Rattle.std.specs.Prelude.{◌≡◌, ◌≤◌, ℕ, Bool, List, Option, None, Some, MatchOption}
+use Rattle.std.specs.Prelude.{◌≤◌, ℕ, List, Option, None, Some, MatchOption}
 use Rattle.std.specs.Borrow.{Bor}
 use Rattle.scrub_disk.specs.declared.geometry.Geometry.{Geometry as Sizes}
 use Rattle.scrub_disk.specs.Faults.{HasSizes, IsFirstBroken}
@@ -35,8 +35,8 @@ pub record AreSizesFound (known : KnownRaw) (maps : KnownMaps) (named : Option (
   pub sizes : AreSizesWithout known blocks found
 
 -- these sizes are found so in a raw image, with the blocks lost that this map lacks
-abbrev pub AreFoundBy : KnownRaw → Option RescueMap → Sizes → Type 0
-AreFoundBy known map g = (blocks : Option (List MapBlock)) → KeepsMap map blocks → AreSizesWithout known blocks (Some g)
+abbrev pub AreSizesFoundBy : KnownRaw → Option RescueMap → Sizes → Type 0
+AreSizesFoundBy known map g = (blocks : Option (List MapBlock)) → KeepsMap map blocks → AreSizesWithout known blocks (Some g)
 
 -- why no sizes are found: the map and the image aren't opened, or else that there are none; or memory ran out
 abbrev pub IsFoundFault : KnownRaw → KnownMaps → Option (Bor (List ℕ)) → Bor (List ℕ) → Fault → Type 0

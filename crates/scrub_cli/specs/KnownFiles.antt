@@ -18,8 +18,8 @@ pub record IsKnownAs {R : Type 0} (bytes : R → Option (List ℕ)) (fails : R �
   pub few_reads : reads raw ≤ max_extent_bytes
 
 -- what is known of a file: no bytes, and any of its reads may fail
-abbrev pub file : KnownRaw
-file = record { bytes = None; fails = λ offset count. true; most_failures = 2 ^ 70 }
+abbrev pub image_file : KnownRaw
+image_file = record { bytes = None; fails = λ offset count. true; most_failures = 2 ^ 70 }
 
 -- the text of the map under each name, if it is known
 abbrev pub KnownMaps : Type 0

@@ -5,7 +5,7 @@
 ghost use Rattle.std.specs.Prelude.{◌≡◌, ◌⊎◌, IfErr, MatchResult, drop, map};
 ghost use Rattle.std.specs.Process.{exit_status};
 ghost use Rattle.scrub_cli.specs.Answer.{RunWrites, WritesNone};
-ghost use Rattle.scrub_cli.specs.KnownFiles.{file, map_file};
+ghost use Rattle.scrub_cli.specs.KnownFiles.{image_file, map_file};
 
 mod commands;
 mod process;
@@ -57,7 +57,7 @@ fn run_process<R: Files<File = File> + AllocGlobal + Threads + Wait + Sync, O: W
     err: &mut E,
 ) -> ExitCode
     ensures { MatchResult args.entry
-        (λ all. RunWrites (λ _. file) map_file (map (λ arg. arg.bytes.items) (drop 1 all.items))
+        (λ all. RunWrites (λ _. image_file) map_file (map (λ arg. arg.bytes.items) (drop 1 all.items))
         (exit_status result)
         (O.contents out.old, O.contents out.new) (E.contents err.old, E.contents err.new))
         (λ fault. WritesNone fault (exit_status result)
@@ -77,7 +77,7 @@ fn run_args<R: Files<File = File> + AllocGlobal + Threads + Wait + Sync, O: Writ
     out: &mut O,
     err: &mut E,
 ) -> u8
-    ensures { RunWrites (λ _. file) map_file (map (λ arg. arg.bytes.items) args.now) result
+    ensures { RunWrites (λ _. image_file) map_file (map (λ arg. arg.bytes.items) args.now) result
         (O.contents out.old, O.contents out.new) (E.contents err.old, E.contents err.new) }
 {
     let args: Result<Vec<&str>, OutOfMemory> = args

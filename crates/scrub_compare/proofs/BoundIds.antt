@@ -1,18 +1,16 @@
 -- The identifiers bound on one of two disks: found among those of both, and one list at most.
-use Rattle.std.proofs.Common.{◌≡◌, ◌⊎◌, ◌++◌, ◌∷◌, [], ℕ, zero, suc, List, get_or, map, arith, refl, sym, subst, ◌∙◌, ap, inl, inr}
+use Rattle.std.proofs.Common.{◌≡◌, ◌⊎◌, ◌++◌, ◌∷◌, [], suc, List, map, arith, refl, sym, subst, ◌∙◌, ap, inl, inr}
 use Rattle.std.specs.List.{AllPairs, Contains}
-use Rattle.std.specs.List.Retain.{DiffersFromLast, IsFiltered}
-use Rattle.std.specs.List.Sorted.{IsPermutation, IsSorted}
 use Rattle.std.specs.Ordering.{ordering_reverse}
 use Rattle.std.specs.declared.cmp.Ordering.{Ordering}
 use Rattle.std.specs.declared.cmp.Ordering.TheVariants.{Less, Greater}
 use Rattle.std.proofs.lemmas.List.Elements.{Contains-append_cases, Contains-append_left, Contains-append_right}
 use Rattle.std.proofs.lemmas.Map.Keys.{Less-from_sorted}
+use Rattle.list_facts.proofs.Elements.{Contains-cases}
 use Rattle.scrub_run.specs.declared.shard_id.ShardId.{ShardId}
 use Rattle.scrub_run.specs.Entry.{IsBelow}
 use Rattle.scrub_merge.specs.Binding.{BindingValue}
 use Rattle.scrub_merge.specs.steps.Cursors.{id_cmp}
-use Rattle.scrub_frame.proofs.Elements.{Contains-cases}
 use Rattle.scrub_merge.proofs.Identifiers.{id_cmp_total}
 use Rattle.scrub_check.specs.steps.Distinct.{AreDistinct}
 use Rattle.scrub_compare.specs.Compare.{AreBoundIds}
@@ -66,6 +64,7 @@ behind x y z xs ys up same there (inl e) =
     let equal : x ≡ z = same ∙ e in
     absurd (one_way x z below (subst (λ (a : ShardId). IsBelow z a) (sym equal) (subst (λ (a : ShardId). IsBelow a z) equal below)))
 
+-- Two ascending lists of identifiers with the same elements are equal.
 pub one_rising : (xs ys : List ShardId) → Rises xs → Rises ys → ((id : ShardId) → Contains xs id → Contains ys id) →
     ((id : ShardId) → Contains ys id → Contains xs id) → xs ≡ ys
 one_rising [] [] ux uy there back = refl
@@ -80,6 +79,7 @@ one_rising (x ∷ xs) (y ∷ ys) ux uy there back =
     (λ z c. behind y x z ys xs uy (sym first) c (Contains-cases x xs z (back z (suc c.0, omega (arith, c.1), c.2)))) in
     λ i. first i ∷ rest i
 
+-- Only one ascending list holds just the identifiers that one of two disks binds.
 pub one_list_of_ids : (old new : List BindingValue) (ids others : List ShardId) → AreBoundIds old new ids → AreBoundIds old new others →
     ids ≡ others
 one_list_of_ids old new ids others x y =

@@ -1,9 +1,8 @@
 -- Two steps that are safe keep the manifest together.
-use Rattle.std.proofs.Common.{◌≡◌, ◌⊎◌, ◌<◌, ◌==◌, ◌&&◌, ◌++◌, ◌∷◌, [], ℕ, suc, Bool, true, false, not, List, Option, Some, None, length, get_or, map, arith, is_none, refl, sym, ◌∙◌, ap, subst, inl, inr, if◌then◌else◌}
+use Rattle.std.proofs.Common.{◌≡◌, ◌⊎◌, ◌<◌, ◌==◌, ◌&&◌, ◌++◌, ◌∷◌, [], ℕ, Bool, true, false, not, List, Option, Some, None, length, get_or, map, arith, is_none, refl, sym, ◌∙◌, ap, subst, inl, inr, if◌then◌else◌}
 use Rattle.std.specs.List.{AllZip, Contains, count_by, filter, list_any, slice_get}
 use Rattle.std.specs.Str.{bytes_eq}
 use Rattle.std.proofs.lemmas.Bool.{and_from, and_parts, false≢true}
-use Rattle.std.proofs.lemmas.Grind.{common_steps}
 use Rattle.std.proofs.lemmas.List.Elements.{All-contains, All-contains_itself, All-filter}
 use Rattle.std.proofs.lemmas.Option.{get_or_from_slice_get, same_Some, slice_get-get_or, slice_get_within}
 use Rattle.std.proofs.lemmas.Slice.Eq.{bytes_eq-Decides}
@@ -28,8 +27,9 @@ use Rattle.scrub_found.proofs.OneScrub.{one_scrub}
 use Rattle.scrub_listings.specs.Manifest.{IsManifest, is_whole, form_text, hidden_runs, is_of_read_run, is_of_shard, looked_for, lost_runs, manifest_text, numbered_text, of_shards}
 use Rattle.scrub_reclaim.specs.Reset.{IsForeseen, NameTheSame}
 use Rattle.scrub_reclaim.proofs.CarriedNames.{named_alike}
-use Rattle.scrub_reclaim.proofs.Reset.{IsScannedBy, IsTheSame, alike_items, among_cases, as_foreseen, carries, kept_pointer, no_items, one_plan_in, reset_of, same_numbers, scanned_by, scans_alike, zero_pointer}
-use Rattle.scrub_reclaim.proofs.ResetForms.{IsAlikeIn, IsPartOf, along, frame_was, same_form, spare_among, spare_too}
+use Rattle.scrub_reclaim.proofs.Reset.{among_cases, as_foreseen, kept_pointer, one_plan_in, reset_of, zero_pointer}
+use Rattle.scrub_reclaim.proofs.SameExtents.{IsScannedBy, IsTheSame, alike_items, carries, no_items, same_numbers, scanned_by, scans_alike}
+use Rattle.scrub_reclaim.proofs.ResetForms.{IsAlikeIn, IsPartOf, along, frame_was, not_none, same_form, spare_among, spare_too}
 use Rattle.scrub_compare.specs.Compare.{Compared, RowValue, are_alike, has_no_less, owned_by, row_in}
 use Rattle.scrub_compare.specs.Laws.{IsSafe, IsSameButMore, NonePointsInto}
 use Rattle.scrub_compare.proofs.Chunks.{among_there}
@@ -82,9 +82,6 @@ kept_more s t u one other = record {
     still id bound = subst (λ (ids : List ShardId). Contains ids id) one.ids bound
 
 -- ---- with and without resets
-
-not_none : (n : ℕ) → (suc n == 0) ≡ false
-not_none n = grind (arith, common_steps)
 
 module _ (resets : List ℕ) (image : Image) (kept_there rest : Scrubbed) (x : IsScrubbedBut resets image kept_there) (y : IsScrubbed image rest)
     (apart : NonePointsInto resets rest.checked) where
@@ -196,6 +193,7 @@ module _ (resets : List ℕ) (image : Image) (kept_there rest : Scrubbed) (x : I
 
 -- ---- two steps
 
+-- Two safe steps and the second's resets keep the manifest, but for new spares and fewer hidden runs.
 pub nothing_lost_in_two : (resets others : List ℕ) (before after later other : Image) (a b : List ℕ) (v w : Bool) → IsSafe resets before after →
     IsSafe others after later → IsForeseen others later other → IsManifest before a v → IsManifest other b w → IsSameButMore a b
 nothing_lost_in_two resets others before after later other a b v w s t f x y =

@@ -1,18 +1,18 @@
 -- The bytes of two extents that were read are those of the images, and the tests on them decide what may change.
-use Rattle.std.proofs.Common.{◌≡◌, ◌≢◌, ◌⊎◌, ◌<◌, ◌≤◌, ◌==◌, ◌+◌, ◌*◌, ◌/◌, ◌%◌, ◌-◌, ◌&&◌, ◌||◌, ℕ, List, Bool, true, false, cond, not, nat_lt, is_some, if◌then◌else◌, Option, Some, None, MatchOption, IsTrue, length, get_or, arith, refl, sym, ◌∙◌, ap, subst, inl, inr}
+use Rattle.std.proofs.Common.{◌≡◌, ◌≢◌, ◌⊎◌, ◌<◌, ◌≤◌, ◌+◌, ◌*◌, ◌/◌, ◌%◌, ◌-◌, ◌&&◌, ◌||◌, ℕ, List, Bool, true, false, not, nat_lt, if◌then◌else◌, Option, Some, None, length, get_or, arith, refl, sym, ◌∙◌, ap, subst, inl, inr}
 use Rattle.std.specs.List.{between}
-use Rattle.std.specs.Option.{option_map_or}
 use Rattle.std.specs.Str.{bytes_eq}
 use Rattle.std.proofs.Math.Nat.{mod-lt}
-use Rattle.std.proofs.lemmas.Bool.{and_parts, cases_lt, eq-eqb, eqb-true, false≢true, false_from_ne_true, le-ltb, lt-ltb, ltb-false, ltb-true, not_from_false, not_from_true, or_left, or_right}
+use Rattle.std.proofs.lemmas.Bool.{and_parts, eq-eqb, eqb-true, false≢true, le-ltb, lt-ltb, ltb-false, ltb-true, or_cases, or_left, or_right}
 use Rattle.std.proofs.lemmas.List.Edits.{get_or-between, length-between}
 use Rattle.std.proofs.lemmas.Nat.{div-add-mod', div-mul-add, div_below}
 use Rattle.std.proofs.lemmas.Option.{none-some, same_Some}
 use Rattle.std.proofs.lemmas.Slice.Eq.{bytes_eq-Decides}
 use Rattle.std.proofs.lemmas.List.{get_or_read_under}
+use Rattle.list_facts.proofs.Bools.{false_from_not}
 use Rattle.scrub_disk.specs.declared.buffered_extent.BufferedExtent.{BufferedExtent}
 use Rattle.scrub_disk.specs.Buffered.{IsBuffered}
-use Rattle.scrub_disk.specs.Image.{Image, byte, extent_bytes}
+use Rattle.scrub_disk.specs.Image.{Image, image_byte, extent_bytes}
 use Rattle.scrub_disk.proofs.HeldBytes.{byte-page, byte-unreadable}
 use Rattle.scrub_disk.proofs.PagesRead.{page_fits}
 use Rattle.scrub_super.specs.Pages.{IsHeldByte}
@@ -60,39 +60,27 @@ zero_then None n could zero = absurd (could refl)
 zero_then (Some a) None could zero = absurd (none-some 0 zero)
 zero_then (Some a) (Some b) could zero = eq-eqb b 0 (same_Some b 0 zero)
 
-parts : (a b : Bool) → (a && b) ≡ true → (a ≡ true) × (b ≡ true)
-parts true b is = (refl, is)
-parts false b is = absurd (false≢true is)
-
-either : (a b : Bool) → (a || b) ≡ true → (a ≡ true) ⊎ (b ≡ true)
-either true b is = inl refl
-either false b is = inr is
-
-back : (a : Bool) → not a ≡ true → a ≡ false
-back true is = absurd (false≢true is)
-back false is = refl
-
 module _ (before after : Image) (x p : ℕ) where
-  zero_now : is_zeroed (byte before x p) (byte after x p) ≡ true → IsZeroNow before after x p
+  zero_now : is_zeroed (image_byte before x p) (image_byte after x p) ≡ true → IsZeroNow before after x p
   zero_now is =
-      let z = zero_if (byte before x p) (byte after x p) is in record { was_readable = z.0; is_zero = z.1 }
+      let z = zero_if (image_byte before x p) (image_byte after x p) is in record { was_readable = z.0; is_zero = z.1 }
 
-  zero_test : IsZeroNow before after x p → is_zeroed (byte before x p) (byte after x p) ≡ true
-  zero_test z = zero_then (byte before x p) (byte after x p) z.was_readable z.is_zero
+  zero_test : IsZeroNow before after x p → is_zeroed (image_byte before x p) (image_byte after x p) ≡ true
+  zero_test z = zero_then (image_byte before x p) (image_byte after x p) z.was_readable z.is_zero
 
   abbrev may : Option ℕ → ℕ → Bool
-  may room to = may_change room to p (byte before x p) (byte after x p)
+  may room to = may_change room to p (image_byte before x p) (image_byte after x p)
 
   -- in an extent with room
   may_if : (room : Option ℕ) (to : ℕ) → may room to ≡ true → MayChangeInRoom before after room to x p
   may_if None to is = absurd (false≢true is)
   may_if (Some place) to is =
-      let t = parts (not (nat_lt p place)) (nat_lt p to || is_zeroed (byte before x p) (byte after x p)) is in (
-        ltb-false p place (back (nat_lt p place) t.0),
-        by (either (nat_lt p to) (is_zeroed (byte before x p) (byte after x p)) t.1),
+      let t = and_parts (not (nat_lt p place)) (nat_lt p to || is_zeroed (image_byte before x p) (image_byte after x p)) is in (
+        ltb-false p place (false_from_not (nat_lt p place) t.0),
+        by (or_cases (nat_lt p to) (is_zeroed (image_byte before x p) (image_byte after x p)) t.1),
       )
     where
-      by : (nat_lt p to ≡ true) ⊎ (is_zeroed (byte before x p) (byte after x p) ≡ true) → (p < to) ⊎ IsZeroNow before after x p
+      by : (nat_lt p to ≡ true) ⊎ (is_zeroed (image_byte before x p) (image_byte after x p) ≡ true) → (p < to) ⊎ IsZeroNow before after x p
       by (inl less) = inl (ltb-true p to less)
       by (inr zero) = inr (zero_now zero)
 
@@ -100,32 +88,32 @@ module _ (before after : Image) (x p : ℕ) where
   may_then None to m = absurd m
   may_then (Some place) to m = both (nat_lt p place) (le-ltb p place m.0) (by m.1)
     where
-      both : (t : Bool) → t ≡ false → (nat_lt p to || is_zeroed (byte before x p) (byte after x p)) ≡ true →
-          (not t && (nat_lt p to || is_zeroed (byte before x p) (byte after x p))) ≡ true
+      both : (t : Bool) → t ≡ false → (nat_lt p to || is_zeroed (image_byte before x p) (image_byte after x p)) ≡ true →
+          (not t && (nat_lt p to || is_zeroed (image_byte before x p) (image_byte after x p))) ≡ true
       both true e f = absurd (false≢true (sym e))
       both false e f = f
 
-      by : (p < to) ⊎ IsZeroNow before after x p → (nat_lt p to || is_zeroed (byte before x p) (byte after x p)) ≡ true
-      by (inl less) = or_left (nat_lt p to) (is_zeroed (byte before x p) (byte after x p)) (lt-ltb p to less)
-      by (inr zero) = or_right (nat_lt p to) (is_zeroed (byte before x p) (byte after x p)) (zero_test zero)
+      by : (p < to) ⊎ IsZeroNow before after x p → (nat_lt p to || is_zeroed (image_byte before x p) (image_byte after x p)) ≡ true
+      by (inl less) = or_left (nat_lt p to) (is_zeroed (image_byte before x p) (image_byte after x p)) (lt-ltb p to less)
+      by (inr zero) = or_right (nat_lt p to) (is_zeroed (image_byte before x p) (image_byte after x p)) (zero_test zero)
 
   -- what is refused changed and may not
   refused_parts : (room : Option ℕ) (to : ℕ) → is_refused_in before after room to x p ≡ true →
       IsChanged before after x p × (may room to ≡ false)
   refused_parts room to is =
-      let t = parts (not (is_same_byte (byte before x p) (byte after x p))) (not (may room to)) is in (
-        other_if (byte before x p) (byte after x p) (back (is_same_byte (byte before x p) (byte after x p)) t.0),
-        back (may room to) t.1,
+      let t = and_parts (not (is_same_byte (image_byte before x p) (image_byte after x p))) (not (may room to)) is in (
+        other_if (image_byte before x p) (image_byte after x p) (false_from_not (is_same_byte (image_byte before x p) (image_byte after x p)) t.0),
+        false_from_not (may room to) t.1,
       )
 
   -- what isn't did not, or may
   passed_cases : (room : Option ℕ) (to : ℕ) → is_refused_in before after room to x p ≡ false →
-      (byte before x p ≡ byte after x p) ⊎ (may room to ≡ true)
-  passed_cases room to = by (is_same_byte (byte before x p) (byte after x p)) refl (may room to) refl
+      (image_byte before x p ≡ image_byte after x p) ⊎ (may room to ≡ true)
+  passed_cases room to = by (is_same_byte (image_byte before x p) (image_byte after x p)) refl (may room to) refl
     where
-      by : (s : Bool) → is_same_byte (byte before x p) (byte after x p) ≡ s → (m : Bool) → may room to ≡ m →
-          (not s && not m) ≡ false → (byte before x p ≡ byte after x p) ⊎ (may room to ≡ true)
-      by true same m is f = inl (same_if (byte before x p) (byte after x p) same)
+      by : (s : Bool) → is_same_byte (image_byte before x p) (image_byte after x p) ≡ s → (m : Bool) → may room to ≡ m →
+          (not s && not m) ≡ false → (image_byte before x p ≡ image_byte after x p) ⊎ (may room to ≡ true)
+      by true same m is f = inl (same_if (image_byte before x p) (image_byte after x p) same)
       by false same true is f = inr is
       by false same false is f = absurd (false≢true (sym f))
 
@@ -151,16 +139,18 @@ module _ (before after : Image) (p reach : ℕ) (held : p < reach → IsHeldByte
   allowed_back (inl zero) = (omega arith, inr zero)
   allowed_back (inr here) = (omega arith, inl (below here))
 
+  -- A byte of extent 0 that the test refuses changed and may not.
   pub record_written_if : is_refused_in before after (Some 0) reach 0 p ≡ true → IsWrittenInRecords before after p
   record_written_if is = let w = written_if before after 0 p (Some 0) reach is in (w.0, λ m. w.1 (allowed_back m))
 
+  -- A byte of extent 0 that the test passes is what it was, or may change.
   pub record_unwritten_if : is_refused_in before after (Some 0) reach 0 p ≡ false → ¬ IsWrittenInRecords before after p
   record_unwritten_if is w = unwritten_if before after 0 p (Some 0) reach is (w.0, λ m. w.1 (allowed m))
 
 -- ---- past the end
 
 -- an extent has no byte past its end
-pub none_past : (image : Image) (x p : ℕ) → extent_bytes image.geometry ≤ p → byte image x p ≡ None
+pub none_past : (image : Image) (x p : ℕ) → extent_bytes image.geometry ≤ p → image_byte image x p ≡ None
 none_past image x p past = rw (le-ltb p (extent_bytes image.geometry) past) refl
 
 -- so none changed there
@@ -179,7 +169,7 @@ page_of_place page size p low high =
 
 module _ (image : Image) (x : ℕ) (extent : BufferedExtent) (h : IsBuffered image x extent.bytes.items extent.readable.items) where
   -- a byte that was read is that of the image
-  pub byte_read : (p : ℕ) → p < extent_bytes image.geometry → byte_at extent (p / image.geometry.page) p ≡ byte image x p
+  pub byte_read : (p : ℕ) → p < extent_bytes image.geometry → byte_at extent (p / image.geometry.page) p ≡ image_byte image x p
   byte_read p here = by (get_or extent.readable.items q false) refl
     where
       size : ℕ
@@ -214,7 +204,7 @@ module _ (image : Image) (x : ℕ) (extent : BufferedExtent) (h : IsBuffered ima
           length-between extent.bytes.items (q * size) (q * size + size) fits in
           omega (arith, l)
 
-      by : (b : Bool) → get_or extent.readable.items q false ≡ b → byte_at extent q p ≡ byte image x p
+      by : (b : Bool) → get_or extent.readable.items q false ≡ b → byte_at extent q p ≡ image_byte image x p
       by true marked =
           ap (λ (t : Bool). if t then Some (get_or extent.bytes.items p 0) else None) marked
           ∙ sym
@@ -232,8 +222,8 @@ module _ (before after : Image) (sizes : after.geometry ≡ before.geometry) (x 
       is_refused_at old new room to (p / before.geometry.page) p ≡ is_refused_in before after room to x p
   refused_read p here =
       ap (λ (o : Option ℕ). is_refused room to p o (byte_at new (p / before.geometry.page) p)) (byte_read before x old was p here)
-      ∙ ap (λ (size : ℕ). is_refused room to p (byte before x p) (byte_at new (p / size) p)) (ap (λ g. g.page) (sym sizes))
-      ∙ ap (λ (o : Option ℕ). is_refused room to p (byte before x p) o) (byte_read after x new is p (omega (arith, here, ap (λ g. extent_bytes g) sizes)))
+      ∙ ap (λ (size : ℕ). is_refused room to p (image_byte before x p) (byte_at new (p / size) p)) (ap (λ g. g.page) (sym sizes))
+      ∙ ap (λ (o : Option ℕ). is_refused room to p (image_byte before x p) o) (byte_read after x new is p (omega (arith, here, ap (λ g. extent_bytes g) sizes)))
 
 -- ---- page by page
 

@@ -5,15 +5,17 @@ use Rattle.std.specs.Option.{option_map_or, unwrap_or}
 use Rattle.std.proofs.lemmas.Bool.{and_parts, eqb-true, false≢true, ltb-false}
 use Rattle.std.proofs.lemmas.List.Elements.{All-contains, All-contains_itself}
 use Rattle.std.proofs.lemmas.Option.{none-some, same_Some}
+use Rattle.list_facts.proofs.Elements.{Contains-behind, Contains-cases}
+use Rattle.list_facts.proofs.Filters.{Contains-filter_range}
 use Rattle.scrub_disk.specs.declared.geometry.Geometry.{Geometry}
-use Rattle.scrub_disk.specs.Image.{Image, byte, extent_bytes}
+use Rattle.scrub_disk.specs.Image.{Image, image_byte, extent_bytes}
 use Rattle.scrub_frame.specs.declared.form.Form.{Form}
 use Rattle.scrub_frame.proofs.Frames.{length-frame, length-magic}
 use Rattle.scrub_super.specs.Plan.{PlanValue, pointer_of}
 use Rattle.scrub_scan.specs.declared.item.Item.{Item}
 use Rattle.scrub_scan.specs.declared.item.Item.TheVariants.{Chunk, Pad, Torn, Noise, Lost}
 use Rattle.scrub_scan.specs.AllFindings.{extent_numbers}
-use Rattle.scrub_scan.specs.Extent.{Extent, FrameAt, HasMagic, IsZero, NoFrameAt, bound, extent_of}
+use Rattle.scrub_scan.specs.Extent.{Extent, FrameAt, HasMagic, IsZero, NoFrameAt, bound_above, extent_of}
 use Rattle.scrub_scan.specs.Item.{IsItem}
 use Rattle.scrub_scan.specs.Scanned.{Scanned}
 use Rattle.scrub_scan.specs.Tiling.{IsTiling, Joins}
@@ -25,7 +27,7 @@ use Rattle.scrub_found.proofs.ResetPlans.{plan_before}
 use Rattle.scrub_listings.proofs.AllPass.{all_pass}
 use Rattle.scrub_reclaim.specs.Room.{IsRoom, has_room, is_zero_to, may_grow, place_in, room_fits, room_in}
 use Rattle.scrub_reclaim.proofs.NextPlaces.{Grown, grown}
-use Rattle.scrub_reclaim.proofs.Reset.{IsScannedBy, same_numbers, scanned_by}
+use Rattle.scrub_reclaim.proofs.SameExtents.{IsScannedBy, same_numbers, scanned_by}
 use Rattle.scrub_reclaim.proofs.RoomLines.{shows_room}
 use Rattle.std.proofs.Common.{◌%◌, ◌∷◌, is_none}
 use Rattle.std.specs.List.{list_all}
@@ -41,15 +43,14 @@ use Rattle.scrub_super.proofs.Laws.{one_choice_lem}
 use Rattle.scrub_super.proofs.PlanParts.{plan_parts}
 use Rattle.scrub_scan.specs.declared.findings.Findings.{Findings}
 use Rattle.scrub_scan.specs.Findings.{IsFindings}
-use Rattle.scrub_frame.proofs.Elements.{Contains-behind, Contains-cases}
 use Rattle.scrub_check.specs.Candidates.{has_sound_alone}
-use Rattle.scrub_frame.proofs.Filtered.{filtered_has}
 use Rattle.scrub_found.proofs.OneReader.{one_plan, one_scanned}
 use Rattle.scrub_reclaim.specs.Reset.{IsPlanIn}
 use Rattle.scrub_reclaim.specs.Room.{next_place}
 use Rattle.scrub_reclaim.proofs.CopiedExtents.{zero_there}
 use Rattle.scrub_reclaim.proofs.NextPlaces.{place_above}
-use Rattle.scrub_reclaim.proofs.Reset.{among_cases, in_disk}
+use Rattle.scrub_reclaim.proofs.Reset.{among_cases}
+use Rattle.scrub_reclaim.proofs.SameExtents.{in_disk}
 use Rattle.scrub_compare.specs.Written.{pointer_in, room_at}
 use Rattle.scrub_compare.specs.Compare.{AreCompared, Compared, is_reset, may_follow}
 use Rattle.scrub_compare.specs.Laws.{IsSafe, KeepsChunks}
@@ -59,9 +60,10 @@ use Rattle.scrub_compare.proofs.Safe.{HasNoLine, no_line, same_retired}
 -- ---- items rest on the bytes below the pointer
 
 module _ (x y : Extent) (page : y.page ≡ x.page) (pointer : y.pointer ≡ x.pointer) (same : (p : ℕ) → p < x.pointer → y.byte p ≡ x.byte p) where
-  same_bound : (p : ℕ) → bound y p ≡ bound x p
+  same_bound : (p : ℕ) → bound_above y p ≡ bound_above x p
   same_bound p = λ i. min (pointer i) ((p / page i + 1) * page i)
 
+  -- A frame in `x` is one in `y`, which has the same bytes below the same pointer.
   pub frame_same : (p : ℕ) (f : Form) (u b : List ℕ) → FrameAt x p f u b → FrameAt y p f u b
   frame_same p f u b h = record {
     has_frame = h.has_frame;
@@ -77,15 +79,16 @@ module _ (x y : Extent) (page : y.page ≡ x.page) (pointer : y.pointer ≡ x.po
   to_y : (p : ℕ) (f : Form) (u b : List ℕ) → FrameAt x p f u b → FrameAt y p f u b
   to_y = frame_same x y page pointer same
 
+  -- Where no frame begins in `x`, none begins in `y`.
   pub none_in_y : (p : ℕ) → NoFrameAt x p → NoFrameAt y p
   none_in_y p none f u b h = none f u b (frame_same y x (sym page) (sym pointer) back p f u b h)
 
-  within : (i p : ℕ) → i < bound x p → i < x.pointer
+  within : (i p : ℕ) → i < bound_above x p → i < x.pointer
   within i p below = omega (arith, below)
 
   zeros_in_y : (p : ℕ) → IsZero x p → IsZero y p
   zeros_in_y p zero i low below =
-      let less : i < bound x p = omega (arith, below, same_bound x y page pointer same p) in
+      let less : i < bound_above x p = omega (arith, below, same_bound x y page pointer same p) in
       same i (within i p less) ∙ zero i low less
 
   zeros_back : (p : ℕ) → IsZero y p → IsZero x p
@@ -138,6 +141,7 @@ module _ (x y : Extent) (page : y.page ≡ x.page) (pointer : y.pointer ≡ x.po
     );
   }
 
+  -- A tiling of `x` is one of `y`.
   pub tiling_same : (items : List Item) → IsTiling x items → IsTiling y items
   tiling_same items t = record {
     joined = subst (λ (w : ℕ). Joins 0 w items) (sym pointer) t.joined;
@@ -191,7 +195,7 @@ among_there (n ∷ ns) e is = elim (or_cases (n == e) (list_any (λ m. m == e) n
 
 -- in an extent without an unreadable page each byte can be read
 readable_all : (image : Image) → HasWholePages image → (e w : ℕ) (found : Findings) → e < image.geometry.extents → IsFindings image e w found →
-    length found.bad_pages ≡ 0 → (p : ℕ) → p < extent_bytes image.geometry → byte image e p ≢ None
+    length found.bad_pages ≡ 0 → (p : ℕ) → p < extent_bytes image.geometry → image_byte image e p ≢ None
 readable_all image whole e w found inside is none p here = by (image.page e q) refl
   where
     size : ℕ
@@ -206,16 +210,16 @@ readable_all image whole e w found inside is none p here = by (image.page e q) r
     below : q < image.geometry.pages
     below = div_below p size image.geometry.pages positive (omega (arith, here))
 
-    by : (o : Option (List ℕ)) → image.page e q ≡ o → byte image e p ≢ None
+    by : (o : Option (List ℕ)) → image.page e q ≡ o → image_byte image e p ≢ None
     by None lost =
         let there : Contains (unreadable_pages image e) q =
-        filtered_has (λ n. is_none (image.page e n)) 0 image.geometry.pages q (omega arith) (omega (arith, below)) (ap (λ (o : Option (List ℕ)). is_none o) lost) in
+        Contains-filter_range (λ n. is_none (image.page e n)) 0 image.geometry.pages q (omega arith) (omega (arith, below)) (ap (λ (o : Option (List ℕ)). is_none o) lost) in
         let long : length (unreadable_pages image e) ≡ 0 = ap (λ (ns : List ℕ). length ns) (sym is.bad_pages) ∙ none in
         absurd (omega (arith, there.1, long))
     by (Some bytes) read =
-        let at : byte image e (q * size + p % size) ≡ Some (get_or bytes (p % size) 0) =
+        let at : image_byte image e (q * size + p % size) ≡ Some (get_or bytes (p % size) 0) =
         byte-page image e q (p % size) bytes read (whole e q bytes inside below read) below (mod-lt p positive) in
-        λ lost. none-some (get_or bytes (p % size) 0) (sym lost ∙ ap (byte image e) (let split : p ≡ q * size + p % size = omega (arith, div-add-mod' p size) in split) ∙ at)
+        λ lost. none-some (get_or bytes (p % size) 0) (sym lost ∙ ap (image_byte image e) (let split : p ≡ q * size + p % size = omega (arith, div-add-mod' p size) in split) ∙ at)
 
 -- ---- what is safe
 
@@ -314,7 +318,7 @@ module _ (resets : List ℕ) (before after : Image) (sizes : after.geometry ≡ 
         clean : All (λ (i : Item). is_clean_item i ≡ true) f.findings.items
         clean = all_pass is_clean_item f.findings.items (and_parts (length f.findings.bad_pages == 0) (list_all is_clean_item f.findings.items) clean_extent).1
 
-        kept : (p : ℕ) → p < place → byte after e p ≡ byte before e p
+        kept : (p : ℕ) → p < place → image_byte after e p ≡ image_byte before e p
         kept p below =
             stays resets before after sizes c are none e p inside.0 inside.1
             (in_front resets before after sizes c are none e p (λ other o. omega (arith, below, same_Some place other (sym at ∙ o))))
@@ -328,9 +332,9 @@ module _ (resets : List ℕ) (before after : Image) (sizes : after.geometry ≡ 
             not_true true t = absurd (false≢true t)
             not_true false t = refl
 
-        zero : (p : ℕ) → f.pointer ≤ p → p < place → byte before e p ≡ Some 0
+        zero : (p : ℕ) → f.pointer ≤ p → p < place → image_byte before e p ≡ Some 0
         zero p low high =
-            zero_there (byte before e p) (shown.zeros p low (omega (arith, high, at_place)))
+            zero_there (image_byte before e p) (shown.zeros p low (omega (arith, high, at_place)))
             (readable_all before whole e f.pointer f.findings inside.1 was.1 (eqb-true (length f.findings.bad_pages) 0 (and_parts (length f.findings.bad_pages == 0) (list_all is_clean_item f.findings.items) clean_extent).0) p
             (let size : extent_bytes c.found.plan.geometry ≡ extent_bytes before.geometry = ap (λ (h : Geometry). extent_bytes h) geometry in
             omega (arith, high, at_place, space, size)))
@@ -367,6 +371,7 @@ module _ (resets : List ℕ) (before after : Image) (sizes : after.geometry ≡ 
             (All-contains (IsScannedBy after c.rest.plan) c.rest.all m.0 (scanned_by after c.rest.plan c.rest.all are.rest.all) m.1) apart;
       }
 
+-- After a safe step each extent that isn't reset still has each of its chunks.
 pub keeps_chunks : (resets : List ℕ) (before after : Image) (found rest : Scrubbed) → HasWholePages before → IsSafe resets before after →
     IsScrubbed before found → IsScrubbed after rest → KeepsChunks resets found rest
 keeps_chunks resets before after found rest whole s x y =

@@ -1,22 +1,21 @@
 -- Each two images have a comparison, and a verdict whether it is safe: which bytes may not have changed is decided, and the
 -- identifiers of both can be put in order.
-use Rattle.std.proofs.Common.{◌≡◌, ◌⊎◌, ◌<◌, ◌≤◌, ◌+◌, ◌-◌, ◌++◌, ℕ, Bool, List, [], length, map, slice_get, arith, refl, sym, ◌∙◌, ap, subst, Option, None, Some, MatchOption, inl, inr}
+use Rattle.std.proofs.Common.{◌≡◌, ◌⊎◌, ◌<◌, ◌≤◌, ◌+◌, ◌-◌, ◌++◌, ℕ, Bool, List, [], length, map, arith, refl, sym, ◌∙◌, subst, Option, None, Some, inl, inr}
 use Rattle.std.specs.List.{range_with_len}
 use Rattle.std.proofs.lemmas.Bool.{cases_lt}
 use Rattle.std.proofs.lemmas.List.FromFn.{get_or-map-range_with_len, length-map-range_with_len}
 use Rattle.std.proofs.lemmas.Option.{get_or_from_slice_get, none-some, slice_get_within}
-use Rattle.scrub_disk.specs.Image.{Image, byte, extent_bytes}
-use Rattle.scrub_frame.proofs.Decisions.{Decided, decided_at_most, decided_both, decided_less, decided_like, decided_not, decided_some, first_below}
+use Rattle.list_facts.proofs.Decisions.{Decided, decided_at_most, decided_both, decided_less, decided_like, decided_not, decided_some, first_below}
+use Rattle.list_facts.proofs.Sorting.{sorted_once}
+use Rattle.scrub_disk.specs.Image.{Image, image_byte, extent_bytes}
 use Rattle.scrub_super.proofs.PagesThere.{decided_held, some_pages}
 use Rattle.scrub_run.specs.declared.shard_id.ShardId.{ShardId}
 use Rattle.scrub_merge.specs.Binding.{BindingValue}
-use Rattle.scrub_merge.specs.steps.Cursors.{id_cmp}
 use Rattle.scrub_merge.proofs.Identifiers.{id_cmp_exact, id_cmp_total}
-use Rattle.scrub_merge.proofs.SortedOnce.{sorted_once}
 use Rattle.scrub_found.specs.Scrubbed.{Scrubbed}
 use Rattle.scrub_found.proofs.Existing.{some_scrub}
 use Rattle.scrub_compare.specs.Compare.{AreBoundIds, AreCompared, Compared, IsComparison, comparison_text, is_safe}
-use Rattle.scrub_compare.specs.Written.{AreFirstWritten, IsChanged, IsLeastNumber, IsWrittenIn, IsWrittenInRecords, IsZeroNow, MayChangeInRecords, MayChangeInRoom, pointer_in, room_at}
+use Rattle.scrub_compare.specs.Written.{AreFirstWritten, IsChanged, IsLeastNumber, IsWrittenIn, IsWrittenInRecords, IsZeroNow, MayChangeInRoom, pointer_in, room_at}
 use Rattle.scrub_compare.proofs.BoundIds.{bound_found}
 use Rattle.scrub_compare.proofs.ChangedBytes.{none_past}
 
@@ -34,11 +33,11 @@ decided_options a (Some v) = decided_some a v
 
 module _ (before after : Image) where
   decided_changed : (x p : ℕ) → Decided (IsChanged before after x p)
-  decided_changed x p = decided_not (decided_options (byte before x p) (byte after x p))
+  decided_changed x p = decided_not (decided_options (image_byte before x p) (image_byte after x p))
 
   decided_zero : (x p : ℕ) → Decided (IsZeroNow before after x p)
   decided_zero x p =
-      decided_like (decided_both (decided_not (decided_options (byte before x p) None)) (decided_some (byte after x p) 0))
+      decided_like (decided_both (decided_not (decided_options (image_byte before x p) None)) (decided_some (image_byte after x p) 0))
       (λ h. record { was_readable = h.0; is_zero = h.1 })
       (λ z. (z.was_readable, z.is_zero))
 
@@ -146,6 +145,7 @@ some_compared resets before after =
       },
     )
 
+-- Any two images have a comparison, and a verdict whether the step between them is safe.
 pub some_comparison : (resets : List ℕ) (before after : Image) →
     (text : List ℕ) × (safe : Bool) × IsComparison resets before after text safe
 some_comparison resets before after =

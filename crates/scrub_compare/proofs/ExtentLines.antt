@@ -1,7 +1,7 @@
 -- The lines of extents, one extent after another.
-use Rattle.std.proofs.Common.{◌≡◌, ◌⊎◌, ◌<◌, ◌≤◌, ◌+◌, ◌++◌, ◌∷◌, [], ℕ, zero, suc, List, Option, Some, None, IfOk, OnOk, Ok, Err, Result, length, arith, refl, sym, subst, ◌∙◌, ap, inl, inr, append-nil, append_assoc}
+use Rattle.std.proofs.Common.{◌≡◌, ◌⊎◌, ◌+◌, ◌++◌, ◌∷◌, [], ℕ, zero, suc, List, Option, Some, IfOk, OnOk, Ok, Err, Result, length, arith, refl, sym, subst, ◌∙◌, ap, inl, inr, append-nil, append_assoc}
 use Rattle.std.specs.List.{enumerate_from, flat_map, slice_get}
-use Rattle.std.specs.Option.{option_map, unwrap_or}
+use Rattle.std.specs.Option.{unwrap_or}
 use Rattle.std.proofs.lemmas.Grind.{flat_map-append}
 use Rattle.std.proofs.lemmas.List.{length_push}
 use Rattle.std.proofs.lemmas.Option.{none-some, same_Some}
@@ -51,6 +51,7 @@ pub record HasLinesOf (before after : Image) (resets : List ℕ) (found rest : S
   pub text_is : text ≡ mid ++ lines_in resets found rest n first
 
 module _ (before after : Image) (resets : List ℕ) (found rest : Scrubbed) (old : List ℕ) where
+  -- Before extent 1 no line is added to the old text.
   pub no_lines : AreLinesTo before after resets found rest old old 1
   no_lines = record {
     firsts = [];
@@ -59,6 +60,7 @@ module _ (before after : Image) (resets : List ℕ) (found rest : Scrubbed) (old
     text_is = sym (append-nil old);
   }
 
+  -- The lines before extent `n` and those of extent `n` are the lines before extent `n + 1`.
   pub more_lines : (mid new : List ℕ) (n : ℕ) → AreLinesTo before after resets found rest old mid n →
       HasLinesOf before after resets found rest mid new n → AreLinesTo before after resets found rest old new (n + 1)
   more_lines mid new n so_far one = record {
@@ -105,6 +107,7 @@ module _ (before after : Image) (resets : List ℕ) (found rest : Scrubbed) (old
 pub pointer_is : (plan : PlanValue) (x w : ℕ) → pointer_of plan x ≡ Some w → pointer_in plan x ≡ w
 pointer_is plan x w is = ap (λ (o : Option ℕ). unwrap_or o 0) is
 
+-- If `P` holds of the value of a result that is `Ok`, so does all that follows from `P`.
 pub if_ok : {T E : Type 0} (r : Result T E) (P Q : T → Type 0) → IfOk r P → ((t : T) → P t → Q t) → IfOk r Q
 if_ok (Ok t) P Q p f = f t p
 if_ok (Err e) P Q p f = tt

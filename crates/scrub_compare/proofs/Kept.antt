@@ -64,6 +64,7 @@ module _ (f g : ℕ → Checked → RowValue) (own now : List Checked) (none : s
     | inr (y, z, is, other, alike) ↦ none-some z (sym missing ∙ other)
   ]
 
+  -- If no line says that a shard's locators changed, there are as many of them as before.
   pub same_length : length own ≡ length now
   same_length = elim (cases_lt (length own) (length now)) [
     | inl less ↦
@@ -79,6 +80,7 @@ module _ (f g : ℕ → Checked → RowValue) (own now : List Checked) (none : s
     ]
   ]
 
+  -- If no line says that a shard's locators changed, their lines of each number are alike.
   pub alike_at : (n : ℕ) (c d : Checked) → slice_get own n ≡ Some c → slice_get now n ≡ Some d → are_alike (f n c) (g n d) ≡ true
   alike_at n c d was is =
       elim (nothing_said (numbered f own n) (numbered g now n) (at_number n (omega (arith, slice_get_within own n c was, le-max_left (length own) (length now))))) [
@@ -149,6 +151,7 @@ alike_lines x y alike = by x.has_spares y.has_spares refl refl parts.1
 abbrev pub lines_of : Scrubbed → ℕ → List Checked → List (List ℕ)
 lines_of s n cs = map (λ p. numbered_line (after_status_in s.all) p.0 p.1) (enumerate_from n cs)
 
+-- Lines that are alike at each number are the same in both manifests, or `none` became `spare`.
 pub zip_lines : (s t : Scrubbed) (n : ℕ) (cs ds : List Checked) → length cs ≡ length ds →
     ((k : ℕ) (c d : Checked) → slice_get cs k ≡ Some c → slice_get ds k ≡ Some d → are_alike (row_in s (n + k) c) (row_in t (n + k) d) ≡ true) →
     AllZip IsSameOrSpared (lines_of s n cs) (lines_of t n ds)

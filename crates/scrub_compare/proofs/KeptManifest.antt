@@ -8,6 +8,8 @@ use Rattle.std.proofs.lemmas.List.Elements.{All-contains, All-contains_itself}
 use Rattle.std.proofs.lemmas.List.Folds.{flat_map-map}
 use Rattle.std.proofs.Math.Path.{fun_ext}
 use Rattle.std.proofs.lemmas.Option.{none-some, same_Some}
+use Rattle.list_facts.proofs.Elements.{Contains-behind, Contains-cases, both_nil}
+use Rattle.list_facts.proofs.Zips.{AllZip-append}
 use Rattle.scrub_disk.specs.Image.{Image}
 use Rattle.scrub_super.specs.Chosen.{Choice}
 use Rattle.scrub_super.specs.Contents.{Contents}
@@ -18,7 +20,6 @@ use Rattle.scrub_super.proofs.Laws.{one_choice_lem}
 use Rattle.scrub_run.specs.declared.shard_id.ShardId.{ShardId}
 use Rattle.scrub_run.specs.Entry.{IsBelow}
 use Rattle.scrub_merge.specs.Binding.{BindingValue}
-use Rattle.scrub_frame.proofs.Elements.{Contains-behind, Contains-cases}
 use Rattle.scrub_check.specs.declared.statuses.checked.Checked.{Checked}
 use Rattle.scrub_check.specs.Checked.{named_of}
 use Rattle.scrub_check.specs.Named.{named_by_shard}
@@ -36,22 +37,16 @@ use Rattle.scrub_compare.specs.Laws.{IsSafe, IsSameButMore}
 use Rattle.scrub_compare.proofs.BoundIds.{one_rising}
 use Rattle.scrub_compare.proofs.Kept.{alike_at, lines_of, same_length, zip_lines}
 use Rattle.scrub_compare.proofs.RunsRead.{no_run_lost}
-use Rattle.scrub_compare.proofs.Safe.{HasNoLine, all_none, both_none, no_line, passed, same_retired}
+use Rattle.scrub_compare.proofs.Safe.{HasNoLine, all_none, no_line, passed, same_retired}
 use Rattle.scrub_compare.proofs.Totals.{each_size, owned_size, owner_bound, owns, shards_size, totals_alike}
 
 -- ---- lists of parts
-
-zip_append : {X Y : Type 0} (R : X → Y → Type 0) (xs us : List X) (ys vs : List Y) → AllZip R xs ys → AllZip R us vs → AllZip R (xs ++ us) (ys ++ vs)
-zip_append R [] us [] vs one other = other
-zip_append R [] us (y ∷ ys) vs one other = absurd one
-zip_append R (x ∷ xs) us [] vs one other = absurd one
-zip_append R (x ∷ xs) us (y ∷ ys) vs one other = (one.0, zip_append R xs us ys vs one.1 other)
 
 zip_parts : {X Y I : Type 0} (R : X → Y → Type 0) (f : I → List X) (g : I → List Y) (is : List I) → All (λ (i : I). AllZip R (f i) (g i)) is →
     AllZip R (flat_map f is) (flat_map g is)
 zip_parts R f g [] all = tt
 zip_parts {I = I} R f g (i ∷ is) all =
-    zip_append R (f i) (flat_map f is) (g i) (flat_map g is) (all 0 i (omega arith))
+    AllZip-append R (f i) (flat_map f is) (g i) (flat_map g is) (all 0 i (omega arith))
     (zip_parts R f g is (λ k d below. all (suc k) d (omega (arith, below))))
 
 flat_flat : {X I : Type 0} (f : I → List (List X)) (is : List I) → flat_map (λ part. part) (flat_map f is) ≡ flat_map (λ i. flat_map (λ part. part) (f i)) is
@@ -184,6 +179,7 @@ module _ (resets others : List ℕ) (image other : Image) (s t : Scrubbed) (x : 
           subst (λ (is : List ShardId). Contains is (get_or t.bindings i d).id) (sym k.ids)
           (i, omega (arith, below, length-map t.bindings (λ (b : BindingValue). b.id)), get_or-map (λ (b : BindingValue). b.id) t.bindings i d (get_or t.bindings i d).id below)
 
+  -- The manifest of `t` is that of `s`, but for new spares and fewer hidden runs.
   pub kept_text : IsSameButMore (manifest_text s) (manifest_text t)
   kept_text = record {
     retired = s.plan.retired;
@@ -217,8 +213,8 @@ module _ (resets : List ℕ) (before after : Image) (c : Compared) (are : AreCom
   no_changes : (runs_change (lost_runs c.found) (hidden_runs c.found) (lost_runs c.kept) (hidden_runs c.kept) ≡ [])
       × (shard_changes (row_in c.found) (row_in c.kept) shards shards_now c.ids ≡ [])
   no_changes =
-      let front = both_none (retired_change c.found.plan.retired c.kept.plan.retired ++ runs_change (lost_runs c.found) (hidden_runs c.found) (lost_runs c.kept) (hidden_runs c.kept)) (shard_changes (row_in c.found) (row_in c.kept) shards shards_now c.ids) none.manifest in
-      let first = both_none (retired_change c.found.plan.retired c.kept.plan.retired) (runs_change (lost_runs c.found) (hidden_runs c.found) (lost_runs c.kept) (hidden_runs c.kept)) front.0 in
+      let front = both_nil (retired_change c.found.plan.retired c.kept.plan.retired ++ runs_change (lost_runs c.found) (hidden_runs c.found) (lost_runs c.kept) (hidden_runs c.kept)) (shard_changes (row_in c.found) (row_in c.kept) shards shards_now c.ids) none.manifest in
+      let first = both_nil (retired_change c.found.plan.retired c.kept.plan.retired) (runs_change (lost_runs c.found) (hidden_runs c.found) (lost_runs c.kept) (hidden_runs c.kept)) front.0 in
       (first.1, front.1)
 
   not_true : (b : Bool) → not b ≡ true → b ≡ false
@@ -281,6 +277,7 @@ module _ (resets : List ℕ) (before after : Image) (c : Compared) (are : AreCom
       let choice : c.rest.choice ≡ c.kept.choice = one_choice_lem after c.rest.choice c.kept.choice are.rest.choice are.kept.choice in
       plain.4 ∙ has_superblock c.kept.choice plain.0 none.new plain.1 (sym (ap generation_of choice) ∙ both_there.1)
 
+  -- Without a line of `compare` the superblock, retired extents, runs and shards of the manifest are kept.
   pub kept : AreKept c.found c.kept
   kept = record {
     has = has_before;
@@ -297,6 +294,7 @@ module _ (resets : List ℕ) (before after : Image) (c : Compared) (are : AreCom
       among : (id : ShardId) → HasBinding c.found.bindings id → Contains c.ids id
       among id bound = (are.ids.exact id).1 (inl bound)
 
+-- A safe step and its resets keep the manifest, but for new spares and fewer hidden runs.
 pub nothing_lost : (resets : List ℕ) (before after other : Image) (a b : List ℕ) (v w : Bool) → IsSafe resets before after → IsForeseen resets after other →
     IsManifest before a v → IsManifest other b w → IsSameButMore a b
 nothing_lost resets before after other a b v w s f x y =

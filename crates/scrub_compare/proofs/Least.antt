@@ -1,5 +1,5 @@
 -- The least number of which something holds, found part by part.
-use Rattle.std.proofs.Common.{◌≡◌, ◌<◌, ◌≤◌, ℕ, Bool, true, false, is_some, Option, Some, None, MatchOption, arith, refl, sym, ◌∙◌, ap, inl, inr}
+use Rattle.std.proofs.Common.{◌≡◌, ◌<◌, ◌≤◌, ℕ, Bool, true, false, is_some, Option, Some, None, arith, refl, sym, ap, inl, inr}
 use Rattle.std.proofs.lemmas.Bool.{cases_lt, false≢true}
 use Rattle.scrub_compare.specs.Written.{IsLeastNumber}
 use Rattle.scrub_compare.specs.steps.Changes.{IsFirstWithin, IsLeastWithin}
@@ -47,7 +47,7 @@ least_of_all P top None past least = λ p. elim (cases_lt p top) [
 ]
 least_of_all P top (Some q) past (from, to, is, earlier) = (is, λ p below. earlier p (omega arith) below)
 
--- there is one
+-- There is at most one least number of which `P` holds.
 pub one_least : (P : ℕ → Type 0) (a b : Option ℕ) → IsLeastNumber P a → IsLeastNumber P b → a ≡ b
 one_least P None None x y = refl
 one_least P None (Some q) x y = absurd (x q y.0)
@@ -59,8 +59,3 @@ one_least P (Some p) (Some q) x y = elim (cases_lt p q) [
     | inr other ↦ ap Some (let e : p ≡ q = omega (arith, more, other) in e)
   ]
 ]
-
--- what holds of another number in the same way
-pub least_alike : (P Q : ℕ → Type 0) (r : Option ℕ) → ((p : ℕ) → P p → Q p) → ((p : ℕ) → Q p → P p) → IsLeastNumber P r → IsLeastNumber Q r
-least_alike P Q None there back none = λ p q. none p (back p q)
-least_alike P Q (Some p) there back (is, earlier) = (there p is, λ q below held. earlier q below (back q held))

@@ -1,22 +1,28 @@
--- The lemmas of this crate.
+-- Lemmas on what changed between two images, and on what is safe.
+
+-- bytes that changed and may not
 pub mod Least
 pub mod ChangedBytes
+pub mod RecordLengths
 pub mod Reaches
+-- the lines of extents, of shards and of the manifest
+pub mod RoomsFound
+pub mod ExtentLines
 pub mod BoundIds
 pub mod OwnedBy
-pub mod ExtentLines
-pub mod RoomsFound
 pub mod RowsAlike
-pub mod OneComparison
-pub mod RecordLengths
 pub mod ManifestCounts
+-- what is safe keeps the manifest
 pub mod Safe
 pub mod Totals
 pub mod RunsRead
 pub mod Kept
 pub mod KeptManifest
+-- what is safe keeps bytes and chunks, in two steps too, and can be undone
 pub mod Overwritten
 pub mod Chunks
 pub mod Chained
 pub mod Undone
+-- that there is one answer
+pub mod OneComparison
 pub mod Existing

@@ -1,5 +1,5 @@
 -- Two images have one text of what became of them, and one verdict, since each part is determined by them.
-use Rattle.std.proofs.Common.{◌≡◌, ◌+◌, [], ◌∷◌, ℕ, zero, suc, Bool, List, Option, Some, length, arith, refl, sym, subst, ◌∙◌, ap}
+use Rattle.std.proofs.Common.{◌≡◌, ◌+◌, [], ◌∷◌, ℕ, suc, Bool, List, Option, Some, length, arith, refl, sym, subst, ◌∙◌, ap}
 use Rattle.std.specs.List.{slice_get}
 use Rattle.scrub_disk.specs.Image.{Image}
 use Rattle.scrub_super.proofs.PageLaws.{one_list_of_pages}
@@ -64,6 +64,7 @@ module _ (resets : List ℕ) (before after : Image) where
           (subst (λ (f : Scrubbed). AreBoundIds f.bindings c.kept.bindings c.ids) found x.ids))
           y.ids
 
+  -- Two images have at most one comparison with the same resets, and one verdict.
   pub one_comparison_lem : (a b : List ℕ) (v w : Bool) → IsComparison resets before after a v →
       IsComparison resets before after b w → (a ≡ b) × (v ≡ w)
   one_comparison_lem a b v w x y =

@@ -5,27 +5,28 @@ use Rattle.std.specs.Option.{option_and_then, unwrap_or}
 use Rattle.std.proofs.lemmas.Bool.{eqb-true}
 use Rattle.std.proofs.lemmas.Option.{none-some, same_Some, slice_get-get_or}
 use Rattle.std.proofs.lemmas.List.Elements.{All-contains}
+use Rattle.list_facts.proofs.Searches.{find_passes}
+use Rattle.list_facts.proofs.Elements.{both_nil}
 use Rattle.scrub_disk.specs.declared.geometry.Geometry.{Geometry}
-use Rattle.scrub_disk.specs.Image.{Image, byte}
+use Rattle.scrub_disk.specs.Image.{Image, image_byte}
 use Rattle.scrub_super.specs.Plan.{pointer_of}
 use Rattle.scrub_scan.specs.Scanned.{Scanned}
 use Rattle.scrub_scan.specs.AllFindings.{entry_of}
-use Rattle.scrub_scan.proofs.Entries.{find_passes}
 use Rattle.scrub_found.specs.Scrubbed.{Scrubbed, IsScrubbed}
 use Rattle.scrub_found.proofs.OneScrub.{one_scrub}
 use Rattle.scrub_reclaim.specs.Reset.{IsPlanIn}
 use Rattle.scrub_reclaim.specs.Room.{has_room, place_in}
 use Rattle.scrub_reclaim.proofs.NextPlaces.{place_above}
-use Rattle.scrub_reclaim.proofs.Reset.{in_disk}
+use Rattle.scrub_reclaim.proofs.SameExtents.{in_disk}
 use Rattle.scrub_compare.specs.Written.{IsLeastNumber, IsWrittenIn, MayChangeInRoom, pointer_in, room_at, room_of}
 use Rattle.scrub_compare.specs.Compare.{AreCompared, Compared, is_reset, lines_in, may_follow, pointer_line, written_line}
 use Rattle.scrub_compare.specs.Laws.{IsSafe, KeepsBytes}
 use Rattle.scrub_compare.proofs.ChangedBytes.{same_or_other}
-use Rattle.scrub_compare.proofs.Safe.{HasNoLine, both_none, no_line, no_lines_of, passed, some_text}
+use Rattle.scrub_compare.proofs.Safe.{HasNoLine, no_line, no_lines_of, passed, some_text}
 
 -- ---- the place of room
 
--- an extent with room was scanned, and its place isn't below its write pointer
+-- an extent with room was scanned, and the place is the one for its next frame
 pub record IsRoomOf (found : Scrubbed) (e place : ℕ) : Type 0 where
   pub scanned : Scanned
   pub among : Contains found.all scanned
@@ -33,6 +34,7 @@ pub record IsRoomOf (found : Scrubbed) (e place : ℕ) : Type 0 where
   pub fits : has_room found.plan.geometry found.checked scanned ≡ true
   pub place_is : place ≡ place_in found.plan.geometry scanned
 
+-- If an extent has room at a place, it was scanned, and the place is the one for its next frame.
 pub room_scanned : (found : Scrubbed) (e place : ℕ) → room_at found e ≡ Some place → IsRoomOf found e place
 room_scanned found e place = by (entry_of found.all e) refl
   where
@@ -80,7 +82,7 @@ module _ (resets : List ℕ) (before after : Image) (sizes : after.geometry ≡ 
           ∙ no_lines_of resets c.found c.rest 0 c.firsts none.extents k first at
 
       parts : (pointer_line resets (room_at c.found (k + 1)) (k + 1) (pointer_in c.found.plan (k + 1)) (pointer_in c.rest.plan (k + 1)) ≡ []) × (written_line (k + 1) first ≡ [])
-      parts = both_none (pointer_line resets (room_at c.found (k + 1)) (k + 1) (pointer_in c.found.plan (k + 1)) (pointer_in c.rest.plan (k + 1))) (written_line (k + 1) first) lines
+      parts = both_nil (pointer_line resets (room_at c.found (k + 1)) (k + 1) (pointer_in c.found.plan (k + 1)) (pointer_in c.rest.plan (k + 1))) (written_line (k + 1) first) lines
 
       by : (o : Option ℕ) → written_line (k + 1) o ≡ [] → IsLeastNumber (IsWrittenIn before after (room_at c.found (k + 1)) (pointer_in c.rest.plan (k + 1)) (k + 1)) o →
           (p : ℕ) → ¬ IsWrittenIn before after (room_at c.found (k + 1)) (pointer_in c.rest.plan (k + 1)) (k + 1) p
@@ -92,6 +94,7 @@ module _ (resets : List ℕ) (before after : Image) (sizes : after.geometry ≡ 
   behind zero some inside = absurd (some refl)
   behind (suc k) some inside = (k, omega arith, omega (arith, inside))
 
+  -- Without a line the new write pointer of each extent but extent 0 may follow the old one.
   pub may_follow_in : (e : ℕ) → e ≢ 0 → e < before.geometry.extents →
       may_follow (is_reset resets e) (room_at c.found e) (pointer_in c.found.plan e) (pointer_in c.rest.plan e) ≡ true
   may_follow_in e some inside =
@@ -101,8 +104,8 @@ module _ (resets : List ℕ) (before after : Image) (sizes : after.geometry ≡ 
 
   -- a byte that may not change is what it was
   pub stays : (e p : ℕ) → e ≢ 0 → e < before.geometry.extents →
-      (¬ MayChangeInRoom before after (room_at c.found e) (pointer_in c.rest.plan e) e p) → byte after e p ≡ byte before e p
-  stays e p some inside may_not = elim (same_or_other (byte before e p) (byte after e p)) [
+      (¬ MayChangeInRoom before after (room_at c.found e) (pointer_in c.rest.plan e) e p) → image_byte after e p ≡ image_byte before e p
+  stays e p some inside may_not = elim (same_or_other (image_byte before e p) (image_byte after e p)) [
     | inl same ↦ sym same
     | inr other ↦
         let b = behind e some inside in
@@ -139,11 +142,13 @@ module _ (resets : List ℕ) (before after : Image) (sizes : after.geometry ≡ 
       by None is less = absurd (omega (arith, less))
       by (Some w) is less = in_disk before c.found.plan plan_was e w is
 
+  -- Without a line each byte below an earlier write pointer is what it was.
   pub bytes_stay : KeepsBytes before after c.found
   bytes_stay e p below =
       let there = has_pointer e p below in
       stays e p there.0 there.1 (in_front e p (λ place is. omega (arith, below, place_from e place is)))
 
+-- A safe step changes no byte below an earlier write pointer.
 pub keeps_bytes : (resets : List ℕ) (before after : Image) (found : Scrubbed) → IsSafe resets before after → IsScrubbed before found →
     KeepsBytes before after found
 keeps_bytes resets before after found s x =

@@ -1,15 +1,17 @@
 -- The locators of shards are in the order of their owners, and those of one shard are one part of them.
-use Rattle.std.proofs.Common.{◌≡◌, ◌⊎◌, ◌<◌, ◌≤◌, ◌-◌, ◌++◌, ◌∷◌, [], ℕ, zero, suc, Bool, true, false, List, length, get_or, map, take, drop, arith, refl, sym, subst, ◌∙◌, ap, inl, inr, Ordering, Less, Equal, Greater, is_eq, is_lt, is_le}
+use Rattle.std.proofs.Common.{◌≡◌, ◌⊎◌, ◌<◌, ◌≤◌, ◌-◌, ◌++◌, ◌∷◌, [], ℕ, suc, Bool, true, false, List, length, get_or, map, take, drop, arith, refl, sym, subst, ◌∙◌, ap, inl, inr, Ordering, Less, Equal, Greater, is_eq, is_lt, is_le}
 use Rattle.std.specs.Bool.{⊤}
-use Rattle.std.specs.List.{All, AllPairs, filter, flat_map}
+use Rattle.std.specs.List.{All, AllPairs, flat_map}
 use Rattle.std.specs.List.Sorted.{IsPartitionPoint, IsPartitionedBy}
 use Rattle.std.proofs.lemmas.Bool.{cases_eq, cases_lt, false≢true}
 use Rattle.std.proofs.lemmas.List.{get_or-map}
-use Rattle.std.proofs.lemmas.List.Elements.{All-append, All-cons, All-head, All-map, All-tail}
+use Rattle.std.proofs.lemmas.List.Elements.{All-append, All-head, All-map, All-tail}
 use Rattle.std.proofs.lemmas.List.{length-map}
 use Rattle.std.proofs.lemmas.List.Kept.{AllPairs-cons}
 use Rattle.std.proofs.lemmas.Map.Text.{is_eq-slice_cmp}
 use Rattle.std.proofs.lemmas.Slice.{between_is}
+use Rattle.list_facts.proofs.Filters.{filter_between}
+use Rattle.list_facts.proofs.Orders.{Less_from_is_lt, eq_if_neither_lt_nor_gt, is_le_from_lt, not_eq_from_lt, not_eq_from_not_le}
 use Rattle.scrub_frame.specs.declared.locator.Locator.{Locator}
 use Rattle.scrub_run.specs.declared.shard_id.ShardId.{ShardId}
 use Rattle.scrub_run.specs.Entry.{IsBelow}
@@ -23,9 +25,8 @@ use Rattle.scrub_check.specs.declared.statuses.checked.Checked.{Checked}
 use Rattle.scrub_check.specs.declared.statuses.status.Status.TheVariants.{Sound}
 use Rattle.scrub_check.specs.Checked.{is_owned_by, named_of}
 use Rattle.scrub_check.specs.Named.{named_by_shard}
-use Rattle.scrub_check.proofs.Between.{filter_between}
 use Rattle.scrub_compare.specs.Compare.{owned_by}
-use Rattle.scrub_compare.specs.steps.Rows.{AreByOwner, AreNamedBy, owner_cmp}
+use Rattle.scrub_compare.specs.steps.Rows.{AreByOwner, owner_cmp}
 
 -- ---- owners in order
 
@@ -35,17 +36,12 @@ Stands (Run k) o = ⊤
 Stands (Shard a) (Run k) = ⊥
 Stands (Shard a) (Shard b) = (a ≡ b) ⊎ IsBelow a b
 
-less_is : (r : Ordering) → is_lt r ≡ true → r ≡ Less
-less_is Less is = refl
-less_is Equal is = absurd (false≢true is)
-less_is Greater is = absurd (false≢true is)
-
 -- what is below an identifier has nothing in front of it that isn't
 lt_stands : (m n : Owner) (id : ShardId) → Stands m n → is_lt (owner_cmp n id) ≡ true → is_lt (owner_cmp m id) ≡ true
 lt_stands (Run k) n id s is = refl
 lt_stands (Shard a) (Run k) id s is = absurd s
 lt_stands (Shard a) (Shard b) id (inl same) is = ap (λ (c : ShardId). is_lt (id_cmp c id)) same ∙ is
-lt_stands (Shard a) (Shard b) id (inr below) is = ap is_lt (id_cmp_total.trans a b id below (less_is (id_cmp b id) is))
+lt_stands (Shard a) (Shard b) id (inr below) is = ap is_lt (id_cmp_total.trans a b id below (Less_from_is_lt (id_cmp b id) is))
 
 le_stands : (m n : Owner) (id : ShardId) → Stands m n → is_le (owner_cmp n id) ≡ true → is_le (owner_cmp m id) ≡ true
 le_stands (Run k) n id s is = refl
@@ -63,7 +59,8 @@ le_stands (Shard a) (Shard b) id (inr below) is = by (id_cmp b id) refl is
 abbrev Stand : Named → Named → Type 0
 Stand m n = Stands m.owner n.owner
 
-abbrev name_by : ShardId → Locator → Named
+-- the name that a shard gives a locator
+abbrev pub name_by : ShardId → Locator → Named
 name_by id l = record { owner = Shard id; locator = l }
 
 -- the names of a shard in front of others that aren't below
@@ -113,6 +110,7 @@ parted p cs pairs i j d order below is = elim (cases_eq i j) [
   | inr other ↦ pairs i j d (omega (arith, order, other)) below is
 ]
 
+-- Locators that ascending bindings name are in the order of their owners.
 pub by_owner : (cs : List Checked) (bs : List BindingValue) → map named_of cs ≡ flat_map named_by_shard bs →
     AllPairs (λ b c. IsBelow b.id c.id) bs → AreByOwner cs
 by_owner cs bs same rising id =
@@ -130,26 +128,7 @@ owner_is : (o : Owner) (id : ShardId) → is_owned_by id o ≡ is_eq (owner_cmp 
 owner_is (Run k) id = refl
 owner_is (Shard other) id = sym (is_eq-slice_cmp other.0 id.0)
 
-not_less : (r : Ordering) → is_lt r ≡ true → is_eq r ≡ false
-not_less Less e = refl
-not_less Equal e = sym e
-not_less Greater e = refl
-
-is_equal : (r : Ordering) → is_lt r ≡ false → is_le r ≡ true → is_eq r ≡ true
-is_equal Less e f = sym e
-is_equal Equal e f = refl
-is_equal Greater e f = f
-
-not_more : (r : Ordering) → is_le r ≡ false → is_eq r ≡ false
-not_more Less e = refl
-not_more Equal e = e
-not_more Greater e = refl
-
-less_too : (r : Ordering) → is_lt r ≡ true → is_le r ≡ true
-less_too Less e = refl
-less_too Equal e = refl
-less_too Greater e = e
-
+-- A locator for where a list needs one past its end.
 pub some_checked : Checked
 some_checked = record {
   owner = Run 0;
@@ -160,21 +139,23 @@ some_checked = record {
 module _ (ys : List Checked) (id : ShardId) (low high : ℕ)
     (lows : IsPartitionPoint (λ c. is_lt (owner_cmp c.owner id) ≡ true) (λ c. is_lt (owner_cmp c.owner id) ≡ false) ys low)
     (highs : IsPartitionPoint (λ c. is_le (owner_cmp c.owner id) ≡ true) (λ c. is_le (owner_cmp c.owner id) ≡ false) ys high) where
+  -- The part of a shard's locators doesn't end before it begins.
   pub in_order : low ≤ length ys → low ≤ high
   in_order inside = elim (cases_lt high low) [
     | inl less ↦
         absurd
         (false≢true
         (sym (highs.1 high some_checked (omega arith) (omega (arith, less, inside)))
-        ∙ less_too (owner_cmp (get_or ys high some_checked).owner id) (lows.0 high some_checked (omega arith) less)))
+        ∙ is_le_from_lt (owner_cmp (get_or ys high some_checked).owner id) (lows.0 high some_checked (omega arith) less)))
     | inr more ↦ more
   ]
 
+  -- The part between these two places is just the locators of the shard, in their order.
   pub own_part : low ≤ high → high ≤ length ys → take (high - low) (drop low ys) ≡ owned_by id ys
   own_part order inside =
       between_is ys low high
       ∙ sym
       (filter_between (λ c. is_owned_by id c.owner) ys low high order inside
-      (λ k d lt. owner_is (get_or ys k d).owner id ∙ not_less (owner_cmp (get_or ys k d).owner id) (lows.0 k d (omega arith) lt))
-      (λ k d from lt. owner_is (get_or ys k d).owner id ∙ is_equal (owner_cmp (get_or ys k d).owner id) (lows.1 k d from (omega (arith, lt, inside))) (highs.0 k d (omega arith) lt))
-      (λ k d from lt. owner_is (get_or ys k d).owner id ∙ not_more (owner_cmp (get_or ys k d).owner id) (highs.1 k d from lt)))
+      (λ k d lt. owner_is (get_or ys k d).owner id ∙ not_eq_from_lt (owner_cmp (get_or ys k d).owner id) (lows.0 k d (omega arith) lt))
+      (λ k d from lt. owner_is (get_or ys k d).owner id ∙ eq_if_neither_lt_nor_gt (owner_cmp (get_or ys k d).owner id) (lows.1 k d from (omega (arith, lt, inside))) (highs.0 k d (omega arith) lt))
+      (λ k d from lt. owner_is (get_or ys k d).owner id ∙ not_eq_from_not_le (owner_cmp (get_or ys k d).owner id) (highs.1 k d from lt)))

@@ -1,6 +1,5 @@
 -- How far the records of extent 0 reach, and the first byte there that changed and may not, page by page.
-use Rattle.std.proofs.Common.{◌≡◌, ◌<◌, ◌≤◌, ◌+◌, ◌*◌, ◌-◌, ◌/◌, ℕ, List, [], Bool, true, false, Option, Some, None, IfSome, drop, length, max, option_map, arith, refl, sym, ◌∙◌, ap, subst}
-use Rattle.std.specs.Option.{unwrap_or}
+use Rattle.std.proofs.Common.{◌≡◌, ◌<◌, ◌≤◌, ◌+◌, ◌*◌, ◌-◌, ◌/◌, ℕ, List, [], Bool, false, Option, Some, None, drop, length, max, arith, refl, sym, ◌∙◌, ap, subst}
 use Rattle.std.proofs.lemmas.Option.{none-some}
 use Rattle.scrub_disk.specs.declared.buffered_extent.BufferedExtent.{BufferedExtent}
 use Rattle.scrub_disk.specs.declared.geometry.Geometry.{Geometry}
@@ -9,10 +8,9 @@ use Rattle.scrub_disk.specs.Image.{Image, extent_bytes}
 use Rattle.scrub_disk.proofs.PagesRead.{page_fits}
 use Rattle.scrub_super.specs.declared.pages.SuperblockPage.{SuperblockPage}
 use Rattle.scrub_super.specs.declared.pages.SuperblockPage.TheVariants.{Lost, Record, Damaged, Stray, Held}
-use Rattle.scrub_super.specs.Chosen.{RecordStandsAt}
 use Rattle.scrub_super.specs.Contents.{Contents}
 use Rattle.scrub_super.specs.Pages.{HasRecord, IsHeldByte, IsSuperblockPage, kind_of}
-use Rattle.scrub_super.specs.Record.{BeginsWithRecord, record_bytes}
+use Rattle.scrub_super.specs.Record.{record_bytes}
 use Rattle.scrub_super.specs.steps.PagesFound.{IsRecordReach}
 use Rattle.scrub_super.proofs.Choices.{front_at}
 use Rattle.scrub_super.proofs.OneRecord.{one_record_lem}
@@ -24,13 +22,6 @@ use Rattle.scrub_compare.proofs.ChangedBytes.{page_of_place, record_unwritten_if
 use Rattle.scrub_compare.proofs.Least.{tested}
 
 -- ---- one page more
-
--- before page 0 no record begins
-pub no_reach : (image : Image) → IsRecordReach image 0 0
-no_reach image = record {
-  ends = λ r c below stands. absurd (omega (arith, below));
-  reached = λ i below. absurd (omega (arith, below));
-}
 
 module _ (image : Image) (q : ℕ) where
   -- no record begins on an unreadable page
@@ -71,6 +62,7 @@ module _ (image : Image) (q : ℕ) where
 
 module _ (before after : Image) (sizes : after.geometry ≡ before.geometry) (old new : BufferedExtent)
     (was : IsBuffered before 0 old.bytes.items old.readable.items) (is : IsBuffered after 0 new.bytes.items new.readable.items) where
+  -- The first byte of a page of extent 0 that is refused is the first that changed and may not.
   pub record_page_least : (page size reach : ℕ) (r : Option ℕ) → size ≡ after.geometry.page → page < after.geometry.pages →
       IsRecordReach after (page + 1) reach →
       IsFirstWithin (page * size) (page * size + size) (is_refused_at old new (Some 0) reach page) r →

@@ -1,8 +1,8 @@
 -- By spares that are the same, the lines are.
-use Rattle.std.proofs.Common.{◌≡◌, ◌++◌, ◌∷◌, [], ℕ, zero, suc, List, Option, Some, None, get_or, length, map, max, refl, sym, ◌∙◌, ap, option_map, arith}
+use Rattle.std.proofs.Common.{◌≡◌, ◌∷◌, [], ℕ, zero, suc, List, Some, get_or, length, max, refl, ap, option_map}
 use Rattle.std.proofs.Math.Path.{ap₂, fun_ext}
-use Rattle.std.specs.List.{All, Contains, filter, flat_map, range_with_len, slice_get}
-use Rattle.std.proofs.lemmas.List.Elements.{All-contains, All-contains_itself, All-filter, All-head, All-tail}
+use Rattle.std.specs.List.{All, flat_map, range_with_len, slice_get}
+use Rattle.std.proofs.lemmas.List.Elements.{All-contains_itself, All-filter, All-head, All-tail}
 use Rattle.scrub_run.specs.declared.shard_id.ShardId.{ShardId}
 use Rattle.scrub_scan.specs.declared.standing.Standing.{Standing}
 use Rattle.scrub_scan.specs.Scanned.{Scanned}

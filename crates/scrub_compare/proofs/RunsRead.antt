@@ -1,6 +1,7 @@
 -- What is safe has lost no index run.
 use Rattle.std.proofs.Common.{◌≡◌, ◌+◌, ◌++◌, ◌∷◌, [], ℕ, List, Some, None, codes, is_none, length, arith, refl, ap}
 use Rattle.std.specs.List.{AllZip, count_by, enumerate_from, filter_map, flat_map, zip}
+use Rattle.list_facts.proofs.Elements.{both_nil}
 use Rattle.scrub_disk.specs.Image.{Image}
 use Rattle.scrub_frame.specs.declared.locator.Locator.{Locator}
 use Rattle.scrub_super.specs.Plan.{PlanValue}
@@ -13,12 +14,12 @@ use Rattle.scrub_listings.specs.Manifest.{lost_runs}
 use Rattle.scrub_reclaim.specs.declared.doubts.Doubt.{Doubt}
 use Rattle.scrub_reclaim.specs.Doubts.{choice_doubts, doubt_text, page_doubts, run_doubts, run_lost, superblock_lost}
 use Rattle.scrub_compare.specs.Compare.{AreCompared, Compared, firm_doubts, firm_line, firm_lines}
-use Rattle.scrub_compare.proofs.Safe.{HasNoLine, both_none, some_text}
+use Rattle.scrub_compare.proofs.Safe.{HasNoLine, some_text}
 
 -- each element has a text, so that without a text there is none
 none_said : {X : Type 0} (f : X → List ℕ) (xs : List X) → ((x : X) → f x ≡ [] → ⊥) → flat_map f xs ≡ [] → xs ≡ []
 none_said f [] some none = refl
-none_said f (x ∷ xs) some none = absurd (some x (both_none (f x) (flat_map f xs) none).0)
+none_said f (x ∷ xs) some none = absurd (some x (both_nil (f x) (flat_map f xs) none).0)
 
 -- without a doubt of a run none is lost
 none_lost : (image : Image) (plan : PlanValue) (n : ℕ) (ls : List Locator) (runs : Runs) (states : List RunState) →
@@ -40,13 +41,14 @@ none_lost image plan n (l ∷ ls) (Some es ∷ runs) (Read ∷ states) long each
 none_lost image plan n (l ∷ ls) (Some es ∷ runs) (NotARun ∷ states) long each none = absurd each.0
 none_lost image plan n (l ∷ ls) (Some es ∷ runs) (BadChunk t ∷ states) long each none = absurd each.0
 
+-- Without a line no index run of the earlier image is lost.
 pub no_run_lost : (resets : List ℕ) (before after : Image) (c : Compared) → AreCompared resets before after c → HasNoLine resets c →
     lost_runs c.found ≡ 0
 no_run_lost resets before after c are none =
     none_lost before c.found.plan 0 c.found.plan.runs c.found.read.runs c.found.read.states are.found.read.same are.found.read.each front.1
   where
     lines : (firm_lines (codes "before") c.pages c.found ≡ []) × (firm_lines (codes "after") c.pages_now c.rest ≡ [])
-    lines = both_none (firm_lines (codes "before") c.pages c.found) (firm_lines (codes "after") c.pages_now c.rest) none.doubts
+    lines = both_nil (firm_lines (codes "before") c.pages c.found) (firm_lines (codes "after") c.pages_now c.rest) none.doubts
 
     doubts : firm_doubts c.pages c.found ≡ []
     doubts =
@@ -54,4 +56,4 @@ no_run_lost resets before after c are none =
         (λ d empty. some_text (codes "doubt") (spaced (codes "before") ++ spaced (doubt_text d) ++ 10 ∷ []) (omega arith) empty) lines.0
 
     front : (choice_doubts c.found.choice ++ page_doubts superblock_lost c.pages ≡ []) × (run_doubts c.found.read.states ≡ [])
-    front = both_none (choice_doubts c.found.choice ++ page_doubts superblock_lost c.pages) (run_doubts c.found.read.states) doubts
+    front = both_nil (choice_doubts c.found.choice ++ page_doubts superblock_lost c.pages) (run_doubts c.found.read.states) doubts

@@ -1,11 +1,13 @@
 -- What is safe has no line of any kind.
-use Rattle.std.proofs.Common.{◌≡◌, ◌<◌, ◌==◌, ◌++◌, ◌∷◌, [], ℕ, Bool, true, false, List, Option, Some, None, length, get_or, codes, arith, refl, sym, ◌∙◌, ap, subst, if◌then◌else◌}
+use Rattle.std.proofs.Common.{◌≡◌, ◌<◌, ◌++◌, ◌∷◌, [], ℕ, Bool, true, false, List, Option, Some, None, length, get_or, codes, arith, refl, sym, ◌∙◌, ap, subst, if◌then◌else◌}
 use Rattle.std.specs.List.{All, Contains, enumerate_from, flat_map, slice_get}
-use Rattle.std.proofs.lemmas.Bool.{eqb-true, false≢true}
+use Rattle.std.proofs.lemmas.Bool.{false≢true}
 use Rattle.std.proofs.Common.{◌+◌, zero, suc, inl, inr}
 use Rattle.std.proofs.lemmas.List.{length-append}
 use Rattle.std.proofs.lemmas.Option.{none-some, same_Some}
 use Rattle.std.proofs.lemmas.List.Elements.{All-cons}
+use Rattle.list_facts.proofs.Slices.{nil_from_no_length}
+use Rattle.list_facts.proofs.Elements.{both_nil}
 use Rattle.scrub_disk.specs.Image.{Image}
 use Rattle.scrub_found.specs.Scrubbed.{Scrubbed, IsScrubbed}
 use Rattle.scrub_found.proofs.OneScrub.{one_scrub}
@@ -26,20 +28,11 @@ some_text word rest some none =
     let long : length (word ++ rest) ≡ 0 = ap (λ (u : List ℕ). length u) none in
     omega (arith, long, length-append word rest, some)
 
-pub no_length : {X : Type 0} (xs : List X) → (length xs == 0) ≡ true → xs ≡ []
-no_length [] is = refl
-no_length (x ∷ xs) is = let none : length (x ∷ xs) ≡ 0 = eqb-true (length (x ∷ xs)) 0 is in absurd (omega (arith, none))
-
-pub both_none : {X : Type 0} (xs ys : List X) → xs ++ ys ≡ [] → (xs ≡ []) × (ys ≡ [])
-both_none [] ys none = (refl, none)
-both_none {X} (x ∷ xs) ys none =
-    let long : length ((x ∷ xs) ++ ys) ≡ 0 = ap (λ (zs : List X). length zs) none in
-    absurd (omega (arith, long))
-
+-- If what `f` makes of all elements is empty, what it makes of each is empty.
 pub all_none : {X Y : Type 0} (f : X → List Y) (xs : List X) → flat_map f xs ≡ [] → All (λ (x : X). f x ≡ []) xs
 all_none f [] none = λ i d below. absurd (omega (arith, below))
 all_none {X} f (x ∷ xs) none =
-    let parts = both_none (f x) (flat_map f xs) none in
+    let parts = both_nil (f x) (flat_map f xs) none in
     All-cons (λ (y : X). f y ≡ []) x xs parts.0 (all_none f xs parts.1)
 
 -- a text that is there or not isn't there
@@ -47,6 +40,7 @@ pub not_there : (b : Bool) (word rest : List ℕ) → 0 < length word → (if b 
 not_there true word rest some none = absurd (some_text word rest some none)
 not_there false word rest some none = refl
 
+-- If a text is left out only where a test passes, and there is no text, the test passed.
 pub passed : (b : Bool) (word rest : List ℕ) → 0 < length word → (if b then [] else word ++ rest) ≡ [] → b ≡ true
 passed true word rest some none = refl
 passed false word rest some none = absurd (some_text word rest some none)
@@ -65,17 +59,18 @@ pub record HasNoLine (resets : List ℕ) (c : Compared) : Type 0 where
   pub named : named_lines resets c.rest.checked ≡ []
   pub manifest : manifest_changes c.found c.kept c.ids ≡ []
 
+-- If the verdict is safe, both superblocks count, and there is no line of any kind.
 pub no_line : (resets : List ℕ) (c : Compared) → is_safe resets c ≡ true → HasNoLine resets c
 no_line resets c safe = by (generations_in c) refl safe
   where
     by : (o : Option (ℕ × ℕ)) → generations_in c ≡ o → is_safe_by (doubts_of_both c) (changes resets c) o ≡ true → HasNoLine resets c
     by None is none = absurd (false≢true none)
     by (Some both) is empty =
-        let all = both_none (doubts_of_both c ++ generation_line both.0 both.1) (changes resets c) (no_length (doubts_of_both c ++ generation_line both.0 both.1 ++ changes resets c) empty) in
-        let front = both_none (doubts_of_both c) (generation_line both.0 both.1) all.0 in
-        let lines = both_none (written_line 0 c.first ++ extent_lines resets c.found c.rest c.firsts ++ named_lines resets c.rest.checked) (manifest_changes c.found c.kept c.ids) all.1 in
-        let more = both_none (written_line 0 c.first ++ extent_lines resets c.found c.rest c.firsts) (named_lines resets c.rest.checked) lines.0 in
-        let first = both_none (written_line 0 c.first) (extent_lines resets c.found c.rest c.firsts) more.0 in
+        let all = both_nil (doubts_of_both c ++ generation_line both.0 both.1) (changes resets c) (nil_from_no_length (doubts_of_both c ++ generation_line both.0 both.1 ++ changes resets c) empty) in
+        let front = both_nil (doubts_of_both c) (generation_line both.0 both.1) all.0 in
+        let lines = both_nil (written_line 0 c.first ++ extent_lines resets c.found c.rest c.firsts ++ named_lines resets c.rest.checked) (manifest_changes c.found c.kept c.ids) all.1 in
+        let more = both_nil (written_line 0 c.first ++ extent_lines resets c.found c.rest c.firsts) (named_lines resets c.rest.checked) lines.0 in
+        let first = both_nil (written_line 0 c.first) (extent_lines resets c.found c.rest c.firsts) more.0 in
         record {
           old = both.0;
           new = both.1;
@@ -98,10 +93,10 @@ same_retired resets c none =
   where
     front : (retired_change c.found.plan.retired c.kept.plan.retired ++ runs_change (lost_runs c.found) (hidden_runs c.found) (lost_runs c.kept) (hidden_runs c.kept) ≡ [])
         × (shard_changes (row_in c.found) (row_in c.kept) (of_shards c.found.checked) (of_shards c.kept.checked) c.ids ≡ [])
-    front = both_none (retired_change c.found.plan.retired c.kept.plan.retired ++ runs_change (lost_runs c.found) (hidden_runs c.found) (lost_runs c.kept) (hidden_runs c.kept)) (shard_changes (row_in c.found) (row_in c.kept) (of_shards c.found.checked) (of_shards c.kept.checked) c.ids) none.manifest
+    front = both_nil (retired_change c.found.plan.retired c.kept.plan.retired ++ runs_change (lost_runs c.found) (hidden_runs c.found) (lost_runs c.kept) (hidden_runs c.kept)) (shard_changes (row_in c.found) (row_in c.kept) (of_shards c.found.checked) (of_shards c.kept.checked) c.ids) none.manifest
 
     first : (retired_change c.found.plan.retired c.kept.plan.retired ≡ []) × (runs_change (lost_runs c.found) (hidden_runs c.found) (lost_runs c.kept) (hidden_runs c.kept) ≡ [])
-    first = both_none (retired_change c.found.plan.retired c.kept.plan.retired) (runs_change (lost_runs c.found) (hidden_runs c.found) (lost_runs c.kept) (hidden_runs c.kept)) front.0
+    first = both_nil (retired_change c.found.plan.retired c.kept.plan.retired) (runs_change (lost_runs c.found) (hidden_runs c.found) (lost_runs c.kept) (hidden_runs c.kept)) front.0
 
 -- ---- named locators
 
@@ -115,6 +110,7 @@ unnamed resets c none there =
       | inr (other, apart) ↦ apart there
     ]
 
+-- If the verdict is safe, no locator that the later image names points into the resets.
 pub none_points : (resets : List ℕ) (before after : Image) (text : List ℕ) (rest : Scrubbed) →
     IsComparison resets before after text true → IsScrubbed after rest → NonePointsInto resets rest.checked
 none_points resets before after text rest s y =
@@ -130,11 +126,11 @@ pub no_lines_of : (resets : List ℕ) (found rest : Scrubbed) (n : ℕ) (firsts 
     slice_get firsts k ≡ Some first → lines_in resets found rest (n + k + 1) first ≡ []
 no_lines_of resets found rest n [] none k first is = absurd (none-some first is)
 no_lines_of resets found rest n (f ∷ fs) none zero first is =
-    let parts = both_none (lines_in resets found rest (n + 1) f) (flat_map (λ e. lines_in resets found rest (e.0 + 1) e.1) (enumerate_from (n + 1) fs)) none in
+    let parts = both_nil (lines_in resets found rest (n + 1) f) (flat_map (λ e. lines_in resets found rest (e.0 + 1) e.1) (enumerate_from (n + 1) fs)) none in
     ap (λ (m : ℕ). lines_in resets found rest m first) (let e : n + 0 + 1 ≡ n + 1 = omega arith in e)
     ∙ ap (λ (o : Option ℕ). lines_in resets found rest (n + 1) o) (sym (same_Some f first is))
     ∙ parts.0
 no_lines_of resets found rest n (f ∷ fs) none (suc k) first is =
-    let parts = both_none (lines_in resets found rest (n + 1) f) (flat_map (λ e. lines_in resets found rest (e.0 + 1) e.1) (enumerate_from (n + 1) fs)) none in
+    let parts = both_nil (lines_in resets found rest (n + 1) f) (flat_map (λ e. lines_in resets found rest (e.0 + 1) e.1) (enumerate_from (n + 1) fs)) none in
     ap (λ (m : ℕ). lines_in resets found rest m first) (let e : n + suc k + 1 ≡ n + 1 + k + 1 = omega arith in e)
     ∙ no_lines_of resets found rest (n + 1) fs parts.1 k first is

@@ -1,67 +1,31 @@
 -- The shards of two disks by their bindings and by the locators that they name, and how many there are.
-use Rattle.std.proofs.Common.{◌≡◌, ◌<◌, ◌++◌, ◌∷◌, [], ℕ, suc, Bool, true, false, cond, List, length, get_or, map, arith, refl, sym, ◌∙◌, ap}
-use Rattle.std.specs.Ordering.{is_eq, ordering_reverse}
+use Rattle.std.proofs.Common.{◌≡◌, ◌<◌, ◌++◌, ◌∷◌, [], ℕ, suc, Bool, true, false, List, length, get_or, map, arith, refl, sym, ◌∙◌, ap}
 use Rattle.std.specs.List.{All, AllPairs, filter, flat_map}
 use Rattle.std.proofs.lemmas.List.{length-append, length-map}
-use Rattle.std.proofs.lemmas.List.Elements.{All-append, All-cons, All-head, All-map, All-tail, filter-append}
-use Rattle.std.proofs.lemmas.Map.Text.{is_eq-slice_cmp}
+use Rattle.std.proofs.lemmas.List.Elements.{All-cons, All-head, All-tail, filter-append}
 use Rattle.std.proofs.lemmas.Slice.Eq.{bytes_eq-Decides}
-use Rattle.scrub_frame.specs.declared.locator.Locator.{Locator}
+use Rattle.list_facts.proofs.Filters.{filter_all, filter_mapped, filter_none}
+use Rattle.list_facts.proofs.Elements.{same_behind_first, same_first}
 use Rattle.scrub_run.specs.declared.shard_id.ShardId.{ShardId}
 use Rattle.scrub_run.specs.Entry.{IsBelow}
 use Rattle.scrub_merge.specs.Binding.{BindingValue}
-use Rattle.scrub_merge.proofs.Identifiers.{id_cmp_total, itself}
 use Rattle.scrub_check.specs.declared.named.Named.{Named}
-use Rattle.scrub_check.specs.declared.named.Owner.{Owner}
 use Rattle.scrub_check.specs.declared.named.Owner.TheVariants.{Shard}
 use Rattle.scrub_check.specs.declared.statuses.checked.Checked.{Checked}
 use Rattle.scrub_check.specs.Checked.{is_owned_by, named_of}
 use Rattle.scrub_check.specs.Named.{named_by_shard}
-use Rattle.scrub_check.proofs.Between.{filter_mapped}
+use Rattle.scrub_check.proofs.Owners.{All-named_by_shard, All-named_by_shards, not_owned_by_above, not_owned_by_below, owned_by_itself}
 use Rattle.scrub_compare.specs.Compare.{HasBinding, owned_by}
+use Rattle.scrub_compare.proofs.OwnedBy.{name_by}
 
 abbrev Rising : List BindingValue → Type 0
 Rising bs = AllPairs (λ b c. IsBelow b.id c.id) bs
 
+-- Whether the shard is the owner of the name.
 abbrev pub owns : ShardId → Named → Bool
 owns id n = is_owned_by id n.owner
 
-filter_all : {X : Type 0} (p : X → Bool) (xs : List X) → All (λ x. p x ≡ true) xs → filter p xs ≡ xs
-filter_all p [] all = refl
-filter_all {X} p (x ∷ xs) all =
-    ap (λ b. cond b (x ∷ filter p xs) (filter p xs)) (All-head (λ y. p y ≡ true) x xs all)
-    ∙ ap (λ (ys : List X). x ∷ ys) (filter_all p xs (All-tail (λ y. p y ≡ true) x xs all))
-
-filter_none : {X : Type 0} (p : X → Bool) (xs : List X) → All (λ x. p x ≡ false) xs → filter p xs ≡ []
-filter_none p [] none = refl
-filter_none {X} p (x ∷ xs) none =
-    ap (λ b. cond b (x ∷ filter p xs) (filter p xs)) (All-head (λ y. p y ≡ false) x xs none)
-    ∙ filter_none p xs (All-tail (λ y. p y ≡ false) x xs none)
-
 -- ---- names
-
-owned_at : (id : ShardId) → is_owned_by id (Shard id) ≡ true
-owned_at id = sym (is_eq-slice_cmp id.0 id.0) ∙ itself id
-
-not_above : (a b : ShardId) → IsBelow a b → is_owned_by b (Shard a) ≡ false
-not_above a b below = sym (is_eq-slice_cmp a.0 b.0) ∙ ap is_eq below
-
-not_below : (a b : ShardId) → IsBelow a b → is_owned_by a (Shard b) ≡ false
-not_below a b below = sym (is_eq-slice_cmp b.0 a.0) ∙ ap is_eq (id_cmp_total.antisymm b a ∙ ap ordering_reverse below)
-
-abbrev name_by : ShardId → Locator → Named
-name_by id l = record { owner = Shard id; locator = l }
-
-of_one : (P : Owner → Type 0) (b : BindingValue) → P (Shard b.id) → All (λ (n : Named). P n.owner) (named_by_shard b)
-of_one P b p = All-map (λ (n : Named). P n.owner) (name_by b.id) b.locators (λ i d below. p)
-
-of_all : (P : Owner → Type 0) (bs : List BindingValue) → All (λ (b : BindingValue). P (Shard b.id)) bs →
-    All (λ (n : Named). P n.owner) (flat_map named_by_shard bs)
-of_all P [] all = λ i d below. absurd (omega (arith, below))
-of_all P (b ∷ bs) all =
-    All-append (λ (n : Named). P n.owner) (named_by_shard b) (flat_map named_by_shard bs)
-    (of_one P b (All-head (λ (v : BindingValue). P (Shard v.id)) b bs all))
-    (of_all P bs (All-tail (λ (v : BindingValue). P (Shard v.id)) b bs all))
 
 -- a shard owns as many names as it has locators
 pub names_owned : (bs : List BindingValue) → Rising bs →
@@ -78,8 +42,8 @@ names_owned (b ∷ bs) rising =
     first =
         ap (λ (ns : List Named). length ns)
         (filter-append (owns b.id) (named_by_shard b) (flat_map named_by_shard bs)
-        ∙ ap (λ (ns : List Named). ns ++ filter (owns b.id) (flat_map named_by_shard bs)) (filter_all (owns b.id) (named_by_shard b) (of_one (λ o. is_owned_by b.id o ≡ true) b (owned_at b.id)))
-        ∙ ap (λ (ns : List Named). named_by_shard b ++ ns) (filter_none (owns b.id) (flat_map named_by_shard bs) (of_all (λ o. is_owned_by b.id o ≡ false) bs (λ i d below. not_below b.id (get_or bs i d).id (above i d below)))))
+        ∙ ap (λ (ns : List Named). ns ++ filter (owns b.id) (flat_map named_by_shard bs)) (filter_all (owns b.id) (named_by_shard b) (All-named_by_shard (λ o. is_owned_by b.id o ≡ true) b (owned_by_itself b.id)))
+        ∙ ap (λ (ns : List Named). named_by_shard b ++ ns) (filter_none (owns b.id) (flat_map named_by_shard bs) (All-named_by_shards (λ o. is_owned_by b.id o ≡ false) bs (λ i d below. not_owned_by_below b.id (get_or bs i d).id (above i d below)))))
         ∙ (let e : length (named_by_shard b ++ []) ≡ length b.locators = omega (arith, length-append (named_by_shard b) [], length-map b.locators (name_by b.id)) in e)
 
     behind : (v : BindingValue) → IsBelow b.id v.id → length (filter (owns v.id) (flat_map named_by_shard bs)) ≡ length v.locators →
@@ -87,7 +51,7 @@ names_owned (b ∷ bs) rising =
     behind v below size =
         ap (λ (ns : List Named). length ns)
         (filter-append (owns v.id) (named_by_shard b) (flat_map named_by_shard bs)
-        ∙ ap (λ (ns : List Named). ns ++ filter (owns v.id) (flat_map named_by_shard bs)) (filter_none (owns v.id) (named_by_shard b) (of_one (λ o. is_owned_by v.id o ≡ false) b (not_above b.id v.id below))))
+        ∙ ap (λ (ns : List Named). ns ++ filter (owns v.id) (flat_map named_by_shard bs)) (filter_none (owns v.id) (named_by_shard b) (All-named_by_shard (λ o. is_owned_by v.id o ≡ false) b (not_owned_by_above b.id v.id below))))
         ∙ size
 
     rest : All (λ (v : BindingValue). length (filter (owns v.id) (flat_map named_by_shard bs)) ≡ length v.locators) bs →
@@ -108,7 +72,7 @@ owner_bound (b ∷ bs) id some = by (is_owned_by id (Shard b.id)) refl (owner_bo
     by false is later =
         let same : filter (owns id) (named_by_shard b ++ flat_map named_by_shard bs) ≡ filter (owns id) (flat_map named_by_shard bs) =
         filter-append (owns id) (named_by_shard b) (flat_map named_by_shard bs)
-        ∙ ap (λ (ns : List Named). ns ++ filter (owns id) (flat_map named_by_shard bs)) (filter_none (owns id) (named_by_shard b) (of_one (λ o. is_owned_by id o ≡ false) b is)) in
+        ∙ ap (λ (ns : List Named). ns ++ filter (owns id) (flat_map named_by_shard bs)) (filter_none (owns id) (named_by_shard b) (All-named_by_shard (λ o. is_owned_by id o ≡ false) b is)) in
         let long : length (filter (owns id) (flat_map named_by_shard (b ∷ bs))) ≡ length (filter (owns id) (flat_map named_by_shard bs)) = ap (λ (ns : List Named). length ns) same in
         behind (later (omega (arith, some, long)))
 
@@ -122,11 +86,13 @@ module _ (cs : List Checked) (bs : List BindingValue) (same : map named_of cs �
       ap (λ (ns : List Named). length ns) (filter_mapped (owns id) named_of cs ∙ ap (filter (owns id)) same) in
       omega (arith, mapped, length-map (owned_by id cs) named_of)
 
+  -- There are as many locators as names.
   pub shards_size : length cs ≡ length (flat_map named_by_shard bs)
   shards_size =
       let mapped : length (map named_of cs) ≡ length (flat_map named_by_shard bs) = ap (λ (ns : List Named). length ns) same in
       omega (arith, mapped, length-map cs named_of)
 
+  -- Each shard that is bound owns as many locators as its binding has.
   pub each_size : Rising bs → All (λ (b : BindingValue). length (owned_by b.id cs) ≡ length b.locators) bs
   each_size rising i d below = owned_size (get_or bs i d).id ∙ names_owned bs rising i d below
 
@@ -140,8 +106,8 @@ totals_alike size [] (v ∷ vs) ids old new =
 totals_alike size (b ∷ bs) [] ids old new =
     let long : length (map (λ (b : BindingValue). b.id) (b ∷ bs)) ≡ 0 = ap (λ (xs : List ShardId). length xs) ids in absurd (omega (arith, long))
 totals_alike size (b ∷ bs) (v ∷ vs) ids old new =
-    let head : b.id ≡ v.id = heads b.id v.id (map (λ c. c.id) bs) (map (λ c. c.id) vs) ids in
-    let rest = totals_alike size bs vs (tails b.id v.id (map (λ c. c.id) bs) (map (λ c. c.id) vs) ids) (All-tail (λ (c : BindingValue). size c.id ≡ length c.locators) b bs old) (All-tail (λ (c : BindingValue). size c.id ≡ length c.locators) v vs new) in
+    let head : b.id ≡ v.id = same_first b.id v.id (map (λ c. c.id) bs) (map (λ c. c.id) vs) ids in
+    let rest = totals_alike size bs vs (same_behind_first b.id v.id (map (λ c. c.id) bs) (map (λ c. c.id) vs) ids) (All-tail (λ (c : BindingValue). size c.id ≡ length c.locators) b bs old) (All-tail (λ (c : BindingValue). size c.id ≡ length c.locators) v vs new) in
     let one : length b.locators ≡ length v.locators =
     sym (All-head (λ (c : BindingValue). size c.id ≡ length c.locators) b bs old) ∙ ap size head ∙ All-head (λ (c : BindingValue). size c.id ≡ length c.locators) v vs new in
     omega (
@@ -153,9 +119,3 @@ totals_alike size (b ∷ bs) (v ∷ vs) ids old new =
       length-map b.locators (name_by b.id),
       length-map v.locators (name_by v.id),
     )
-  where
-    heads : (a c : ShardId) (us vs : List ShardId) → (a ∷ us) ≡ (c ∷ vs) → a ≡ c
-    heads a c us vs e = cc
-
-    tails : (a c : ShardId) (us vs : List ShardId) → (a ∷ us) ≡ (c ∷ vs) → us ≡ vs
-    tails a c us vs e = cc

@@ -5,7 +5,7 @@ use Rattle.std.specs.List.{All, AllZip}
 use Rattle.std.specs.Option.{unwrap_or}
 use Rattle.std.proofs.lemmas.Option.{same_Some}
 use Rattle.scrub_disk.specs.declared.geometry.Geometry.{Geometry}
-use Rattle.scrub_disk.specs.Image.{Image, byte}
+use Rattle.scrub_disk.specs.Image.{Image, image_byte}
 use Rattle.scrub_frame.specs.declared.locator.Locator.{Locator}
 use Rattle.scrub_super.specs.Plan.{PlanValue, pointer_of}
 use Rattle.scrub_super.specs.Planned.{extents_in_use}
@@ -22,13 +22,14 @@ use Rattle.scrub_check.specs.declared.statuses.status.Status.TheVariants.{OutOfR
 use Rattle.scrub_check.specs.ChunkForms.{form_at}
 use Rattle.scrub_check.specs.Runs.{NamesChunkIn}
 use Rattle.scrub_check.specs.Spares.{spares_by}
-use Rattle.scrub_check.specs.Status.{BeginsAt, CanStand, FindsFrame, HasStatus, HasStatusIn, HasStatusInRetired, HasUnreadableByte, InRange, NamesChunk, end_of, is_retired}
+use Rattle.scrub_check.specs.Status.{BeginsAt, CanStand, FindsFrame, HasStatus, HasStatusIn, HasStatusInRetired, HasUnreadableByte, NamesChunk, end_of, is_retired}
 use Rattle.scrub_found.specs.Scrubbed.{Scrubbed, IsScrubbed}
 use Rattle.scrub_found.proofs.OneReader.{same_plan}
 use Rattle.scrub_listings.specs.Manifest.{IsManifest, manifest_text}
 use Rattle.scrub_reclaim.specs.Reset.{IsPlanIn, NameTheSame}
 use Rattle.scrub_reclaim.proofs.CarriedNames.{Carries, named_alike}
-use Rattle.scrub_reclaim.proofs.Reset.{IsScannedBy, in_disk, one_plan_in, same_numbers, same_text, scanned_by}
+use Rattle.scrub_reclaim.proofs.Reset.{one_plan_in, same_text}
+use Rattle.scrub_reclaim.proofs.SameExtents.{in_disk, in_range, IsScannedBy, same_numbers, scanned_by, status_in_retired}
 use Rattle.scrub_reclaim.proofs.ResetForms.{IsAlikeIn, along, same_after, same_form, same_frames}
 use Rattle.scrub_compare.specs.Written.{pointer_in}
 use Rattle.scrub_compare.specs.Laws.{IsSafe, IsUndone, KeepsBytes}
@@ -40,13 +41,10 @@ use Rattle.scrub_compare.proofs.Overwritten.{keeps_bytes}
 -- two images have the same sizes, and the same bytes below w in extent e
 pub record AreSameBelow (image other : Image) (e w : ℕ) : Type 0 where
   pub sizes : other.geometry ≡ image.geometry
-  pub bytes : (p : ℕ) → p < w → byte other e p ≡ byte image e p
+  pub bytes : (p : ℕ) → p < w → image_byte other e p ≡ image_byte image e p
 
 below_back : {image other : Image} {e w : ℕ} → AreSameBelow image other e w → AreSameBelow other image e w
 below_back a = record { sizes = sym a.sizes; bytes = λ p less. sym (a.bytes p less) }
-
-in_range : (g h : Geometry) (l : Locator) → h ≡ g → InRange g l → InRange h l
-in_range g h l sizes r = subst (λ (s : Geometry). InRange s l) (sym sizes) r
 
 module _ (image other : Image) (w : ℕ) (l : Locator) (a : AreSameBelow image other l.extent w) where
   page : other.geometry.page ≡ image.geometry.page
@@ -104,12 +102,6 @@ module _ (image other : Image) (w : ℕ) (l : Locator) (a : AreSameBelow image o
   status WrongDigest (b, f, same, differs) = (b, finds image other w l a l.uuid b f, same, differs)
   status Hidden h = (names image other w l a h.0, λ b. h.1 (begins other image w l (below_back a) b))
   status Sound h = (names image other w l a h.0, begins image other w l a h.1)
-
-status_in_retired : (image other : Image) (l : Locator) → other.geometry ≡ image.geometry → (s : Status) →
-    HasStatusInRetired image l s → HasStatusInRetired other l s
-status_in_retired image other l sizes OutOfRange h = λ r. h (in_range other.geometry image.geometry l (sym sizes) r)
-status_in_retired image other l sizes Retired h = in_range image.geometry other.geometry l sizes h
-status_in_retired image other l sizes _ h = absurd h
 
 -- ---- by a plan
 
@@ -251,6 +243,7 @@ module _ (before after undone : Image) (found rest : Scrubbed) (x : IsScrubbed b
       same_after found.all rest.all (get_or found.checked i d) (λ sound. form (get_or found.checked i d).locator)
       (ap (λ (ss : List Standing). length (spares_by ss (get_or found.checked i d)) == 0) (same_frames found.all rest.all scans)))
 
+-- If the earlier superblock is written again after a safe step, the manifest is the earlier one.
 pub can_be_undone : (resets : List ℕ) (before after undone : Image) (a b : List ℕ) (v w : Bool) → IsSafe resets before after → IsUndone before after undone →
     IsManifest before a v → IsManifest undone b w → a ≡ b
 can_be_undone resets before after undone a b v w s u x y =

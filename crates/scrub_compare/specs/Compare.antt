@@ -1,5 +1,5 @@
 -- The lines that say why what was written to a disk between two images isn't safe, and the last one.
-use Rattle.std.specs.Prelude.{◌≡◌, ◌⊎◌, ◌↔◌, ◌+◌, ◌==◌, ◌&&◌, ◌||◌, ◌++◌, ◌∷◌, [], ℕ, Bool, true, false, List, Option, Some, None, AllPairs, Contains, codes, max, not, nat_lt, slice_get, is_some, map, option_map, if◌then◌else◌}
+use Rattle.std.specs.Prelude.{◌≡◌, ◌⊎◌, ◌↔◌, ◌+◌, ◌==◌, ◌&&◌, ◌||◌, ◌++◌, ◌∷◌, [], ℕ, Bool, true, false, List, Option, Some, None, AllPairs, Contains, codes, max, not, nat_lt, slice_get, map, option_map, if◌then◌else◌}
 use Rattle.std.specs.Prelude.{length as len}
 use Rattle.std.specs.Fmt.{decimal}
 use Rattle.std.specs.List.{enumerate_from, filter, flat_map, list_any, range_with_len}
@@ -79,7 +79,7 @@ abbrev pub lines_in : List ℕ → Scrubbed → Scrubbed → ℕ → Option ℕ 
 lines_in resets found rest x first =
     lines_of_extent resets (room_at found x) x (pointer_in found.plan x) (pointer_in rest.plan x) first
 
--- the lines of extents 1, 2 and so on, by these bytes
+-- the lines of extents 1, 2 and so on, by the first byte of each that changed and may not
 abbrev pub extent_lines : List ℕ → Scrubbed → Scrubbed → List (Option ℕ) → List ℕ
 extent_lines resets found rest firsts =
     flat_map (λ e. lines_in resets found rest (e.0 + 1) e.1) (enumerate_from 0 firsts)
@@ -109,7 +109,7 @@ abbrev pub retired_change : List ℕ → List ℕ → List ℕ
 retired_change old new =
     if bytes_eq old new then [] else lost_line (retired_line old) ++ new_line (retired_line new)
 
--- the lines of a change of the index runs, or nothing: as many are lost, and no more are hidden
+-- the lines of a change of the index runs, or nothing if as many are lost and no more are hidden
 abbrev pub runs_change : ℕ → ℕ → ℕ → ℕ → List ℕ
 runs_change lost hidden lost_now hidden_now =
     if lost_now == lost && not (nat_lt hidden hidden_now) then []
@@ -181,7 +181,7 @@ change (Some old) (Some new) = row_change old new
 abbrev pub owned_by : ShardId → List Checked → List Checked
 owned_by id checked = filter (λ c. is_owned_by id c.owner) checked
 
--- the line of a number, if there is such a locator
+-- the line of the locator of this number among those of a shard, if there are so many
 abbrev pub numbered : (ℕ → Checked → RowValue) → List Checked → ℕ → Option RowValue
 numbered row own number = option_map (row number) (slice_get own number)
 
@@ -218,7 +218,9 @@ pub record AreBoundIds (old new : List BindingValue) (ids : List ShardId) : Type
 
 -- ---- the whole text
 
--- what is found in two images, and in the later one as if extents had been reset, and what differs in their bytes
+-- of two images what is found in the earlier one, in the later one (`rest`), and in that as if extents had
+-- been reset (`kept`); what the pages of extent 0 of both are; the first byte that changed and may not, of
+-- extent 0 and of each other one; and the shards that either binds
 pub record Compared : Type 0 where
   pub found : Scrubbed
   pub rest : Scrubbed
@@ -269,11 +271,12 @@ unsafe_line = codes "unsafe" ++ 10 ∷ []
 abbrev pub safe_line : ℕ → ℕ → List ℕ
 safe_line old new = codes "safe" ++ spaced (decimal old) ++ spaced (decimal new) ++ 10 ∷ []
 
--- some lines, and after them the last one, by whether there is none
+-- some lines and the last one: that it is safe if there are none before it, or else that it isn't
 abbrev pub with_last : ℕ → ℕ → List ℕ → List ℕ
 with_last old new lines = lines ++ (if len lines == 0 then safe_line old new else unsafe_line)
 
--- the whole text by the lines of doubts, the other lines, and the generations: without one of them the doubts alone are there
+-- the whole text by the lines of doubts, the other lines, and the generations; without one of these it has
+-- no lines but the doubts and the last one
 abbrev pub whole_text : List ℕ → List ℕ → Option (ℕ × ℕ) → List ℕ
 whole_text doubts others None = doubts ++ unsafe_line
 whole_text doubts others (Some both) = with_last both.0 both.1 (doubts ++ generation_line both.0 both.1 ++ others)

@@ -1,7 +1,7 @@
--- What follows if it is safe what was written to a disk between two images.
+-- What follows if what was written to a disk between two images is safe.
 use Rattle.std.specs.Prelude.{◌≡◌, ◌≢◌, ◌<◌, ◌≤◌, ◌++◌, ℕ, true, List, All, Contains}
 use Rattle.std.specs.List.{AllZip, flat_map}
-use Rattle.scrub_disk.specs.Image.{Image, byte}
+use Rattle.scrub_disk.specs.Image.{Image, image_byte}
 use Rattle.scrub_super.specs.Plan.{PlanValue}
 use Rattle.scrub_scan.specs.declared.item.Item.{Item}
 use Rattle.scrub_scan.specs.Scanned.{Scanned}
@@ -14,7 +14,8 @@ use Rattle.scrub_reclaim.specs.Reset.{IsPlanIn}
 use Rattle.scrub_compare.specs.Written.{pointer_in}
 use Rattle.scrub_compare.specs.Compare.{IsComparison}
 
--- it is safe what was written between two images of the same sizes, with these extents to be reset
+-- two images have the same sizes, and by their comparison, with these extents to be reset, what was written
+-- in between is safe
 pub record IsSafe (resets : List ℕ) (before after : Image) : Type 0 where
   pub sizes : after.geometry ≡ before.geometry
   pub text : List ℕ
@@ -24,23 +25,25 @@ pub record IsSafe (resets : List ℕ) (before after : Image) : Type 0 where
 abbrev pub NonePointsInto : List ℕ → List Checked → Type 0
 NonePointsInto resets checked = All (λ c. ¬ Contains resets c.locator.extent) checked
 
--- each byte below the write pointer of an extent is what it was, or still can't be read
+-- each byte below the write pointer that an extent had is what it was, or still can't be read; `found` is
+-- what is found in the earlier image
 abbrev pub KeepsBytes : Image → Image → Scrubbed → Type 0
-KeepsBytes before after found = (x p : ℕ) → p < pointer_in found.plan x → byte after x p ≡ byte before x p
+KeepsBytes before after found = (x p : ℕ) → p < pointer_in found.plan x → image_byte after x p ≡ image_byte before x p
 
--- an extent was scanned again, and each chunk among its items is one among the new ones
+-- an extent was scanned again, and each chunk among its items is among the new ones: the same place, form,
+-- UUID, length and digest
 pub record HasItsChunks (rest : Scrubbed) (f : Scanned) : Type 0 where
   pub now : Scanned
   pub among : Contains rest.all now
   pub extent_is : now.extent ≡ f.extent
   pub chunks : (item : Item) → Contains f.findings.items item → is_chunk item ≡ true → Contains now.findings.items item
 
--- each extent that isn't one of these has its chunks
+-- each scanned extent that isn't one of these still has its chunks
 abbrev pub KeepsChunks : List ℕ → Scrubbed → Scrubbed → Type 0
 KeepsChunks resets found rest = All (λ f. ¬ Contains resets f.extent → HasItsChunks rest f) found.all
 
--- two manifests say the same, and that no run is lost, but that in the second fewer runs may be hidden, and lines that end in the
--- word `none` may end in `spare`
+-- two manifests say that no run is lost, and are the same, except that in the second one fewer runs may be
+-- hidden, and that lines which end in the word `none` may end in `spare`
 pub record IsSameButMore (a b : List ℕ) : Type 0 where
   pub retired : List ℕ
   pub hidden : ℕ
@@ -54,11 +57,12 @@ pub record IsSameButMore (a b : List ℕ) : Type 0 where
   pub a_is : a ≡ retired_line retired ++ runs_line 0 hidden ++ flat_map (λ part. part) parts ++ total_line shards locators
   pub b_is : b ≡ retired_line retired ++ runs_line 0 hidden_now ++ flat_map (λ part. part) others ++ total_line shards locators
 
--- the earlier superblock was written again: the sizes are those of the later image, so are the bytes of all extents but extent
--- 0, and the superblock that counts names the runs, the retired extents and the write pointers of the earlier one
+-- the earlier superblock was written again: the sizes are those of the later image, so are the bytes of all
+-- extents but extent 0, and the superblock that counts names the runs, the retired extents and the write
+-- pointers of the earlier one
 pub record IsUndone (before after undone : Image) : Type 0 where
   pub sizes : undone.geometry ≡ after.geometry
-  pub bytes : (x p : ℕ) → x ≢ 0 → x < after.geometry.extents → byte undone x p ≡ byte after x p
+  pub bytes : (x p : ℕ) → x ≢ 0 → x < after.geometry.extents → image_byte undone x p ≡ image_byte after x p
   pub old : PlanValue
   pub new : PlanValue
   pub was : IsPlanIn before old

@@ -3,7 +3,7 @@ use Rattle.std.specs.Prelude.{◌≡◌, ◌≢◌, ◌⊎◌, ◌<◌, ◌≤�
 use Rattle.std.specs.Prelude.{length as len}
 use Rattle.std.specs.Option.{option_and_then, unwrap_or}
 use Rattle.scrub_disk.specs.declared.geometry.Geometry.{Geometry}
-use Rattle.scrub_disk.specs.Image.{Image, byte}
+use Rattle.scrub_disk.specs.Image.{Image, image_byte}
 use Rattle.scrub_super.specs.Pages.{IsHeldByte}
 use Rattle.scrub_super.specs.Plan.{PlanValue, pointer_of}
 use Rattle.scrub_scan.specs.AllFindings.{entry_of}
@@ -16,12 +16,12 @@ use Rattle.scrub_reclaim.specs.Room.{has_room, place_in}
 
 -- byte p of extent x changed: it can be read in one of the images alone, or in both and is another one
 abbrev pub IsChanged : Image → Image → ℕ → ℕ → Type 0
-IsChanged before after x p = byte before x p ≢ byte after x p
+IsChanged before after x p = image_byte before x p ≢ image_byte after x p
 
 -- the byte can be read in both images, and is zero in the later one
 pub record IsZeroNow (before after : Image) (x p : ℕ) : Type 0 where
-  pub was_readable : byte before x p ≢ None
-  pub is_zero : byte after x p ≡ Some 0
+  pub was_readable : image_byte before x p ≢ None
+  pub is_zero : image_byte after x p ≡ Some 0
 
 -- a byte of extent 0 may change if it is zero now, or a valid record of the later image holds it
 abbrev pub MayChangeInRecords : Image → Image → ℕ → Type 0

@@ -7,7 +7,7 @@ ghost use Rattle.std.specs.List.Sorted.{IsStrictlyIncreasing};
 ghost use Rattle.scrub_disk.specs.Image.{Image};
 ghost use Rattle.scrub_super.specs.Pages.{AreSuperblockPages};
 ghost use Rattle.scrub_found.specs.Takings.{AreTakingsBy};
-ghost use Rattle.scrub_found.specs.Judged.{AreJudgedBut, Beside, IsFound, found_in};
+ghost use Rattle.scrub_found.specs.Judged.{AreJudgedBut, Beside, IsFoundOn, found_in};
 ghost use Rattle.scrub_compare.specs.Written.{AreFirstWritten, IsLeastNumber, IsWrittenInRecords};
 ghost use Rattle.scrub_compare.specs.Compare.{IsComparison, both_of, extent_lines, firm_lines};
 ghost use Rattle.scrub_compare.specs.Compare.{generation_line, generation_of, is_safe_by, named_lines};
@@ -82,7 +82,7 @@ fn doubts_of_both<D: PageSource, E: PageSource>(
     pages: &[SuperblockPage],
     pages_now: &[SuperblockPage],
 ) -> Result<String, OutOfMemory>
-    ensures { (image other : Image) (b c : Beside) → IsFound image found.now b → IsFound other rest.now c →
+    ensures { (image other : Image) (b c : Beside) → IsFoundOn image found.now b → IsFoundOn other rest.now c →
         IfOk result (λ text. string_bytes text ≡
         firm_lines (codes "before") pages.now (found_in found.now b) ++
         firm_lines (codes "after") pages_now.now (found_in rest.now c)) }
@@ -209,11 +209,11 @@ fn listing_by(
 /// after DOUBT` for each of the later one. If a superblock counts in both, these follow:
 ///
 /// - `generation OLD NEW`, if the later generation is the lower one;
-/// - `written 0 OFFSET` with the first byte of extent 0 that changed, isn't zero now, and isn't held by a
-///   valid record;
+/// - `written 0 OFFSET` with the first byte of extent 0 that changed and that no valid record holds now,
+///   unless it could be read before and is zero now;
 /// - for each extent from 1 on `pointer EXTENT OLD NEW`, unless its write pointer is the same, or 0 in one of
 ///   `resets`, or at or past the place where the extent had room; and `written EXTENT OFFSET` with the first
-///   byte that changed where nothing may be;
+///   byte that changed where nothing may change;
 /// - `named LINE` for each named locator, as `list_locators` has it, whose extent is one of `resets`;
 /// - `lost LINE`, `new LINE` and `spare LINE` for each line of the manifest that would be another one if
 ///   `resets` were reset.

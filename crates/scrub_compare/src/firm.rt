@@ -3,7 +3,7 @@
 ghost use Rattle.std.specs.Prelude.{◌≡◌, ◌++◌, IfOk, OnOk, string_bytes};
 ghost use Rattle.std.specs.List.{flat_map};
 ghost use Rattle.scrub_disk.specs.Image.{Image};
-ghost use Rattle.scrub_found.specs.Judged.{Beside, IsFound, found_in, run_states};
+ghost use Rattle.scrub_found.specs.Judged.{Beside, IsFoundOn, found_in, run_states};
 ghost use Rattle.scrub_reclaim.specs.Doubts.{choice_doubts, page_doubts, run_doubts, superblock_lost};
 ghost use Rattle.scrub_compare.specs.Compare.{firm_line, firm_lines};
 
@@ -68,7 +68,7 @@ pub(crate) fn append_firm<D: PageSource>(
     pages: &[SuperblockPage],
     judged: &Judged<'_, D>,
 ) -> Result<(), OutOfMemory>
-    ensures { (other : Image) (b : Beside) → IsFound other judged.now b →
+    ensures { (other : Image) (b : Beside) → IsFoundOn other judged.now b →
         OnOk result (string_bytes text.new ≡ string_bytes text.old ++
         firm_lines image.now pages.now (found_in judged.now b)) }
 {

@@ -5,9 +5,10 @@ ghost use Rattle.scrub_disk.specs.Image.{Image};
 ghost use Rattle.scrub_listings.specs.Manifest.{IsManifest};
 ghost use Rattle.scrub_compare.specs.Laws.{IsSafe, IsUndone};
 
-/// A law: where it is safe what was written between two images, it can be undone. Once a superblock counts
-/// that names the index runs, the retired extents and the write pointers of the earlier one, the manifest is
-/// the earlier one, to the byte.
+/// A law: if what was written between two images is safe, it can be undone. Take an image with the bytes of
+/// the later one in all extents but extent 0, where a superblock counts that names the index runs, the
+/// retired extents and the write pointers of the earlier one. Its manifest is that of the earlier image, to
+/// the byte.
 pub fn it_can_be_undone()
     ensures { (resets : List ℕ) (before after undone : Image) (a b : List ℕ) (v w : Bool) →
         IsSafe resets before after → IsUndone before after undone → IsManifest before a v →

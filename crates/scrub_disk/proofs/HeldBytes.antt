@@ -12,7 +12,7 @@ use Rattle.std.proofs.Common.{Vec, Global}
 use Rattle.std.proofs.lemmas.Bool.{cases_lt, lt-ltb}
 use Rattle.scrub_disk.specs.Memory.{IsBlank, Puts, Marks}
 use Rattle.scrub_disk.specs.declared.geometry.Geometry.{Geometry}
-use Rattle.scrub_disk.specs.Image.{Image, byte}
+use Rattle.scrub_disk.specs.Image.{Image, image_byte}
 use Rattle.scrub_disk.specs.BytesAndMarks.{held}
 use Rattle.scrub_disk.specs.steps.WholePages.{page_room}
 use Rattle.scrub_disk.proofs.Writes.{put_within, put_outside, length-put}
@@ -37,7 +37,7 @@ in_page bytes n P k hk fits =
 -- byte i of extent e of the image that bytes and marks hold
 pub byte-held : (g : Geometry) (bytes : List ℕ) (unreadable : List Bool) (e i : ℕ) →
     length bytes ≡ g.page * g.pages * g.extents → e < g.extents → i < g.page * g.pages →
-    byte (held g bytes unreadable) e i
+    image_byte (held g bytes unreadable) e i
     ≡ cond (get_or unreadable (e * g.pages + i / g.page) false) None (Some (get_or bytes (e * (g.page * g.pages) + i) 0))
 byte-held g bytes unreadable e i l he hi =
     let pos : 0 < g.page = omega (arith, g.page_least) in
@@ -204,7 +204,7 @@ put_all g v ys xs zs unreadable e offset size l he fits hs hx hz =
 -- the bytes of a page that was read, of any image: scanners that read by pages use it
 pub byte-page : (d : Image) (e p k : ℕ) (page : List ℕ) → d.page e p ≡ Some page → length page ≡ d.geometry.page →
     p < d.geometry.pages → k < d.geometry.page →
-    byte d e (p * d.geometry.page + k) ≡ Some (get_or page k 0)
+    image_byte d e (p * d.geometry.page + k) ≡ Some (get_or page k 0)
 byte-page d e p k page h l hp hk =
     let next : p + 1 ≤ d.geometry.pages = omega (arith, hp) in
     let room : d.geometry.page * (p + 1) ≤ d.geometry.page * d.geometry.pages = mul-le-mul_left d.geometry.page next in
@@ -220,7 +220,7 @@ byte-page d e p k page h l hp hk =
     ∙ slice_get-get_or page k 0 (omega (arith, l, hk))
 
 -- no byte of an unreadable page can be read
-pub byte-unreadable : (d : Image) (e i : ℕ) → d.page e (i / d.geometry.page) ≡ None → byte d e i ≡ None
+pub byte-unreadable : (d : Image) (e i : ℕ) → d.page e (i / d.geometry.page) ≡ None → image_byte d e i ≡ None
 byte-unreadable d e i h =
     either (nat_lt i (d.geometry.page * d.geometry.pages))
     (ap (option_and_then (λ s. slice_get s (i % d.geometry.page))) h)

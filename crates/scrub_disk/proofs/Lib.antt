@@ -17,5 +17,3 @@ pub mod AllZero
 pub mod StoredPages
 pub mod JoinedBlocks
 pub mod Texts
--- what `list_facts` has, for crates that import it from here
-pub mod Zips

@@ -1,10 +1,11 @@
 -- Pages that are read one after another, many at once where that can be.
-use Rattle.std.proofs.Common.{◌≡◌, ◌<◌, ◌≤◌, ◌+◌, ◌-◌, ◌*◌, ◌/◌, ℕ, Bool, true, false, not, List, [], ◌∷◌, ◌++◌, ◌⊎◌, length, length-append, get_or, set, slice_get, arith, refl, sym, ◌∙◌, ap, inl, inr, Option, Some, None, IfSome, get_or-set_same, get_or-set_other, ◌≢◌}
+use Rattle.std.proofs.Common.{◌≡◌, ◌<◌, ◌≤◌, ◌+◌, ◌-◌, ◌*◌, ◌/◌, ℕ, Bool, true, false, not, List, [], ◌∷◌, ◌++◌, ◌⊎◌, length, length-append, get_or, set, slice_get, arith, sym, ◌∙◌, ap, inl, inr, Option, Some, None, IfSome, get_or-set_same, get_or-set_other, ◌≢◌}
 use Rattle.std.proofs.lemmas.Nat.{div_below, div-mul-add}
 use Rattle.std.specs.Bool.{OnTrue, OnFalse}
 use Rattle.std.proofs.lemmas.Bool.{cases_lt, cases_eq, false≢true}
 use Rattle.std.proofs.lemmas.List.Elements.{All-push, Contains-push, Contains-append_left}
 use borrow.Rule.Slice.PartMut.{put_mid}
+use Rattle.list_facts.proofs.Bools.{true_from_not}
 use Rattle.scrub_disk.specs.Raw.{IsRead, MayFailIn}
 use Rattle.scrub_disk.specs.steps.Ahead.{StandsBetween, HasFailed, MarksFrom}
 use Rattle.scrub_disk.proofs.RawBytes.{read_more}
@@ -22,10 +23,6 @@ rest_more (Some known) was offset done n out piece e within l before read =
 abbrev pub HeldAhead : List ℕ → ℕ → ℕ → ℕ → List Bool → List ℕ → Type 0
 HeldAhead known place page n marks bytes =
     (i : ℕ) → i < n * page → get_or marks (i / page) true ≡ false → slice_get known (place + i) ≡ Some (get_or bytes i 0)
-
-not_false : (b : Bool) → not b ≡ false → b ≡ true
-not_false true e = refl
-not_false false e = sym e
 
 on_true : (b : Bool) {P : Type 0} → b ≡ true → OnTrue b P → P
 on_true true e p = p
@@ -47,7 +44,7 @@ held_next known place page n marks bytes more whole pos below before kept read i
       let small : i - n * page < page = omega (arith, past, hi) in
       let q : i / page ≡ n = ap (λ m. m / page) (sym k) ∙ div-mul-add n page (i - n * page) small in
       let is_whole : whole ≡ true =
-      not_false whole
+      true_from_not whole
       (sym (get_or-set_same marks n (not whole) true below) ∙ ap (λ m. get_or (set marks n (not whole)) m true) (sym q) ∙ unmarked) in
       on_true whole is_whole read i past (omega (arith, small, past))
 ]
@@ -106,6 +103,7 @@ held_more_ahead (Some known) was place page n marks bytes more whole e pos below
         OnTrue whole (StandsBetween known place (n * page) (n * page + page) more)
     here r = r
 
+-- If bytes are the raw ones from the end of page n on, they are so from the start of page n + 1 on.
 pub stands_more_ahead : (raw was : Option (List ℕ)) (place page n reached : ℕ) (more : List ℕ) → was ≡ raw →
     IfSome was (λ known. StandsBetween known place (n * page + page) reached more) →
     IfSome raw (λ known. StandsBetween known place ((n + 1) * page) reached more)
@@ -117,6 +115,7 @@ stands_more_ahead (Some known) was place page n reached more e read =
         StandsBetween known place (n * page + page) reached more
     here r = r
 
+-- Marks are right as `MarksFrom` says with page n too, marked only if it was cut or a read in it failed.
 pub marks_more_ahead : (raw was : Option (List ℕ)) (fails : ℕ → ℕ → Bool) (start page n first before after : ℕ) (marks : List Bool) (whole : Bool) →
     was ≡ raw → first ≤ before → before ≤ after → n < length marks →
     IfSome raw (λ known. MarksFrom known fails start page n (before - first) marks) →

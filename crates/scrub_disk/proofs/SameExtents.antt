@@ -3,7 +3,7 @@ use Rattle.std.proofs.Common.{◌≡◌, ◌<◌, ◌*◌, ◌/◌, ◌%◌, ℕ
 use Rattle.std.proofs.Math.Path.{fun_ext}
 use Rattle.std.proofs.lemmas.Nat.{div_below}
 use Rattle.std.proofs.lemmas.Bool.{ltb-true}
-use Rattle.scrub_disk.specs.Image.{Image, byte}
+use Rattle.scrub_disk.specs.Image.{Image, image_byte}
 use Rattle.scrub_disk.specs.OneExtent.{SameExtent}
 
 -- that two images have the same extent goes both ways
@@ -13,7 +13,7 @@ SameExtent-sym s = record {
   pages = λ q hq. sym (s.pages q (rw s.geometry at hq));
 }
 
-same_byte : {e : ℕ} {a b : Image} → SameExtent e a b → (p : ℕ) → byte b e p ≡ byte a e p
+same_byte : {e : ℕ} {a b : Image} → SameExtent e a b → (p : ℕ) → image_byte b e p ≡ image_byte a e p
 same_byte {e} {a} {b} s p = rw s.geometry (by_end (nat_lt p (a.geometry.page * a.geometry.pages)) refl)
   where
     by_end : (here : Bool) → nat_lt p (a.geometry.page * a.geometry.pages) ≡ here →
@@ -27,5 +27,5 @@ same_byte {e} {a} {b} s p = rw s.geometry (by_end (nat_lt p (a.geometry.page * a
     by_end false is = refl
 
 -- they have the same bytes there
-pub same_bytes : {e : ℕ} {a b : Image} → SameExtent e a b → byte b e ≡ byte a e
+pub same_bytes : {e : ℕ} {a b : Image} → SameExtent e a b → image_byte b e ≡ image_byte a e
 same_bytes s = fun_ext (same_byte s)

@@ -3,7 +3,7 @@ use Rattle.std.specs.Prelude.{◌≡◌, ◌≢◌, ◌<◌, ◌≤◌, ◌+◌,
 use Rattle.std.specs.Option.{option_map}
 use Rattle.scrub_disk.specs.declared.geometry.Geometry.{Geometry}
 use Rattle.scrub_disk.specs.declared.memory.MemDisk.{MemDisk}
-use Rattle.scrub_disk.specs.Image.{Image, byte, extent_bytes}
+use Rattle.scrub_disk.specs.Image.{Image, image_byte, extent_bytes}
 use Rattle.scrub_disk.specs.BytesAndMarks.{held}
 
 -- the image that the bytes and marks of a disk in memory hold
@@ -19,9 +19,9 @@ pub record IsBlank (d : Image) (g : Geometry) : Type 0 where
 -- becomes readable or unreadable
 pub record Puts (old new : Image) (e offset : ℕ) (bytes : List ℕ) : Type 0 where
   pub geometry : new.geometry ≡ old.geometry
-  pub written : (k : ℕ) → k < length bytes → byte new e (offset + k) ≡ option_map (λ _. slice_index bytes k) (byte old e (offset + k))
-  pub kept : (i : ℕ) → i < extent_bytes old.geometry → (i < offset) ⊎ (offset + length bytes ≤ i) → byte new e i ≡ byte old e i
-  pub others : (f i : ℕ) → f < old.geometry.extents → i < extent_bytes old.geometry → f ≢ e → byte new f i ≡ byte old f i
+  pub written : (k : ℕ) → k < length bytes → image_byte new e (offset + k) ≡ option_map (λ _. slice_index bytes k) (image_byte old e (offset + k))
+  pub kept : (i : ℕ) → i < extent_bytes old.geometry → (i < offset) ⊎ (offset + length bytes ≤ i) → image_byte new e i ≡ image_byte old e i
+  pub others : (f i : ℕ) → f < old.geometry.extents → i < extent_bytes old.geometry → f ≢ e → image_byte new f i ≡ image_byte old f i
 
 -- this page is unreadable, and each other page is as it was
 pub record Marks (old new : Image) (e q : ℕ) : Type 0 where

@@ -52,7 +52,7 @@ pub record MayFailIn (fails : ℕ → ℕ → Bool) (place size : ℕ) : Type 0 
   pub may : IsTrue (fails offset count)
 
 -- after a load each page that is cut is unreadable, and of the others only named ones and those that failures cost,
--- listed here by their numbers: at most as many as the failures that were counted, and in each of them a read may fail
+-- listed here by their numbers: at most `failures` of them, and in each of them a read may fail
 pub record LosesOnly (bytes : List ℕ) (fails : ℕ → ℕ → Bool) (g : Geometry) (named : List (ℕ × ℕ)) (failures : ℕ) (image : Image) : Type 0 where
   pub cut : (e q : ℕ) → e < g.extents → q < g.pages → IsCut bytes g e q → image.page e q ≡ None
   pub failed : List ℕ
@@ -62,7 +62,7 @@ pub record LosesOnly (bytes : List ℕ) (fails : ℕ → ℕ → Bool) (g : Geom
       Contains named (e, q) ⊎ (IsCut bytes g e q ⊎ Contains failed (page_number g e q))
 
 -- if the raw bytes are known, each readable page has the bytes of its place, pages are lost only as `LosesOnly` says,
--- and no byte is after the last page, unless a read of the byte there may fail, and a read did
+-- and no byte is after the last page, unless a read of the byte there may fail, and `failures` isn't 0
 pub record HoldsKnown (bytes : List ℕ) (fails : ℕ → ℕ → Bool) (failures : ℕ) (g : Geometry) (named : List (ℕ × ℕ)) (image : Image) : Type 0 where
   pub pages : HoldsRaw bytes image
   pub lost : LosesOnly bytes fails g named failures image

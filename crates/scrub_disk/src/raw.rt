@@ -19,7 +19,7 @@ pub trait RawImage {
     ghost bytes: { Self → Option (List ℕ) };
     /// Whether a read of so many bytes from a byte offset on may fail: the offset first. No read changes it.
     ghost fails: { Self → ℕ → ℕ → Bool };
-    /// How many reads were made.
+    /// How many reads were made. It is bounded so that an implementation may count in 64 bits.
     ghost reads: { Self → ℕ };
     /// How many of them failed.
     ghost failures: { Self → ℕ };

@@ -5,7 +5,7 @@ ghost use Rattle.std.specs.List.{range_with_len};
 ghost use Rattle.scrub_disk.specs.Faults.{HasSizes};
 ghost use Rattle.scrub_disk.specs.Memory.{image_of, Puts, Marks};
 ghost use Rattle.scrub_frame.specs.declared.form.Form.{Form};
-ghost use Rattle.scrub_frame.specs.Frame.{frame};
+ghost use Rattle.scrub_frame.specs.Frame.{frame_of};
 ghost use Rattle.scrub_run.specs.Run.{run_bytes};
 ghost use Rattle.scrub_super.specs.steps.Limits.{ArePointers};
 ghost use Rattle.scrub_super.specs.Planned.{AreChunkExtents};
@@ -110,7 +110,7 @@ pub fn put_chunk(
     payload: &[u8],
 ) -> Result<Locator, Misfit>
     ensures put { IfOk result (λ _. Puts (image_of disk.old) (image_of disk.new) extent offset
-        (frame Form.Plain uuid payload.now)) }
+        (frame_of Form.Plain uuid payload.now)) }
     ensures locator { IfOk result (IsLocatorOf extent offset uuid payload.now) }
 {
     let uuid = Uuid::from_bytes(uuid);
@@ -130,7 +130,7 @@ pub fn put_sealed(
     payload: &[u8],
 ) -> Result<Locator, Misfit>
     ensures put { IfOk result (λ _. Puts (image_of disk.old) (image_of disk.new) extent offset
-        (frame Form.Sealed uuid payload.now)) }
+        (frame_of Form.Sealed uuid payload.now)) }
     ensures locator { IfOk result (IsLocatorOf extent offset uuid payload.now) }
 {
     let uuid = Uuid::from_bytes(uuid);

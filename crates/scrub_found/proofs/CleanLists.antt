@@ -27,6 +27,7 @@ one_more c WrongUuid ds hs rest h = ap (λ none. none && length hs == 0) (eqb-su
 one_more c WrongLength ds hs rest h = ap (λ none. none && length hs == 0) (eqb-suc-zero (length ds))
 one_more c WrongDigest ds hs rest h = ap (λ none. none && length hs == 0) (eqb-suc-zero (length ds))
 
+-- No locator dangles or is hidden exactly if each locator is sound.
 pub sound_alone : (cs : List Checked) →
     (length (dangling cs) == 0 && length (hidden cs) == 0) ≡ list_all (λ c. is_sound c.status) cs
 sound_alone [] = refl

@@ -1,5 +1,5 @@
 -- Each image has all that a scan finds on it, also as if extents had been reset, and planned extents that can be taken.
-use Rattle.std.proofs.Common.{◌≡◌, ◌-◌, ◌∷◌, ◌++◌, [], ℕ, zero, suc, List, length, replicate, true, false, arith, refl, sym, ◌∙◌, ap, subst, Option, Some, None, IfSome, All, MatchOption}
+use Rattle.std.proofs.Common.{◌≡◌, ◌∷◌, ◌++◌, [], ℕ, zero, suc, List, length, replicate, arith, refl, sym, ◌∙◌, ap, subst}
 use Rattle.std.specs.List.Sorted.{IsPermutation, IsStrictlyIncreasing}
 use Rattle.std.proofs.lemmas.List.{append-nil, length-replicate}
 use Rattle.std.proofs.lemmas.List.Elements.{All-cons, All-replicate}
@@ -10,7 +10,6 @@ use Rattle.scrub_super.specs.Plan.{IsPlan, PlanValue}
 use Rattle.scrub_super.specs.Reset.{pointers_reset}
 use Rattle.scrub_super.proofs.PlansFit.{plan_fits, reset_fits}
 use Rattle.scrub_super.proofs.RecordsThere.{some_choice, some_plan}
-use Rattle.scrub_scan.specs.Scanned.{Scanned}
 use Rattle.scrub_scan.specs.AllFindings.{extent_numbers}
 use Rattle.scrub_scan.proofs.Existing.{some_all_findings}
 use Rattle.scrub_merge.proofs.MapsThere.{some_shard_map}
@@ -26,6 +25,7 @@ use Rattle.scrub_found.proofs.OneIndex.{read_runs_are_runs}
 
 -- ---- plans
 
+-- The plan of a choice made in an image meets `IsPlan`, as if any extents had been reset.
 pub plan_but_fits : (resets : List ℕ) (image : Image) (choice : Choice) (plan : PlanValue) → IsChoice image choice →
     IsPlanBut resets choice plan → IsPlan plan
 plan_but_fits [] image choice plan chosen is = plan_fits image choice plan chosen is
@@ -49,6 +49,7 @@ some_plan_but (e ∷ es) choice =
 
 -- ---- all that is found
 
+-- Each image has a record of all that is found on it, as if any extents had been reset.
 pub some_scrub : (resets : List ℕ) (image : Image) → (s : Scrubbed) × IsScrubbedBut resets image s
 some_scrub resets image =
     let choice = some_choice image in
@@ -86,6 +87,7 @@ some_scrub resets image =
       },
     )
 
+-- Each image has a list of the extents that a scrub scans.
 pub some_planned_extents : (image : Image) → (planned : List ℕ) × ArePlannedExtents image planned
 some_planned_extents image =
     let choice = some_choice image in
@@ -106,7 +108,7 @@ nothing_in : (n : ℕ) → one_list (none_taken n) ≡ []
 nothing_in zero = refl
 nothing_in (suc n) = nothing_in n
 
--- the caller takes each planned extent, and the workers take none
+-- Each image has takings of the caller and any number of workers.
 pub some_takings : (image : Image) (workers : ℕ) → (takings : TakingsValue) × AreTakingsBy image workers takings
 some_takings image workers =
     let choice = some_choice image in

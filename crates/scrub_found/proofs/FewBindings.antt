@@ -16,6 +16,7 @@ use Rattle.std.proofs.lemmas.Map.Made.{length-le_from_is_member}
 use Rattle.std.proofs.lemmas.Option.{none-some, same_Some, slice_get-get_or}
 use Rattle.byteorder.specs.Endian.{big_bytes}
 use Rattle.sha2.specs.Sha256.{sha256}
+use Rattle.list_facts.proofs.Elements.{Contains-cases}
 use Rattle.scrub_disk.specs.Image.{Image, extent_bytes}
 use Rattle.scrub_super.specs.Chosen.{Choice, IsChoice}
 use Rattle.scrub_super.specs.Contents.{Contents}
@@ -30,7 +31,6 @@ use Rattle.scrub_run.specs.Entry.{EntryValue, entry_bytes, IsBelow, IsEntry}
 use Rattle.scrub_run.specs.Run.{IsRun, run_body, run_bytes, run_magic}
 use Rattle.scrub_merge.specs.Binding.{BindingValue, Runs, IsNewestBinding}
 use Rattle.scrub_merge.specs.ShardMap.{IsShardMap}
-use Rattle.scrub_frame.proofs.Elements.{Contains-cases}
 use Rattle.scrub_check.specs.Runs.{AreReadRuns, ReadRunsValue}
 use Rattle.scrub_check.specs.Status.{NamesChunk}
 use Rattle.scrub_check.proofs.Listed.{as_many}
@@ -168,16 +168,15 @@ runs_few_by resets image choice plan chosen planned =
     let few : length old.0.runs ≤ 32 = planned_few image choice old.0 chosen old.1 in
     omega (arith, few, ap length old.3)
 
+-- The plan of what is found names at most 32 index runs, whichever extents are reset.
 pub runs_few : (resets : List ℕ) (image : Image) (s : Scrubbed) → IsScrubbedBut resets image s → length s.plan.runs ≤ 32
 runs_few resets image s x = runs_few_by resets image s.choice s.plan x.choice x.plan
-
-few_runs : (resets : List ℕ) (image : Image) (s : Scrubbed) → IsScrubbedBut resets image s → length s.read.runs ≤ 32
-few_runs resets image s x = omega (arith, as_many image s.plan s.read x.read, runs_few resets image s x)
 
 -- a run can have as many entries as a map of read runs has bindings, and each of these is an entry
 module _ (resets : List ℕ) (image : Image) (choice : Choice) (plan : PlanValue) (read : ReadRunsValue) (bindings : List BindingValue)
     (chosen : IsChoice image choice) (planned : IsPlanBut resets choice plan) (read_are : AreReadRuns image plan read)
     (map_is : IsShardMap read.runs bindings) where
+  -- The shard map of the runs that were read has fewer than `2 ^ 32` bindings.
   pub countable_map : length bindings < 2 ^ 32
   countable_map =
       let ids = length-le_from_is_member same_bytes_laws (bound_ids bindings) (ids_of_runs read.runs) (distinct bindings map_is.bindings_of_map.rising)
@@ -207,6 +206,7 @@ module _ (resets : List ℕ) (image : Image) (choice : Choice) (plan : PlanValue
   pub locators_fit : All (λ b. length b.locators ≤ 64) bindings
   locators_fit k d hk = (entries_of_map k d hk).few
 
+-- What is found on an image has fewer than `2 ^ 32` bindings, whichever extents are reset.
 pub countable : (resets : List ℕ) (image : Image) (s : Scrubbed) → IsScrubbedBut resets image s → length s.bindings < 2 ^ 32
 countable resets image s x = countable_map resets image s.choice s.plan s.read s.bindings x.choice x.plan x.read x.bindings
 

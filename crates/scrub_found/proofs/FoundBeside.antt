@@ -1,5 +1,5 @@
 -- What is found beside judged locators: with lists that follow from them, and that there are such lists.
-use Rattle.std.proofs.Common.{◌≡◌, [], ℕ, List, ap}
+use Rattle.std.proofs.Common.{ℕ, List}
 use Rattle.std.specs.List.Sorted.{IsStrictlyIncreasing}
 use Rattle.scrub_disk.specs.Image.{Image}
 use Rattle.scrub_super.specs.Plan.{IsPlan}
@@ -49,7 +49,7 @@ module _ {D : Type 0} (resets : List ℕ) (image : Image) (j : Judged D) (are : 
       let fits : IsPlan j.scan.plan = plan_but_fits resets image j.scan.chosen j.scan.plan are.scanned.chosen are.scanned.planned in
       rw are.scanned.scanned.extents fits.extents.rising
 
-  -- each of these lists follows from them
+  -- A list of candidates follows from the judged locators.
   pub some_candidates_of : (candidates : List CandidateValue) × AreCandidates j.scan.plan j.scan.all.extents j.checked.items j.in_doubt candidates
   some_candidates_of = some_candidates j.scan.plan j.scan.all.extents j.checked.items j.in_doubt rising
 
@@ -57,6 +57,7 @@ module _ {D : Type 0} (resets : List ℕ) (image : Image) (j : Judged D) (are : 
   abbrev pub all_beside : Beside
   all_beside = beside (some_shared j.checked.items).0 (some_broken j.checked.items).0 some_candidates_of.0
 
+  -- With the lists of `all_beside`, the judged locators are what is found in the image.
   pub found_beside : IsFoundBut resets image j all_beside
   found_beside =
       let shared = some_shared j.checked.items in

@@ -1,16 +1,18 @@
--- One plan and one scan for each choice, under resets too.
+-- Lemmas on what is found on a disk.
+
+-- one plan and one scan for each choice, under resets too
 pub mod OneReader
 pub mod ResetPlans
--- One list of runs, of checked locators, and one of all that is found.
+-- one list of runs, one of checked locators, and one record of all that is found
 pub mod OneIndex
 pub mod OneScrub
--- Each image has all that is found.
+-- each image has all that is found
 pub mod Existing
 pub mod FoundBeside
--- Whether it is clean.
+-- whether it is clean
 pub mod CleanLists
 pub mod Verdicts
--- The bindings fit into one index run.
+-- the bindings fit into one index run
 pub mod FewBindings
--- The rows of runs.
+-- the rows of runs
 pub mod RowStates

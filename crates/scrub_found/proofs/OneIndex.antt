@@ -5,6 +5,9 @@ use Rattle.std.specs.List.{AllZip, slice_get, zip}
 use Rattle.std.proofs.lemmas.List.Elements.{All-head, All-tail}
 use Rattle.std.proofs.lemmas.Map.Made.{keys_of-zip}
 use Rattle.std.proofs.lemmas.Option.{none-some, same_Some}
+use Rattle.list_facts.proofs.Zips.{AllZip-same_seconds}
+use Rattle.std.proofs.lemmas.Slice.Zip.{seconds-zip}
+use Rattle.list_facts.proofs.Elements.{nil_has_no_first, same_behind_first, same_first}
 use Rattle.scrub_disk.specs.Image.{Image}
 use Rattle.scrub_frame.specs.declared.locator.Locator.{Locator}
 use Rattle.scrub_super.specs.Plan.{PlanValue}
@@ -22,20 +25,8 @@ use Rattle.scrub_check.specs.Runs.{AreReadRuns, HasRunIn, NamesChunkIn, ReadRuns
 use Rattle.scrub_check.specs.Status.{HasStatusIn}
 use Rattle.scrub_check.proofs.OneStatus.{one_in_plan}
 use Rattle.scrub_check.proofs.Payloads.{same_payload}
-use Rattle.scrub_found.proofs.OneReader.{heads, tails, no_tail}
 
 -- ---- one list of runs
-
--- two lists related to one list are the same if at most one element is related to each element
-same_zipped : {A B : Type 0} (R : A → B → Type 0) → ((a : A) (b c : B) → R a b → R a c → b ≡ c) →
-    (xs : List A) (ys zs : List B) → AllZip R xs ys → AllZip R xs zs → ys ≡ zs
-same_zipped R one [] [] [] h k = refl
-same_zipped R one [] [] (z ∷ zs) h k = absurd k
-same_zipped R one [] (y ∷ ys) zs h k = absurd h
-same_zipped R one (x ∷ xs) [] zs h k = absurd h
-same_zipped R one (x ∷ xs) (y ∷ ys) [] h k = absurd k
-same_zipped R one (x ∷ xs) (y ∷ ys) (z ∷ zs) h k =
-    ap₂ (λ b bs. b ∷ bs) (one x y z h.0 k.0) (same_zipped R one xs ys zs h.1 k.1)
 
 module _ (image : Image) (plan : PlanValue) (l : Locator) where
   -- a run of a locator is the payload of each chunk that it names
@@ -65,21 +56,15 @@ module _ (image : Image) (plan : PlanValue) (l : Locator) where
   one_pair : (x y : Option (List EntryValue) × RunState) → HasRunIn image plan l x.0 x.1 → HasRunIn image plan l y.0 y.1 → x ≡ y
   one_pair x y hx hy = let same = one_run_in x.0 y.0 x.1 y.1 hx hy in λ i. (same.0 i, same.1 i)
 
--- the second parts of pairs
-seconds-zip : {A B : Type 0} (xs : List A) (ys : List B) → length ys ≡ length xs → map (λ p. p.1) (zip xs ys) ≡ ys
-seconds-zip [] [] same = refl
-seconds-zip [] (y ∷ ys) same = absurd (omega (arith, same))
-seconds-zip (x ∷ xs) [] same = absurd (omega (arith, same))
-seconds-zip (x ∷ xs) (y ∷ ys) same = ap (λ zs. y ∷ zs) (seconds-zip xs ys (omega (arith, same)))
-
 same_read : (r s : ReadRunsValue) → r.runs ≡ s.runs → r.states ≡ s.states → r ≡ s
 same_read r s hr hs = λ i. record { runs = hr i; states = hs i }
 
+-- By its plan an image has at most one list of read runs, with what became of each.
 pub one_list_of_runs : (image : Image) (plan : PlanValue) (r s : ReadRunsValue) → AreReadRuns image plan r →
     AreReadRuns image plan s → r ≡ s
 one_list_of_runs image plan r s x y =
     let pairs : zip r.runs r.states ≡ zip s.runs s.states =
-    same_zipped (λ l p. HasRunIn image plan l p.0 p.1) (one_pair image plan) plan.runs (zip r.runs r.states) (zip s.runs s.states) x.each y.each in
+    AllZip-same_seconds (λ l p. HasRunIn image plan l p.0 p.1) (one_pair image plan) plan.runs (zip r.runs r.states) (zip s.runs s.states) x.each y.each in
     same_read r s
     (sym (keys_of-zip r.runs r.states x.same) ∙ ap (λ ps. map (λ p. p.0) ps) pairs ∙ keys_of-zip s.runs s.states y.same)
     (sym (seconds-zip r.runs r.states x.same) ∙ ap (λ ps. map (λ p. p.1) ps) pairs ∙ seconds-zip s.runs s.states y.same)
@@ -106,10 +91,12 @@ read_at image plan es (l ∷ ls) (r ∷ rs) (s ∷ ss) zero same each here =
 read_at image plan es (l ∷ ls) (r ∷ rs) (s ∷ ss) (suc k) same each here =
     read_at image plan es ls rs ss k (omega (arith, same)) each.1 here
 
+-- A run that was read is the payload of a chunk that some locator names by the plan.
 pub read_of : (image : Image) (plan : PlanValue) (r : ReadRunsValue) → AreReadRuns image plan r →
     (k : ℕ) (es : List EntryValue) → slice_get r.runs k ≡ Some (Some es) → IsNamedRun image plan es
 read_of image plan r x k es here = read_at image plan es plan.runs r.runs r.states k x.same x.each here
 
+-- Each run that was read has the entries of a run.
 pub read_runs_are_runs : (image : Image) (plan : PlanValue) (r : ReadRunsValue) → AreReadRuns image plan r →
     AreRuns r.runs
 read_runs_are_runs image plan r x k es here = (read_of image plan r x k es here).run.entries_of_run
@@ -131,13 +118,14 @@ one_checked image plan c d same x y =
 same_checked : (image : Image) (plan : PlanValue) (cs ds : List Checked) → map named_of cs ≡ map named_of ds →
     HaveStatuses image plan cs → HaveStatuses image plan ds → cs ≡ ds
 same_checked image plan [] [] e x y = refl
-same_checked image plan [] (d ∷ ds) e x y = absurd (no_tail (named_of d) (map named_of ds) e)
-same_checked image plan (c ∷ cs) [] e x y = absurd (no_tail (named_of c) (map named_of cs) (sym e))
+same_checked image plan [] (d ∷ ds) e x y = absurd (nil_has_no_first (named_of d) (map named_of ds) e)
+same_checked image plan (c ∷ cs) [] e x y = absurd (nil_has_no_first (named_of c) (map named_of cs) (sym e))
 same_checked image plan (c ∷ cs) (d ∷ ds) e x y =
     ap₂ (λ h hs. h ∷ hs)
-    (one_checked image plan c d (heads (named_of c) (named_of d) (map named_of cs) (map named_of ds) e) (All-head (HasOwn image plan) c cs x) (All-head (HasOwn image plan) d ds y))
-    (same_checked image plan cs ds (tails (named_of c) (named_of d) (map named_of cs) (map named_of ds) e) (All-tail (HasOwn image plan) c cs x) (All-tail (HasOwn image plan) d ds y))
+    (one_checked image plan c d (same_first (named_of c) (named_of d) (map named_of cs) (map named_of ds) e) (All-head (HasOwn image plan) c cs x) (All-head (HasOwn image plan) d ds y))
+    (same_checked image plan cs ds (same_behind_first (named_of c) (named_of d) (map named_of cs) (map named_of ds) e) (All-tail (HasOwn image plan) c cs x) (All-tail (HasOwn image plan) d ds y))
 
+-- By a plan of an image, named locators have at most one list of statuses.
 pub one_list_of_checked : (image : Image) (plan : PlanValue) (names : List Named) (cs ds : List Checked) →
     AreChecked image plan names cs → AreChecked image plan names ds → cs ≡ ds
 one_list_of_checked image plan names cs ds x y =

@@ -30,7 +30,7 @@ same_parts s t hc hp ha hr hb hk hs hx hd = λ i. record {
   candidates = hd i;
 }
 
--- each part is determined by those before it
+-- On an image there is at most one record of all that is found, as if given extents had been reset.
 pub one_scrub_but : (resets : List ℕ) (image : Image) (s t : Scrubbed) → IsScrubbedBut resets image s → IsScrubbedBut resets image t → s ≡ t
 one_scrub_but resets image s t x y = same_parts s t choice plan all read bindings checked shared broken candidates
   where
@@ -70,6 +70,7 @@ one_scrub_but resets image s t x y = same_parts s t choice plan all read binding
         one_list t.plan t.all t.checked (is_in_doubt t.choice t.read) s.candidates t.candidates (same x.candidates)
         y.candidates
 
+-- On an image there is at most one record of all that is found.
 pub one_scrub : (image : Image) (s t : Scrubbed) → IsScrubbed image s → IsScrubbed image t → s ≡ t
 one_scrub = one_scrub_but []
 

@@ -16,13 +16,14 @@ use Rattle.scrub_found.specs.Takings.{ArePlannedExtents}
 use Rattle.scrub_found.specs.Resets.{IsPlanBut}
 use Rattle.scrub_found.proofs.OneReader.{one_plan, same_plan}
 
--- the plan of no resets, and of some
+-- Without resets the plan of a choice meets `IsPlanBut`.
 pub none_reset : (resets : List ℕ) (choice : Choice) (plan : PlanValue) → (length resets == 0) ≡ true → plan ≡ plan_of choice →
     IsPlanBut resets choice plan
 none_reset [] choice plan none is = is
 none_reset (e ∷ es) choice plan none is =
     let no : length (e ∷ es) ≡ 0 = eqb-true (length (e ∷ es)) 0 none in absurd (omega (arith, no))
 
+-- If extents are reset in the plan of a choice, the result meets `IsPlanBut` for these resets.
 pub some_reset : (resets : List ℕ) (choice : Choice) (old plan : PlanValue) → (length resets == 0) ≡ false → old ≡ plan_of choice →
     IsReset old resets plan → IsPlanBut resets choice plan
 some_reset [] choice old plan some is reset = absurd (false≢true (sym some))

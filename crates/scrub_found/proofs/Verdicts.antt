@@ -7,7 +7,7 @@ use Rattle.scrub_merge.specs.Binding.{Runs}
 use Rattle.scrub_check.specs.Checked.{dangling, hidden, is_sound}
 use Rattle.scrub_found.specs.declared.judging.Judged.{Judged}
 use Rattle.scrub_found.specs.Judged.{AreRowsOf, Beside, found_in, is_clean_by}
-use Rattle.scrub_found.specs.Scrubbed.{entry_counts, is_clean_disk, is_clean_choice, is_clean_extent, is_clean_list}
+use Rattle.scrub_found.specs.Scrubbed.{entry_counts, is_clean_disk, is_clean_choice, is_clean_extent}
 use Rattle.scrub_found.proofs.CleanLists.{sound_alone}
 
 and_assoc : (a b c : Bool) → (a && b && c) ≡ (a && (b && c))

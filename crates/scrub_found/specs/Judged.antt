@@ -103,8 +103,8 @@ module _ {D : Type 0} where
     pub scrubbed : IsScrubbedBut resets image (found_in j b)
 
   -- the same without resets
-  abbrev pub IsFound : Image → Judged D → Beside → Type 0
-  IsFound image j b = IsFoundBut [] image j b
+  abbrev pub IsFoundOn : Image → Judged D → Beside → Type 0
+  IsFoundOn image j b = IsFoundBut [] image j b
 
   -- whether a scan is clean, by the rows of its runs, whether each named locator is sound, and the shared places
   abbrev pub is_clean_by : Scan D → List RunRow → Bool → List SharedPlace → Bool

@@ -9,7 +9,7 @@ use Rattle.sha2.specs.Hashers.{Holds256}
 use Rattle.list_facts.proofs.Slices.{part_at}
 use Rattle.scrub_frame.specs.declared.form.Form.{Form}
 use Rattle.scrub_frame.specs.declared.matcher.Matcher.{Matcher}
-use Rattle.scrub_frame.specs.Frame.{magic, head, head_size, seal, seal_size, mark, payload_start, close_size, frame_overhead, frame, BeginsWithFrame}
+use Rattle.scrub_frame.specs.Frame.{magic, head, head_size, seal, seal_size, mark, payload_start, close_size, frame_overhead, frame_of, BeginsWithFrame}
 use Rattle.scrub_frame.specs.Matching.{form_in, length_in, uuid_in, payload_end_in, close_in, HasTaken, NoFrameYet, NoFrameWithin, IsWhole}
 use Rattle.scrub_frame.proofs.Bytes.{number-bytes}
 use Rattle.scrub_frame.proofs.Frames.{length-magic, magic-first, stands, form-in_head, length-head, length-frame, length-close, seal-digest, overhead, frame_of_parts, BeginsWithHead, claimed, stands_claimed, too_short}
@@ -27,9 +27,11 @@ module _ {x : List ℕ} {f : Form} {u : List ℕ} {n : ℕ} (i : IsHead x f u n)
   pub sixteen : length u ≡ 16
   sixteen = omega (arith, i.whole, ap length i.is, length-head f u n)
 
+  -- The form that is read from the head is f.
   pub form-in : form_in x ≡ f
   form-in = ap form_in i.is ∙ form-in_head f u n
 
+  -- The payload's length that is read from the head is n.
   pub length-in : length_in x ≡ n
   length-in =
       let e : head f u n ≡ (magic f ++ u) ++ (big_bytes 4 n ++ []) =
@@ -39,15 +41,19 @@ module _ {x : List ℕ} {f : Form} {u : List ℕ} {n : ℕ} (i : IsHead x f u n)
       ∙ part_at (magic f ++ u) (big_bytes 4 n) [] 18 4 (omega (arith, length-magic f, length-append (magic f) u, sixteen)) refl)
       ∙ number-bytes n i.short
 
+  -- The UUID that is read from the head is u.
   pub uuid-in : uuid_in x ≡ u
   uuid-in = ap uuid_in i.is ∙ part_at (magic f) u (big_bytes 4 n) 2 16 (length-magic f) sixteen
 
+  -- The payload begins where it does in a frame of the form f.
   pub payload_start-in : payload_start (form_in x) ≡ payload_start f
   payload_start-in = ap payload_start form-in
 
+  -- The payload ends n bytes after its start.
   pub payload_end-in : payload_end_in x ≡ payload_start f + n
   payload_end-in = omega (arith, payload_start-in, length-in)
 
+  -- What has to follow the payload is u and the mark of the form f.
   pub close-in : close_in x ≡ u ++ mark f
   close-in = ap (λ w. w ++ mark (form_in x)) uuid-in ∙ ap (λ e. u ++ mark e) form-in
 
@@ -159,6 +165,7 @@ module _ {m : Matcher} {t : List ℕ} {f : Form} {u : List ℕ} {n : ℕ} (h : H
 -- the same of the j bytes of a piece x that follow its place a
 module _ {m : Matcher} (t x : List ℕ) (a j : ℕ) {f : Form} {u : List ℕ} {n : ℕ} (h : HasTaken m (t ++ take a x))
     (i : IsHead m.head f u n) where
+  -- If j bytes differ from those that close the frame there, no frame begins with the bytes.
   pub other_part : a + j ≤ length x → (m.fed < payload_start f + n → j ≡ 0) → m.fed + j ≤ n + frame_overhead f →
       (take j (take (length x - a) (drop a x)) ≡ take j (drop (m.fed - (payload_start f + n)) (u ++ mark f)) → ⊥) →
       (rest : List ℕ) (g : Form) (v b : List ℕ) → BeginsWithFrame ((t ++ x) ++ rest) g v b → ⊥
@@ -251,10 +258,10 @@ is_whole {m} t x used {f} {u} {n} d h i full within digest sealed_by = record {
     begins : BeginsWithFrame (t ++ take used x) f u (take n (drop (payload_start f) (t ++ take used x)))
     begins = frame_of_parts all f u n (sixteen i) i.short (omega (arith, overhead f, h.count, full)) first sealed close
 
-    nothing_behind : (y c : List ℕ) → BeginsWithFrame y f u c → length y ≡ length c + frame_overhead f → y ≡ frame f u c
+    nothing_behind : (y c : List ℕ) → BeginsWithFrame y f u c → length y ≡ length c + frame_overhead f → y ≡ frame_of f u c
     nothing_behind y c k l =
-        let size = ap length k.spelled ∙ length-append (frame f u c) k.rest in
+        let size = ap length k.spelled ∙ length-append (frame_of f u c) k.rest in
         k.spelled
-        ∙ ap (λ z. frame f u c ++ z)
+        ∙ ap (λ z. frame_of f u c ++ z)
         (nil_from_length k.rest (omega (arith, overhead f, l, size, length-frame f u c k.has_frame.sixteen)))
-        ∙ append-nil (frame f u c)
+        ∙ append-nil (frame_of f u c)

@@ -9,7 +9,7 @@ use Rattle.sha2.proofs.Facts256.{length-sha256}
 use Rattle.list_facts.proofs.Slices.{part-rest, part_at}
 use Rattle.scrub_frame.specs.declared.form.Form.{Form}
 use Rattle.scrub_frame.specs.declared.form.Form.TheVariants.{Plain, Sealed}
-use Rattle.scrub_frame.specs.Frame.{magic, head, head_size, seal, seal_size, mark, payload_start, close_size, frame_overhead, frame, HasFrame, BeginsWithFrame, digest_size}
+use Rattle.scrub_frame.specs.Frame.{magic, head, head_size, seal, seal_size, mark, payload_start, close_size, frame_overhead, frame_of, HasFrame, BeginsWithFrame, digest_size}
 use Rattle.scrub_frame.specs.Matching.{form_in}
 use Rattle.scrub_frame.proofs.Bytes.{bytes-number_at, bytes-injective}
 
@@ -98,7 +98,7 @@ overhead Plain = refl
 overhead Sealed = refl
 
 -- the length of a frame
-pub length-frame : (f : Form) (u b : List ℕ) → length u ≡ 16 → length (frame f u b) ≡ frame_overhead f + length b
+pub length-frame : (f : Form) (u b : List ℕ) → length u ≡ 16 → length (frame_of f u b) ≡ frame_overhead f + length b
 length-frame f u b lu =
     let whole = length-append (head f u (length b)) (seal f b ++ (b ++ (u ++ mark f))) in
     let behind_head = length-append (seal f b) (b ++ (u ++ mark f)) in
@@ -117,7 +117,7 @@ pub record Stands (x : List ℕ) (f : Form) (u b : List ℕ) : Type 0 where
 pub stands : (x : List ℕ) (f : Form) (u b : List ℕ) → BeginsWithFrame x f u b → Stands x f u b
 stands x f u b h = record {
   enough =
-      let e : length x ≡ length (frame f u b) + length h.rest = ap length h.spelled ∙ length-append (frame f u b) h.rest in
+      let e : length x ≡ length (frame_of f u b) + length h.rest = ap length h.spelled ∙ length-append (frame_of f u b) h.rest in
       omega (arith, e, length-frame f u b lu);
   head_is = ap (take head_size) behind_head ∙ take_at first (second ++ (b ++ (last ++ h.rest))) head_size lh;
   sealed =
@@ -218,15 +218,15 @@ one_frame_lem x f u b g v c h k =
 
 -- no frame is a proper prefix of a frame
 pub no_frame_begins_another_lem : (f : Form) (u b rest : List ℕ) (g : Form) (v c : List ℕ) → HasFrame u b →
-    HasFrame v c → frame f u b ++ rest ≡ frame g v c → (rest ≡ []) × (f ≡ g) × (u ≡ v) × (b ≡ c)
+    HasFrame v c → frame_of f u b ++ rest ≡ frame_of g v c → (rest ≡ []) × (f ≡ g) × (u ≡ v) × (b ≡ c)
 no_frame_begins_another_lem f u b rest g v c h k e = (nothing rest none, same.0, same.1, same.2)
   where
     same : (f ≡ g) × (u ≡ v) × (b ≡ c)
-    same = one_frame_lem (frame g v c) f u b g v c (record { has_frame = h; rest = rest; spelled = sym e })
-        (record { has_frame = k; rest = []; spelled = sym (append-nil (frame g v c)) })
+    same = one_frame_lem (frame_of g v c) f u b g v c (record { has_frame = h; rest = rest; spelled = sym e })
+        (record { has_frame = k; rest = []; spelled = sym (append-nil (frame_of g v c)) })
 
-    lengths : length (frame f u b) + length rest ≡ length (frame g v c)
-    lengths = sym (length-append (frame f u b) rest) ∙ ap length e
+    lengths : length (frame_of f u b) + length rest ≡ length (frame_of g v c)
+    lengths = sym (length-append (frame_of f u b) rest) ∙ ap length e
 
     none : length rest ≡ 0
     none =

@@ -53,8 +53,8 @@ frame_overhead Sealed = 72
 
 -- the frame of a UUID and a payload: the magic, the UUID and the payload's length in four bytes, then the seal, the
 -- payload, the UUID again, and the mark
-abbrev pub frame : Form → List ℕ → List ℕ → List ℕ
-frame form uuid payload =
+abbrev pub frame_of : Form → List ℕ → List ℕ → List ℕ
+frame_of form uuid payload =
     (magic form ++ (uuid ++ big_bytes 4 (length payload))) ++ (seal form payload ++ (payload ++ (uuid ++ mark form)))
 
 -- these have a frame: a UUID of sixteen bytes, and a payload whose length fits four bytes
@@ -66,7 +66,7 @@ pub record HasFrame (uuid payload : List ℕ) : Type 0 where
 pub record BeginsWithFrame (bytes : List ℕ) (form : Form) (uuid payload : List ℕ) : Type 0 where
   pub has_frame : HasFrame uuid payload
   pub rest : List ℕ
-  pub spelled : bytes ≡ frame form uuid payload ++ rest
+  pub spelled : bytes ≡ frame_of form uuid payload ++ rest
 
 -- no frame of either form is a prefix of the bytes
 abbrev pub BeginsWithNoFrame : List ℕ → Type 0

@@ -25,7 +25,8 @@ const LONGEST_FRAME: usize = 67_108_864;
 /// The form of a frame.
 #[derive(Debug, Clone, Copy, PartialEq, Eq)]
 pub enum Form {
-    /// The head, the payload, and the UUID once more. Nothing in it shows whether the payload was changed.
+    /// The head (magic, UUID and length), the payload, and the UUID once more. Nothing in it shows whether
+    /// the payload was changed.
     Plain,
     /// The head, the payload's SHA-256 (32), the payload, the UUID once more, and a closing mark (2).
     Sealed,

@@ -3,7 +3,7 @@
 ghost use Rattle.std.specs.Prelude.{◌≡◌, ◌+◌, ◌≤◌, ◌++◌, ◌↔◌, List, [], ℕ, length, take, slice_range, IfSome};
 ghost use Rattle.std.specs.Prelude.{IfNone, IsTrue};
 ghost use Rattle.scrub_frame.specs.declared.form.Form.{Form};
-ghost use Rattle.scrub_frame.specs.Frame.{magic, head, seal, seal_size, payload_start, frame_overhead, frame};
+ghost use Rattle.scrub_frame.specs.Frame.{magic, head, seal, seal_size, payload_start, frame_overhead, frame_of};
 ghost use Rattle.scrub_frame.specs.Frame.{HasFrame, BeginsWithFrame, BeginsWithNoFrame};
 
 use crate::digest::digest_of;
@@ -132,12 +132,12 @@ pub fn no_frame_begins_another()
     ensures { (form : Form) (uuid payload rest : List ℕ) (other_form : Form)
         (other_uuid other_payload : List ℕ) →
         HasFrame uuid payload → HasFrame other_uuid other_payload →
-        frame form uuid payload ++ rest ≡ frame other_form other_uuid other_payload →
+        frame_of form uuid payload ++ rest ≡ frame_of other_form other_uuid other_payload →
         (rest ≡ []) × (form ≡ other_form) × (uuid ≡ other_uuid) × (payload ≡ other_payload) }
 {}
 
 /// A law: besides its payload a frame has 38 bytes, or 72 if it is sealed.
 pub fn bytes_besides_the_payload()
     ensures { (form : Form) (uuid payload : List ℕ) → HasFrame uuid payload →
-        length (frame form uuid payload) ≡ frame_overhead form + length payload }
+        length (frame_of form uuid payload) ≡ frame_overhead form + length payload }
 {}

@@ -3,7 +3,7 @@
 ghost use Rattle.std.specs.Prelude.{◌≡◌, ◌+◌, ◌<◌, ◌≤◌, ◌++◌, ◌↔◌, length, vec_len, vec_capacity, OnOk};
 ghost use Rattle.std.specs.Prelude.{OnErr};
 ghost use Rattle.scrub_frame.specs.declared.form.Form.{Form};
-ghost use Rattle.scrub_frame.specs.Frame.{seal, seal_size, mark, close_size, frame, longest_payload};
+ghost use Rattle.scrub_frame.specs.Frame.{seal, seal_size, mark, close_size, frame_of, longest_payload};
 
 use crate::digest::digest_of;
 use crate::form::Form;
@@ -25,7 +25,7 @@ pub enum FrameFault {
 /// Appends the plain frame of a UUID and a payload. Faults, in this order: `TooLong`, `OutOfMemory`. After
 /// either, `out` is unchanged.
 pub fn write_frame(out: &mut Vec<u8>, uuid: Uuid, payload: &[u8]) -> Result<(), FrameFault>
-    ensures ok { OnOk result (out.new.items ≡ out.old.items ++ frame Form.Plain uuid payload.now) }
+    ensures ok { OnOk result (out.new.items ≡ out.old.items ++ frame_of Form.Plain uuid payload.now) }
     ensures fits { OnOk result (length payload.now ≤ longest_payload Form.Plain) }
     ensures too_long { (result ≡ Err FrameFault.TooLong) ↔ (longest_payload Form.Plain < length payload.now) }
     ensures err { OnErr result (out.new.items ≡ out.old.items) }
@@ -36,7 +36,7 @@ pub fn write_frame(out: &mut Vec<u8>, uuid: Uuid, payload: &[u8]) -> Result<(), 
 /// Appends the sealed frame of a UUID and a payload. Faults, in this order: `TooLong`, `OutOfMemory`. After
 /// either, `out` is unchanged.
 pub fn write_sealed(out: &mut Vec<u8>, uuid: Uuid, payload: &[u8]) -> Result<(), FrameFault>
-    ensures ok { OnOk result (out.new.items ≡ out.old.items ++ frame Form.Sealed uuid payload.now) }
+    ensures ok { OnOk result (out.new.items ≡ out.old.items ++ frame_of Form.Sealed uuid payload.now) }
     ensures fits { OnOk result (length payload.now ≤ longest_payload Form.Sealed) }
     ensures too_long { (result ≡ Err FrameFault.TooLong) ↔
         (longest_payload Form.Sealed < length payload.now) }
@@ -47,7 +47,7 @@ pub fn write_sealed(out: &mut Vec<u8>, uuid: Uuid, payload: &[u8]) -> Result<(),
 
 /// Appends the frame of this form, with a UUID and a payload.
 fn write_form(out: &mut Vec<u8>, form: Form, uuid: Uuid, payload: &[u8]) -> Result<(), FrameFault>
-    ensures ok { OnOk result (out.new.items ≡ out.old.items ++ frame form uuid payload.now) }
+    ensures ok { OnOk result (out.new.items ≡ out.old.items ++ frame_of form uuid payload.now) }
     ensures fits { OnOk result (length payload.now ≤ longest_payload form) }
     ensures too_long { (result ≡ Err FrameFault.TooLong) ↔ (longest_payload form < length payload.now) }
     ensures err { OnErr result (out.new.items ≡ out.old.items) }

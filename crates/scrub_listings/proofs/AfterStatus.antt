@@ -40,6 +40,7 @@ text_alike f g has retired lost hidden bs cs same =
     if has then retired_line retired ++ runs_line lost hidden ++ flat_map (λ b. each b.id i) bs ++ total_line (length bs) (length cs)
     else codes "no-superblock" ++ 10 ∷ []
 
+-- By the spares that it found, the code appends after each shard's status what the definition says.
 pub found_alike : (all : List Scanned) (checked : List Checked) (found : List Standing) → AreSpares all checked found →
     AreAfterAlike (after_status_by all found) (after_status_in all) (of_shards checked)
 found_alike all checked found are =

@@ -1,5 +1,5 @@
 -- Each image has a manifest, a summary, and listings of its locators and superblocks.
-use Rattle.std.proofs.Common.{◌≡◌, ℕ, Bool, List, Option, [], refl}
+use Rattle.std.proofs.Common.{ℕ, Bool, List, Option, [], refl}
 use Rattle.scrub_disk.specs.Image.{Image}
 use Rattle.scrub_super.proofs.PagesThere.{some_pages}
 use Rattle.scrub_found.specs.Scrubbed.{is_clean_disk}
@@ -9,6 +9,7 @@ use Rattle.scrub_listings.specs.Manifest.{IsManifestBut, is_whole, manifest_text
 use Rattle.scrub_listings.specs.Summary.{IsSummary, is_sound_verdict, summary_text, verdict}
 use Rattle.scrub_listings.specs.Superblocks.{IsSuperblockListing, are_clean_pages, superblock_lines}
 
+-- Each image has a listing of its named locators, with a verdict.
 pub some_locator_listing : (image : Image) → (text : List ℕ) × (clean : Bool) × IsLocatorListing image text clean
 some_locator_listing image =
     let s = some_scrub [] image in (
@@ -17,11 +18,13 @@ some_locator_listing image =
       record { found = s.0; scrubbed = s.1; text_is = refl; verdict = refl },
     )
 
+-- Each image has a manifest with a verdict, as if any extents had been reset.
 pub some_manifest : (resets : List ℕ) (image : Image) → (text : List ℕ) × (whole : Bool) × IsManifestBut resets image text whole
 some_manifest resets image =
     let s = some_scrub resets image in
     (manifest_text s.0, is_whole s.0, record { found = s.0; scrubbed = s.1; text_is = refl; verdict = refl })
 
+-- Each image has a summary with a verdict, for each last generation and for none.
 pub some_summary : (last : Option ℕ) (image : Image) → (text : List ℕ) × (sound : Bool) × IsSummary last image text sound
 some_summary last image =
     let s = some_scrub [] image in
@@ -31,6 +34,7 @@ some_summary last image =
       record { found = s.0; scrubbed = s.1; pages = pages.0; held = pages.1; text_is = refl; verdict_is = refl },
     )
 
+-- Each image has a listing of its superblocks, with a verdict.
 pub some_superblock_listing : (image : Image) → (text : List ℕ) × (clean : Bool) × IsSuperblockListing image text clean
 some_superblock_listing image =
     let pages = some_pages image in

@@ -1,8 +1,7 @@
 -- What is appended for each element of a list.
-use Rattle.std.proofs.Common.{◌≡◌, ◌==◌, ◌+◌, ◌<◌, ◌≤◌, ℕ, true, List, [], ◌∷◌, ◌++◌, OnOk, Result, Ok, Err, length, get_or, take, append-nil, append_assoc, arith, sym, ap, ◌∙◌}
+use Rattle.std.proofs.Common.{◌≡◌, ◌+◌, ◌<◌, ◌≤◌, ℕ, List, ◌++◌, OnOk, Result, Ok, Err, length, get_or, take, append_assoc, sym, ap, ◌∙◌}
 use Rattle.std.specs.List.{flat_map}
 use Rattle.std.proofs.lemmas.List.{flat_map_more, take_all, take_more}
-use Rattle.std.proofs.lemmas.Bool.{eqb-true}
 
 module _ {X A : Type 0} (f : X → List A) (old mid new : List A) (xs : List X) (i : ℕ) where
   -- the part of one more element
@@ -20,14 +19,6 @@ module _ {X A : Type 0} (f : X → List A) (old mid new : List A) (xs : List X) 
 pub flat_all : {X A : Type 0} (f : X → List A) (old mid : List A) (xs : List X) (i : ℕ) → length xs ≤ i →
     mid ≡ old ++ flat_map f (take i xs) → mid ≡ old ++ flat_map f xs
 flat_all {X} f old mid xs i end so_far = so_far ∙ ap (λ (ys : List X). old ++ flat_map f ys) (take_all i xs end)
-
--- none of them
-pub flat_none : {X A : Type 0} (f : X → List A) (old : List A) (xs : List X) → (length xs == 0) ≡ true →
-    old ≡ old ++ flat_map f xs
-flat_none f old [] e = sym (append-nil old)
-flat_none f old (x ∷ xs) e =
-    let none : length (x ∷ xs) ≡ 0 = eqb-true (length (x ∷ xs)) 0 e in
-    absurd (omega (arith, none))
 
 -- two steps of appending are one
 pub appended_ok : {A E : Type 0} (r : Result (Unit {0}) E) (old mid new xs ys : List A) → mid ≡ old ++ xs →

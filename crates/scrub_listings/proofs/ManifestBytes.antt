@@ -15,11 +15,12 @@ use Rattle.hex.specs.Hex.{IsBytes, decode_of, encode_lower}
 use Rattle.hex.proofs.HexLemmas.{decode_of-encode_lower}
 use Rattle.byteorder.specs.Endian.{big_bytes}
 use Rattle.sha2.specs.Sha256.{sha256}
+use Rattle.list_facts.proofs.Elements.{nil_has_no_first, same_behind_first, same_first}
 use Rattle.scrub_disk.specs.Image.{Image}
 use Rattle.scrub_frame.specs.declared.form.Form.{Form}
 use Rattle.scrub_frame.specs.declared.form.Form.TheVariants.{Plain, Sealed}
 use Rattle.scrub_frame.specs.declared.locator.Locator.{Locator}
-use Rattle.scrub_frame.specs.Frame.{frame, head, mark, seal}
+use Rattle.scrub_frame.specs.Frame.{frame_of, head, mark, seal}
 use Rattle.scrub_frame.specs.Locator.{locator_bytes}
 use Rattle.scrub_scan.specs.Extent.{extent_of, FrameAt}
 use Rattle.scrub_scan.specs.Scanned.{Scanned}
@@ -40,10 +41,10 @@ use Rattle.scrub_found.specs.Resets.{IsScrubbedBut}
 use Rattle.scrub_found.specs.Scrubbed.{Scrubbed}
 use Rattle.scrub_found.specs.Texts.{owner_text, uuid_text}
 use Rattle.scrub_found.proofs.OneIndex.{read_of}
-use Rattle.scrub_found.proofs.OneReader.{heads, no_tail, tails}
 use Rattle.scrub_listings.specs.Manifest.{HeldValue, HoldsBytes, TraitsValue, all_held, all_traits, form_text, held_locator, looked_for, of_shards, traits}
-use Rattle.scrub_listings.proofs.ManifestTexts.{HasSmallNumbers, IsSmall, cut, decimal_word, not_space, small, uuid_word}
-use Rattle.scrub_listings.proofs.ShardLines.{along_runs, shards_part, unmapped}
+use Rattle.scrub_listings.proofs.ManifestTexts.{HasSmallNumbers, IsSmall, small}
+use Rattle.scrub_listings.proofs.WordLines.{split_at_first_injective, decimal_word, not_space, uuid_word}
+use Rattle.scrub_listings.proofs.ShardLines.{along_runs, shards_part, All-map-back}
 
 abbrev AreBytes : List ℕ → Type 0
 AreBytes xs = All (λ b. b < 256) xs
@@ -72,7 +73,7 @@ payload_bytes image w l f u b bytes in_disk h =
     front_bytes b (u ++ mark f)
     (back_bytes (seal f b) (b ++ (u ++ mark f))
     (back_bytes (head f u (length b)) (seal f b ++ (b ++ (u ++ mark f)))
-    (All-from_get_or (λ c. c < 256) (frame f u b) 0 (λ k within. bytes l.extent (l.offset + k) (slice_index (frame f u b) k) in_disk (h.stands k within)))))
+    (All-from_get_or (λ c. c < 256) (frame_of f u b) 0 (λ k within. bytes l.extent (l.offset + k) (slice_index (frame_of f u b) k) in_disk (h.stands k within)))))
 
 -- an entry of bytes: its identifier, and the digest of each of its locators
 record HasBytes (e : EntryValue) : Type 0 where
@@ -138,7 +139,7 @@ checked_of_bytes : (resets : List ℕ) (image : Image) (s : Scrubbed) → IsScru
     All (λ c. IsByteName (named_of c)) (of_shards s.checked)
 checked_of_bytes resets image s x bytes =
     subst (λ (cs : List Checked). All (λ c. IsByteName (named_of c)) cs) (sym (shards_part s.plan.runs s.bindings s.checked x.checked.same))
-    (unmapped IsByteName named_of (drop (length s.plan.runs) s.checked)
+    (All-map-back IsByteName named_of (drop (length s.plan.runs) s.checked)
     (subst (λ (ns : List Named). All IsByteName ns) (sym (along_runs s.plan.runs s.bindings s.checked x.checked.same))
     (names_of_bytes s.bindings (λ k d below. binding_has resets image s x bytes (get_or s.bindings k d) (x.bindings.newest k d below)))))
 
@@ -181,10 +182,10 @@ same_spare false none none' u v hu hv e = refl
 same_spare true true true u v hu hv e = refl
 same_spare true false false u v hu hv e = refl
 same_spare true true false u v hu hv e =
-    let first : 110 ≡ 115 = ap (λ (w : List ℕ). get_or w 0 0) (cut 32 u v (codes "none") (codes "spare") hu hv e).1 in
+    let first : 110 ≡ 115 = ap (λ (w : List ℕ). get_or w 0 0) (split_at_first_injective 32 u v (codes "none") (codes "spare") hu hv e).1 in
     absurd (omega (arith, first))
 same_spare true false true u v hu hv e =
-    let first : 115 ≡ 110 = ap (λ (w : List ℕ). get_or w 0 0) (cut 32 u v (codes "spare") (codes "none") hu hv e).1 in
+    let first : 115 ≡ 110 = ap (λ (w : List ℕ). get_or w 0 0) (split_at_first_injective 32 u v (codes "spare") (codes "none") hu hv e).1 in
     absurd (omega (arith, first))
 
 -- the places and the texts after their offsets
@@ -197,11 +198,11 @@ same_place : (l m : Locator) (x y : List ℕ) → HasSmallNumbers l → HasSmall
     (l.extent ≡ m.extent) × (l.offset ≡ m.offset) × (uuid_text l.uuid ++ x ≡ uuid_text m.uuid ++ y)
 same_place l m x y hl hm e =
     let word : (n : ℕ) → n < 2 ^ 64 → All (λ b. b ≢ 32) (decimal n) = λ n small. not_space (decimal n) (decimal_word n small) in
-    let start = tails 32 32 _ _
+    let start = same_behind_first 32 32 _ _
     (sym (places_grouped (decimal l.extent) (decimal l.offset) (uuid_text l.uuid) x) ∙ e
     ∙ places_grouped (decimal m.extent) (decimal m.offset) (uuid_text m.uuid) y) in
-    let first = cut 32 (decimal l.extent) (decimal m.extent) _ _ (word l.extent hl.extent) (word m.extent hm.extent) start in
-    let second = cut 32 (decimal l.offset) (decimal m.offset) _ _ (word l.offset hl.offset) (word m.offset hm.offset) first.1 in (
+    let first = split_at_first_injective 32 (decimal l.extent) (decimal m.extent) _ _ (word l.extent hl.extent) (word m.extent hm.extent) start in
+    let second = split_at_first_injective 32 (decimal l.offset) (decimal m.offset) _ _ (word l.offset hl.offset) (word m.offset hm.offset) first.1 in (
       decimal_injective l.extent m.extent hl.extent hm.extent first.0,
       decimal_injective l.offset m.offset hl.offset hm.offset second.0,
       second.1,
@@ -281,13 +282,14 @@ module _ (all others : List Scanned) (c d : Checked) (hc : IsKnown c) (hd : IsKn
 same_all : (all others : List Scanned) (cs ds : List Checked) → All IsKnown cs → All IsKnown ds →
     map (held_locator all) cs ≡ map (held_locator others) ds → map (traits all) cs ≡ map (traits others) ds
 same_all all others [] [] hc hd e = refl
-same_all all others [] (d ∷ ds) hc hd e = absurd (no_tail (held_locator others d) (map (held_locator others) ds) e)
-same_all all others (c ∷ cs) [] hc hd e = absurd (no_tail (held_locator all c) (map (held_locator all) cs) (sym e))
+same_all all others [] (d ∷ ds) hc hd e = absurd (nil_has_no_first (held_locator others d) (map (held_locator others) ds) e)
+same_all all others (c ∷ cs) [] hc hd e = absurd (nil_has_no_first (held_locator all c) (map (held_locator all) cs) (sym e))
 same_all all others (c ∷ cs) (d ∷ ds) hc hd e =
     ap₂ (λ (h : TraitsValue) (t : List TraitsValue). h ∷ t)
-    (same_one all others c d (All-head IsKnown c cs hc) (All-head IsKnown d ds hd) (heads (held_locator all c) (held_locator others d) (map (held_locator all) cs) (map (held_locator others) ds) e))
-    (same_all all others cs ds (All-tail IsKnown c cs hc) (All-tail IsKnown d ds hd) (tails (held_locator all c) (held_locator others d) (map (held_locator all) cs) (map (held_locator others) ds) e))
+    (same_one all others c d (All-head IsKnown c cs hc) (All-head IsKnown d ds hd) (same_first (held_locator all c) (held_locator others d) (map (held_locator all) cs) (map (held_locator others) ds) e))
+    (same_all all others cs ds (All-tail IsKnown c cs hc) (All-tail IsKnown d ds hd) (same_behind_first (held_locator all c) (held_locator others d) (map (held_locator all) cs) (map (held_locator others) ds) e))
 
+-- If manifests of images of bytes say the same of the shards' locators, these have the same traits.
 pub same_shards : (resets others : List ℕ) (image other : Image) (s t : Scrubbed) → IsScrubbedBut resets image s → IsScrubbedBut others other t → HoldsBytes image →
     HoldsBytes other → all_held s ≡ all_held t → all_traits s ≡ all_traits t
 same_shards resets others image other s t x y bx by e =

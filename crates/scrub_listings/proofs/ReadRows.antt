@@ -3,12 +3,12 @@ use Rattle.std.proofs.Common.{◌≡◌, ◌∷◌, [], ℕ, zero, suc, Bool, fa
 use Rattle.std.specs.List.{count_by, slice_get}
 use Rattle.std.specs.Option.{option_map, option_map_or}
 use Rattle.std.proofs.Math.Path.{fun_ext}
+use Rattle.list_facts.proofs.Counts.{count_map}
 use Rattle.scrub_run.specs.Entry.{EntryValue}
 use Rattle.scrub_merge.specs.Binding.{Runs}
 use Rattle.scrub_frame.specs.declared.locator.Locator.{Locator}
 use Rattle.scrub_check.specs.declared.named.Owner.{Owner}
 use Rattle.scrub_check.specs.declared.named.Owner.TheVariants.{Run, Shard}
-use Rattle.scrub_check.proofs.Counts.{count_map}
 use Rattle.scrub_check.specs.Runs.{ReadRunsValue}
 use Rattle.scrub_found.specs.declared.runs.RunRow.{RunRow}
 use Rattle.scrub_found.specs.Judged.{AreRowsOf}

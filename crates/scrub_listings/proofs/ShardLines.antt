@@ -1,19 +1,17 @@
 -- The lines of a manifest, one shard after another, are those of each shard's locators among all named ones.
-use Rattle.std.proofs.Common.{◌≡◌, ◌<◌, ◌≤◌, ◌+◌, ◌&&◌, ◌++◌, ◌∷◌, [], ℕ, zero, suc, Bool, true, false, cond, List, length, map, take, drop, get_or, AllPairs, arith, refl, sym, ◌∙◌, ap, subst, append-nil, append_assoc}
-use Rattle.std.specs.Ordering.{is_eq, ordering_reverse}
+use Rattle.std.proofs.Common.{◌≡◌, ◌<◌, ◌≤◌, ◌+◌, ◌&&◌, ◌++◌, ◌∷◌, [], ℕ, zero, suc, Bool, true, false, List, length, map, take, drop, get_or, AllPairs, arith, refl, sym, ◌∙◌, ap, subst, append-nil, append_assoc}
 use Rattle.std.specs.List.{All, count_by, enumerate_from, filter, flat_map, take-map}
 use Rattle.std.proofs.Math.ListN.{drop_of_length-le}
 use Rattle.std.proofs.Math.Seq.{drop-append_seam, drop-cons, take-append_seam}
 use Rattle.std.proofs.lemmas.List.{drop-map, length-append, length-map, length-take-le, take-append-drop}
-use Rattle.std.proofs.lemmas.List.Elements.{All-append, All-cons, All-head, All-map, All-tail, filter-append}
+use Rattle.std.proofs.lemmas.List.Elements.{All-append, All-cons, All-head, All-tail, filter-append}
 use Rattle.std.proofs.lemmas.List.FromFn.{get_or-enumerate_from, length-enumerate_from}
 use Rattle.std.proofs.lemmas.List.Sums.{count_by-le-length, length-filter}
-use Rattle.std.proofs.lemmas.Map.Text.{is_eq-slice_cmp}
+use Rattle.list_facts.proofs.Filters.{filter_all, filter_none}
 use Rattle.scrub_frame.specs.declared.locator.Locator.{Locator}
 use Rattle.scrub_run.specs.declared.shard_id.ShardId.{ShardId}
 use Rattle.scrub_run.specs.Entry.{IsBelow}
 use Rattle.scrub_merge.specs.Binding.{BindingValue}
-use Rattle.scrub_merge.proofs.Identifiers.{id_cmp_total, itself}
 use Rattle.scrub_check.specs.declared.named.Named.{Named}
 use Rattle.scrub_check.specs.declared.named.Owner.{Owner}
 use Rattle.scrub_check.specs.declared.named.Owner.TheVariants.{Run, Shard}
@@ -21,68 +19,32 @@ use Rattle.scrub_check.specs.declared.statuses.checked.Checked.{Checked}
 use Rattle.scrub_check.specs.declared.statuses.status.Status.{Status}
 use Rattle.scrub_check.specs.Checked.{is_owned_by, named_of}
 use Rattle.scrub_check.specs.Named.{named_locators, named_by_runs, named_by_shard}
+use Rattle.scrub_check.proofs.Owners.{All-named_by_shard, All-named_by_shards, not_owned_by_above, not_owned_by_below, owned_by_itself}
 use Rattle.scrub_listings.specs.Manifest.{is_of_shard, numbered_line, numbered_lines, shard_lines}
 use Rattle.scrub_listings.proofs.FlatLists.{flat_all, flat_more}
-
--- ---- filters that keep all or none
-
-filter_all : {X : Type 0} (p : X → Bool) (xs : List X) → All (λ x. p x ≡ true) xs → filter p xs ≡ xs
-filter_all p [] all = refl
-filter_all {X} p (x ∷ xs) all =
-    ap (λ b. cond b (x ∷ filter p xs) (filter p xs)) (All-head (λ y. p y ≡ true) x xs all)
-    ∙ ap (λ (ys : List X). x ∷ ys) (filter_all p xs (All-tail (λ y. p y ≡ true) x xs all))
-
-filter_none : {X : Type 0} (p : X → Bool) (xs : List X) → All (λ x. p x ≡ false) xs → filter p xs ≡ []
-filter_none p [] none = refl
-filter_none {X} p (x ∷ xs) none =
-    ap (λ b. cond b (x ∷ filter p xs) (filter p xs)) (All-head (λ y. p y ≡ false) x xs none)
-    ∙ filter_none p xs (All-tail (λ y. p y ≡ false) x xs none)
 
 -- ---- which shard owns which locators
 
 abbrev IsOwned : ShardId → Bool → Checked → Type 0
 IsOwned id b c = is_owned_by id c.owner ≡ b
 
-owned_at : (id : ShardId) → is_owned_by id (Shard id) ≡ true
-owned_at id = sym (is_eq-slice_cmp id.0 id.0) ∙ itself id
-
--- an identifier below another isn't the other, nor the other way round
-not_above : (a b : ShardId) → IsBelow a b → is_owned_by b (Shard a) ≡ false
-not_above a b below = sym (is_eq-slice_cmp a.0 b.0) ∙ ap is_eq below
-
-not_below : (a b : ShardId) → IsBelow a b → is_owned_by a (Shard b) ≡ false
-not_below a b below =
-    sym (is_eq-slice_cmp b.0 a.0) ∙ ap is_eq (id_cmp_total.antisymm b a ∙ ap ordering_reverse below)
-
 -- what holds of what is made of each element holds of the elements
-pub unmapped : {X Y : Type 0} (P : Y → Type 0) (f : X → Y) (xs : List X) → All P (map f xs) → All (λ (x : X). P (f x)) xs
-unmapped P f [] all = λ i d below. absurd (omega (arith, below))
-unmapped {X} P f (x ∷ xs) all =
+pub All-map-back : {X Y : Type 0} (P : Y → Type 0) (f : X → Y) (xs : List X) → All P (map f xs) → All (λ (x : X). P (f x)) xs
+All-map-back P f [] all = λ i d below. absurd (omega (arith, below))
+All-map-back {X} P f (x ∷ xs) all =
     All-cons (λ (y : X). P (f y)) x xs (All-head P (f x) (map f xs) all)
-    (unmapped P f xs (All-tail P (f x) (map f xs) all))
+    (All-map-back P f xs (All-tail P (f x) (map f xs) all))
 
--- what holds of the owner of some names holds of the owners of the locators with these names
+-- K holds of the owner of each of these locators
 abbrev pub Owners : (Owner → Type 0) → List Checked → Type 0
 Owners K cs = All (λ (c : Checked). K c.owner) cs
 
+-- What holds of the owners of some names holds of the owners of the locators with these names.
 pub of_names : (K : Owner → Type 0) (cs : List Checked) (ns : List Named) → map named_of cs ≡ ns →
     All (λ (n : Named). K n.owner) ns → Owners K cs
 of_names K cs ns same all =
-    unmapped (λ (n : Named). K n.owner) named_of cs
+    All-map-back (λ (n : Named). K n.owner) named_of cs
     (subst (λ (names : List Named). All (λ (n : Named). K n.owner) names) (sym same) all)
-
-pub of_shard : (K : Owner → Type 0) (b : BindingValue) → K (Shard b.id) → All (λ (n : Named). K n.owner) (named_by_shard b)
-of_shard K b k =
-    All-map (λ (n : Named). K n.owner) (λ (l : Locator). record { owner = Shard b.id; locator = l }) b.locators
-    (λ i d below. k)
-
-of_shards : (K : Owner → Type 0) (bs : List BindingValue) → All (λ (b : BindingValue). K (Shard b.id)) bs →
-    All (λ (n : Named). K n.owner) (flat_map named_by_shard bs)
-of_shards K [] all = λ i d below. absurd (omega (arith, below))
-of_shards K (b ∷ bs) all =
-    All-append (λ (n : Named). K n.owner) (named_by_shard b) (flat_map named_by_shard bs)
-    (of_shard K b (All-head (λ (v : BindingValue). K (Shard v.id)) b bs all))
-    (of_shards K bs (All-tail (λ (v : BindingValue). K (Shard v.id)) b bs all))
 
 of_runs : (K : Owner → Type 0) → ((k : ℕ) → K (Run k)) → (k : ℕ) (ls : List Locator) →
     All (λ (n : Named). K n.owner) (named_by_runs k ls)
@@ -122,10 +84,12 @@ named_behind xs ys cs n size same =
     sym (drop-map named_of n cs) ∙ ap (λ m. drop m (map named_of cs)) (sym size) ∙ ap (drop (length xs)) same
     ∙ drop-append_seam xs ys
 
+-- Of locators along `b ∷ bs`, the first `length b.locators` are those that `b` names.
 pub own_first : (b : BindingValue) (bs : List BindingValue) (cs : List Checked) → AreAlong (b ∷ bs) cs →
     map named_of (take (length b.locators) cs) ≡ named_by_shard b
 own_first b bs cs same = named_front (named_by_shard b) (flat_map named_by_shard bs) cs (length b.locators) (length_named b) same
 
+-- Of locators along `b ∷ bs`, those after the locators of `b` are along `bs`.
 pub along_behind : (b : BindingValue) (bs : List BindingValue) (cs : List Checked) → AreAlong (b ∷ bs) cs →
     AreAlong bs (drop (length b.locators) cs)
 along_behind b bs cs same =
@@ -170,13 +134,13 @@ own_of front b bs cs rising same none =
     mine : All (IsOwned b.id true) (take n cs)
     mine =
         of_names (λ o. is_owned_by b.id o ≡ true) (take n cs) (named_by_shard b) (own_first b bs cs same)
-        (of_shard (λ o. is_owned_by b.id o ≡ true) b (owned_at b.id))
+        (All-named_by_shard (λ o. is_owned_by b.id o ≡ true) b (owned_by_itself b.id))
 
     others : All (IsOwned b.id false) (drop n cs)
     others =
         of_names (λ o. is_owned_by b.id o ≡ false) (drop n cs) (flat_map named_by_shard bs) (along_behind b bs cs same)
-        (of_shards (λ o. is_owned_by b.id o ≡ false) bs
-        (λ k d below. not_below b.id (get_or bs k d).id (rising zero (suc k) d (omega arith) (omega (arith, below)))))
+        (All-named_by_shards (λ o. is_owned_by b.id o ≡ false) bs
+        (λ k d below. not_owned_by_below b.id (get_or bs k d).id (rising zero (suc k) d (omega arith) (omega (arith, below)))))
 
 -- the front and the first shard's locators are apart from the shards after
 apart_behind : (front : List Checked) (b : BindingValue) (bs : List BindingValue) (cs : List Checked) → Rising (b ∷ bs) →
@@ -186,8 +150,8 @@ apart_behind front b bs cs rising same apart k d below =
     All-append (IsOwned v.id false) front (take (length b.locators) cs)
     (apart (suc k) d (omega (arith, below)))
     (of_names (λ o. is_owned_by v.id o ≡ false) (take (length b.locators) cs) (named_by_shard b) (own_first b bs cs same)
-    (of_shard (λ o. is_owned_by v.id o ≡ false) b
-    (not_above b.id v.id (rising zero (suc k) d (omega arith) (omega (arith, below))))))
+    (All-named_by_shard (λ o. is_owned_by v.id o ≡ false) b
+    (not_owned_by_above b.id v.id (rising zero (suc k) d (omega arith) (omega (arith, below))))))
 
 lines_of_all : (after : Checked → List ℕ) (front : List Checked) (bs : List BindingValue) (cs : List Checked) → Rising bs → AreAlong bs cs →
     AreApart front bs → lines_along after bs cs ≡ flat_map (λ b. shard_lines after (front ++ cs) b.id) bs
@@ -205,6 +169,7 @@ lines_of_all after front (b ∷ bs) cs rising same apart =
     ∙ ap (λ (u : List ℕ). shard_lines after (front ++ cs) b.id ++ u)
     (rest ∙ ap (λ (us : List Checked). flat_map (λ v. shard_lines after us v.id) bs) whole)
 
+-- The lines of shards one after another are, for each, those of its locators among all.
 pub lines_are : (after : Checked → List ℕ) (bs : List BindingValue) (cs : List Checked) → Rising bs → AreAlong bs cs →
     lines_along after bs cs ≡ flat_map (λ b. shard_lines after cs b.id) bs
 lines_are after bs cs rising same = lines_of_all after [] bs cs rising same (λ k d below i e none. absurd (omega (arith, none)))
@@ -220,6 +185,7 @@ module _ (runs : List Locator) (bs : List BindingValue) (checked : List Checked)
   pub along_runs : AreAlong bs (drop (length runs) checked)
   along_runs = named_behind (named_by_runs 0 runs) (flat_map named_by_shard bs) checked (length runs) (length_runs 0 runs) same
 
+  -- There are at least as many checked locators as index runs.
   pub runs_fit : length runs ≤ length checked
   runs_fit =
       let whole : length (map named_of checked) ≡ length (named_locators runs bs) = ap (λ (ns : List Named). length ns) same in
@@ -234,8 +200,9 @@ module _ (runs : List Locator) (bs : List BindingValue) (checked : List Checked)
 -- the locators of shards, among all
 of_shard_owner : (K : Owner → Type 0) (bs : List BindingValue) → ((id : ShardId) → K (Shard id)) →
     All (λ (n : Named). K n.owner) (flat_map named_by_shard bs)
-of_shard_owner K bs shard = of_shards K bs (λ k d below. shard (get_or bs k d).id)
+of_shard_owner K bs shard = All-named_by_shards K bs (λ k d below. shard (get_or bs k d).id)
 
+-- The locators that shards name are all those after the locators of the runs.
 pub shards_part : (runs : List Locator) (bs : List BindingValue) (checked : List Checked) → map named_of checked ≡ named_locators runs bs →
     filter (λ c. is_of_shard c.owner) checked ≡ drop (length runs) checked
 shards_part runs bs checked same =
@@ -282,9 +249,11 @@ module _ (bindings : List BindingValue) (i : ℕ) (b : BindingValue) (below : i 
       ∙ ap (λ (v : BindingValue). v ∷ drop (suc i) bindings) (sym is)
       ∙ ap (λ n. b ∷ drop n bindings) (let e : suc i ≡ i + 1 = omega arith in e)
 
+  -- Locators along the shards from number `i` on are along `b` and the shards after it.
   pub along_at : (rest : List Checked) → AreAlong (drop i bindings) rest → AreAlong (b ∷ drop (i + 1) bindings) rest
   along_at rest same = subst (λ (bs : List BindingValue). AreAlong bs rest) drop_at same
 
+  -- Of these locators, those after the locators of `b` are along the shards from number `i + 1` on.
   pub along_more : (rest behind : List Checked) → AreAlong (drop i bindings) rest →
       behind ≡ drop (length b.locators) rest → AreAlong (drop (i + 1) bindings) behind
   along_more rest behind same back =

@@ -5,6 +5,7 @@ use Rattle.std.specs.List.{All, AllPairs, Contains}
 use Rattle.std.proofs.lemmas.Bool.{cases_lt, false≢true}
 use Rattle.std.proofs.lemmas.List.{take_all, take_more, get_or_default}
 use Rattle.std.proofs.lemmas.List.Elements.{All-contains_itself, Contains-push, Contains-push_cases, Contains-append_left}
+use Rattle.list_facts.proofs.Rising.{one_rising_by, rises_more}
 use Rattle.scrub_disk.specs.declared.geometry.Geometry.{Geometry}
 use Rattle.scrub_super.specs.declared.unknown_sizes.FoundRecord.{FoundRecord}
 use Rattle.scrub_super.specs.declared.unknown_sizes.LostBytes.{LostBytes}
@@ -13,7 +14,6 @@ use Rattle.scrub_super.specs.UnknownSizes.{IsFoundRecord, AreLostBytes, AreFound
 use Rattle.scrub_super.proofs.UnknownSizesSteps.{some_record}
 use Rattle.scrub_super.proofs.BlocksFront.{left_at, left_there, mark_within}
 use Rattle.scrub_super.proofs.FoundByOwnSizes.{same_record}
-use Rattle.scrub_super.proofs.RisingLists.{rises_more, one_rising_by}
 use Rattle.scrub_listings.specs.declared.sizes_listing.lines.SizesLine.{SizesLine}
 use Rattle.scrub_listings.specs.declared.sizes_listing.lines.SizesLine.TheVariants.{Record, Lost}
 use Rattle.scrub_listings.specs.Sizes.{line_start, size_lines, AreSizesBy, AreSizesInOrder, AreSizesLines, AreSizesOf, IsCleanFront, IsSizesListingOf}
@@ -35,6 +35,7 @@ pub record AreMerged (records : List FoundRecord) (ranges : List LostBytes) (r l
 none_in : {X : Type 0} (x : X) → Contains [] x → ⊥
 none_in x c = omega (arith, c.1)
 
+-- The empty list has the first 0 records and the first 0 ranges.
 pub none_merged : (records : List FoundRecord) (ranges : List LostBytes) → AreMerged records ranges 0 0 []
 none_merged records ranges = record {
   rising = λ i j d hi hj. absurd (omega (arith, hj));
@@ -206,6 +207,7 @@ counts_more records ranges r n count (Record x) le next e hr hl =
 counts_more records ranges r n count (Lost x) le next e hr hl =
     (omega (arith, e, le), omega (arith, e, hr), omega (arith, e, next.0))
 
+-- Once all records and ranges are merged, the lines are those of both lists, by ascending start.
 pub all_merged : (records : List FoundRecord) (ranges : List LostBytes) (r l : ℕ) (lines : List SizesLine) →
     length records ≤ r → length ranges ≤ l → AreMerged records ranges r l lines → AreInOrder records ranges lines
 all_merged records ranges r l lines hr hl h = record {
@@ -223,6 +225,7 @@ apart_in bytes lost r l f run same =
     (left_there bytes lost (r.offset + 0) _ (f.1.stands 0 (omega (arith, some_record r.geometry f.0)))).0
     (let block : (r.offset + 0) / 512 ≡ run.0 = omega (arith, same, run.3) in ap (λ k. get_or lost k false) block ∙ run.2.all run.0 (omega arith) run.2.some)
 
+-- Records and lost ranges that were found ascend, and no record begins where a range does.
 pub can_merge : (bytes : List ℕ) (lost : List Bool) (records : List FoundRecord) (ranges : List LostBytes) →
     AreFoundByOwnSizes bytes lost records ranges → CanMerge records ranges
 can_merge bytes lost records ranges h = record {
@@ -231,6 +234,7 @@ can_merge bytes lost records ranges h = record {
   apart = λ r l c d e. apart_in bytes lost r l ((h.records_are.exact r).0 c) ((h.ranges_are.exact l).0 d) e;
 }
 
+-- The merged lines of all that was found in raw bytes are all lines of these bytes, by ascending start.
 pub in_order : (bytes : List ℕ) (lost : List Bool) (records : List FoundRecord) (ranges : List LostBytes) (lines : List SizesLine) →
     AreFoundByOwnSizes bytes lost records ranges →
     AreInOrder records ranges lines → AreSizesInOrder bytes lost lines
@@ -334,6 +338,7 @@ empty_list : {X : Type 0} (xs : List X) → ((x : X) → Contains xs x → ⊥) 
 empty_list [] none = refl
 empty_list (x ∷ xs) none = absurd (none x (0, omega arith, refl))
 
+-- Raw bytes have a clean front exactly if the lists of what was found in them are clean.
 pub clean_front : (bytes : List ℕ) (lost : List Bool) (records : List FoundRecord) (ranges : List LostBytes) →
     AreFoundByOwnSizes bytes lost records ranges →
     AreCleanLists records ranges ↔ IsCleanFront bytes lost
@@ -355,6 +360,7 @@ clean_front bytes lost records ranges h = (
   }),
 )
 
+-- The lines of all that was found, with whether it is clean, are a listing of sizes.
 pub listing_known : (raw : Option (List ℕ)) (lacking : List ℕ) {fails : ℕ → ℕ → Bool} (failures : ℕ) (records : List FoundRecord) (ranges : List LostBytes) (lines : List SizesLine) (text : List ℕ) (clean : Bool) →
     AreFoundInSome raw lacking fails failures records ranges →
     (CanMerge records ranges → AreInOrder records ranges lines) → text ≡ size_lines lines →
@@ -430,6 +436,7 @@ first_sizes records ranges g c first k d hk =
 
 -- ---- the laws
 
+-- Raw bytes with given lost blocks have at most one text of lines.
 pub one_text : (bytes : List ℕ) (lost : List Bool) (a b : List ℕ) → AreSizesLines bytes lost a →
     AreSizesLines bytes lost b → a ≡ b
 one_text bytes lost a b x y =
@@ -452,6 +459,7 @@ moved_record bytes others lost gone r same none nothing f =
     (λ i small. left_at bytes lost i (none (i / 512)) ∙ ap (λ (xs : List ℕ). slice_get xs i) same ∙ sym (left_at others gone i (nothing (i / 512))))
     f
 
+-- If raw bytes give sizes twice, these are the same, whatever may be lacking or fail each time.
 pub one_size_lem : (bytes lacking others : List ℕ) (fails faults : ℕ → ℕ → Bool) (failures more : ℕ) (g h : Geometry) →
     AreSizesOf (Some bytes) lacking fails failures (Some g) → AreSizesOf (Some bytes) others faults more (Some h) → g ≡ h
 one_size_lem bytes lacking others fails faults failures more g h x y =

@@ -1,11 +1,11 @@
 -- There are lines of the records and the lost bytes of raw bytes, and it is decided whether they are clean.
-use Rattle.std.proofs.Common.{◌≡◌, ◌⊎◌, ◌<◌, ◌≤◌, ◌+◌, ◌-◌, ◌++◌, ℕ, zero, suc, Bool, true, false, List, [], ◌∷◌, length, get_or, All, Contains, arith, refl, sym, ◌∙◌, ap, subst, inl, inr, MatchOption, Option, None, Some}
+use Rattle.std.proofs.Common.{◌≡◌, ◌⊎◌, ◌<◌, ◌≤◌, ◌+◌, ◌-◌, ◌++◌, ℕ, zero, suc, Bool, true, false, List, [], ◌∷◌, length, get_or, All, arith, refl, sym, ◌∙◌, ap, subst, inl, inr, MatchOption, Option, None, Some}
 use Rattle.std.specs.Prelude.{◌↔◌, IsTrue}
 use Rattle.std.proofs.lemmas.Bool.{cases_lt, false≢true}
 use Rattle.std.proofs.lemmas.List.{get_or_default}
 use Rattle.std.proofs.lemmas.List.Elements.{All-contains, All-contains_itself}
+use Rattle.list_facts.proofs.Decisions.{Decided, decided_all, decided_both, decided_less, decided_like, decided_number}
 use Rattle.scrub_disk.specs.declared.geometry.Geometry.{Geometry}
-use Rattle.scrub_frame.proofs.Decisions.{Decided, decided_all, decided_both, decided_less, decided_like, decided_number}
 use Rattle.scrub_super.specs.declared.unknown_sizes.FoundRecord.{FoundRecord}
 use Rattle.scrub_super.specs.declared.unknown_sizes.LostBytes.{LostBytes}
 use Rattle.scrub_super.proofs.Geometries.{same_geometry}
@@ -173,6 +173,7 @@ module _ (records : List FoundRecord) (ranges : List LostBytes) where
             ),
           )
 
+-- Raw bytes with any lost blocks have a text of lines.
 pub some_sizes_lines : (bytes : List ℕ) (lost : List Bool) → (text : List ℕ) × AreSizesLines bytes lost text
 some_sizes_lines bytes lost =
     let found = some_found bytes lost in
@@ -186,11 +187,13 @@ truth : {P Q : Type 0} → P ↔ Q → Decided P → (b : Bool) × (IsTrue b ↔
 truth same (inl holds) = (true, ((λ is. same.0 holds), (λ c. refl)))
 truth same (inr fails) = (false, ((λ is. absurd (false≢true is)), (λ c. absurd (fails (same.1 c)))))
 
+-- Some truth value says whether raw bytes with these lost blocks have a clean front.
 pub some_clean_front : (bytes : List ℕ) (lost : List Bool) → (clean : Bool) × (IsTrue clean ↔ IsCleanFront bytes lost)
 some_clean_front bytes lost =
     let found = some_found bytes lost in
     truth (clean_front bytes lost found.0 found.1 found.2) (decided_clean found.0 found.1)
 
+-- There is a listing of sizes for any raw image, known or not, any lacking bytes and any failures.
 pub some_sizes_listing : (raw : Option (List ℕ)) (lacking : List ℕ) (fails : ℕ → ℕ → Bool) (failures : ℕ) →
     (text : List ℕ) × (clean : Bool) × IsSizesListingOf raw lacking fails failures text clean
 some_sizes_listing raw lacking fails failures =
@@ -204,6 +207,7 @@ some_sizes_listing raw lacking fails failures =
       listing_known raw lacking failures some.0 some.1 lines.0 (size_lines lines.0) clean.0 some.2 (λ can. lines.1) refl clean.1,
     )
 
+-- For any raw image, lacking bytes and failures there are sizes, or it is right to give none.
 pub some_sizes_of : (raw : Option (List ℕ)) (lacking : List ℕ) (fails : ℕ → ℕ → Bool) (failures : ℕ) →
     (found : Option Geometry) × AreSizesOf raw lacking fails failures found
 some_sizes_of raw lacking fails failures =

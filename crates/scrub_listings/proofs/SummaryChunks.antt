@@ -1,6 +1,6 @@
 -- How many chunks there are, and how many bytes they take, together and parted into live ones and orphans.
-use Rattle.std.proofs.Common.{◌≡◌, ◌+◌, ◌-◌, ◌&&◌, ◌∷◌, [], ℕ, Bool, true, false, not, cond, List, length, arith, refl, sym, ap, ◌∙◌}
-use Rattle.std.specs.List.{count_by, filter, filter_map, flat_map, sum_by}
+use Rattle.std.proofs.Common.{◌≡◌, ◌+◌, ◌-◌, ◌&&◌, ◌∷◌, [], ℕ, Bool, true, false, not, cond, List, length, arith, refl, sym, ◌∙◌}
+use Rattle.std.specs.List.{count_by, filter, filter_map, sum_by}
 use Rattle.std.proofs.lemmas.List.Concat.{length-flat_map}
 use Rattle.std.proofs.lemmas.List.Sums.{sum_by-cons}
 use Rattle.scrub_scan.specs.Item.{start_of}
@@ -11,7 +11,7 @@ use Rattle.scrub_check.specs.declared.lists.place.Place.{Place}
 use Rattle.scrub_check.specs.declared.statuses.checked.Checked.{Checked}
 use Rattle.scrub_check.specs.Chunks.{chunks, orphans, place_of}
 use Rattle.scrub_check.specs.Live.{has_sound_at, is_chunk, live_bytes, size_of}
-use Rattle.scrub_listings.specs.Summary.{chunk_bytes, is_orphan, items_of, live_count, one_if, orphan_bytes}
+use Rattle.scrub_listings.specs.Summary.{chunk_bytes, items_of, live_count, one_if, orphan_bytes}
 
 -- the places of chunks are as many as the chunks
 places_of : (e : ℕ) (items : List Item) → length (filter_map (place_of e) items) ≡ count_by is_chunk items
@@ -50,25 +50,27 @@ sum_both f g h (x ∷ xs) both =
 abbrev chunks_in : Scanned → List Place
 chunks_in f = filter_map (place_of f.extent) f.findings.items
 
+-- The scanned extents have as many chunks among their items as there are places of chunks.
 pub chunks_counted : (all : List Scanned) → sum_by (items_of is_chunk) all ≡ length (chunks all)
 chunks_counted all =
     sum_same (items_of is_chunk) (λ f. length (chunks_in f)) all (λ f. sym (places_of f.extent f.findings.items))
     ∙ sym (length-flat_map chunks_in all)
 
 -- those that pass and those that don't are all
-parted : {X : Type 0} (p : X → Bool) (xs : List X) → length xs ≡ count_by p xs + length (filter (λ x. not (p x)) xs)
-parted p [] = refl
-parted p (x ∷ xs) = by (p x) (sum_by-cons (λ y. one_if (p y)) x xs) (parted p xs)
+length_by_count_and_rest : {X : Type 0} (p : X → Bool) (xs : List X) → length xs ≡ count_by p xs + length (filter (λ x. not (p x)) xs)
+length_by_count_and_rest p [] = refl
+length_by_count_and_rest p (x ∷ xs) = by (p x) (sum_by-cons (λ y. one_if (p y)) x xs) (length_by_count_and_rest p xs)
   where
     by : (b : Bool) → count_by p (x ∷ xs) ≡ one_if b + count_by p xs → length xs ≡ count_by p xs + length (filter (λ y. not (p y)) xs) →
         length (x ∷ xs) ≡ count_by p (x ∷ xs) + length (cond (not b) (x ∷ filter (λ y. not (p y)) xs) (filter (λ y. not (p y)) xs))
     by true s h = omega (arith, s, h)
     by false s h = omega (arith, s, h)
 
+-- The number of chunks less that of orphans is the number of live chunks.
 pub live_counted : (all : List Scanned) (checked : List Checked) (n : ℕ) → n ≡ length (orphans all checked) →
     sum_by (items_of is_chunk) all - n ≡ live_count all checked
 live_counted all checked n is =
-    let both = parted (λ (p : Place). has_sound_at checked p.extent p.offset) (chunks all) in
+    let both = length_by_count_and_rest (λ (p : Place). has_sound_at checked p.extent p.offset) (chunks all) in
     let count = chunks_counted all in
     omega (arith, both, count, is)
 
@@ -92,6 +94,7 @@ parted_bytes p q (i ∷ is) = by (p i) (q i) (parted_bytes p q is)
         omega (arith, s, t, h)
     by false b h = h
 
+-- The bytes of all chunks less the live bytes are the bytes of orphans.
 pub orphan_bytes_left : (all : List Scanned) (checked : List Checked) (n : ℕ) → n ≡ sum_by (live_bytes checked) all →
     sum_by chunk_bytes all - n ≡ sum_by (orphan_bytes checked) all
 orphan_bytes_left all checked n is =

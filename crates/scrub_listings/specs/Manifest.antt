@@ -6,7 +6,7 @@ use Rattle.std.specs.Fmt.{decimal}
 use Rattle.std.specs.List.{count_by, enumerate_from, filter, flat_map, list_all, slice_get}
 use Rattle.std.specs.Option.{option_map_or}
 use Rattle.hex.specs.Hex.{encode_lower}
-use Rattle.scrub_disk.specs.Image.{Image, byte}
+use Rattle.scrub_disk.specs.Image.{Image, image_byte}
 use Rattle.scrub_run.specs.declared.shard_id.ShardId.{ShardId}
 use Rattle.scrub_frame.specs.declared.form.Form.{Form}
 use Rattle.scrub_frame.specs.declared.form.Form.TheVariants.{Plain, Sealed}
@@ -187,7 +187,7 @@ pub record HoldTheSame (s t : Scrubbed) : Type 0 where
 
 -- each byte of the disk's extents that can be read is below 256
 abbrev pub HoldsBytes : Image → Type 0
-HoldsBytes image = (e p b : ℕ) → e < image.geometry.extents → byte image e p ≡ Some b → b < 256
+HoldsBytes image = (e p b : ℕ) → e < image.geometry.extents → image_byte image e p ≡ Some b → b < 256
 
 -- what a manifest says of a shard's locator in an image of bytes: who names it, the length and the digest of its chunk, its
 -- status, the form of its chunk if it is sound, or else the extent and the offset that it points to, and whether it dangles

@@ -48,7 +48,7 @@ pub record AreSizesLines (bytes : List ℕ) (lost : List Bool) (text : List ℕ)
   pub in_order : AreSizesInOrder bytes lost lines
   pub text_is : text ≡ size_lines lines
 
--- there is a record, all records have the same sizes, and nothing is lost
+-- in the front, the bytes below 2^26, there is a record, all records have the same sizes, and nothing is lost
 pub record IsCleanFront (bytes : List ℕ) (lost : List Bool) : Type 0 where
   pub some : (r : FoundRecord) × IsFoundRecord (byte_left bytes lost) r
   pub same_sizes : (r s : FoundRecord) →

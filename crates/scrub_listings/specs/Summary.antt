@@ -121,8 +121,8 @@ disk_numbers plan =
     (codes "extents", plan.geometry.extents) ∷
     (codes "retired_extents", length plan.retired) ∷ []
 
--- the superblocks: how many are valid, the generation of the one that counts, whether there is a tie, and how many pages of
--- extent 0 are damaged or stray
+-- the superblocks: how many are valid, the generation of the one that counts, or 0 if none does, whether
+-- there is a tie, and how many pages of extent 0 are damaged or stray
 abbrev pub superblock_numbers : Choice → List SuperblockPage → List NamedNumber
 superblock_numbers choice pages =
     (codes "superblocks", choice.records) ∷

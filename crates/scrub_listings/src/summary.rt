@@ -16,7 +16,7 @@ ghost use Rattle.scrub_check.specs.Live.{is_chunk, live_bytes, size_of};
 ghost use Rattle.scrub_check.specs.Runs.{ReadRunsValue};
 ghost use Rattle.scrub_found.specs.Takings.{AreTakingsBy};
 ghost use Rattle.scrub_found.specs.Judged.{AreRowsOf, IsScan, found_in};
-ghost use Rattle.scrub_listings.specs.steps.Summary.{AreListsOf, beside_lists};
+ghost use Rattle.scrub_listings.specs.steps.Summary.{AreSummaryLists, beside_lists};
 ghost use Rattle.scrub_listings.specs.Summary.{IsSummary, candidate_numbers, chunk_numbers};
 ghost use Rattle.scrub_listings.specs.Summary.{counts_as, disk_numbers, has_spare_by, is_behind, is_lost};
 ghost use Rattle.scrub_listings.specs.Summary.{is_noise};
@@ -27,7 +27,7 @@ ghost use Rattle.scrub_listings.specs.Summary.{verdict, verdict_by, verdict_line
 
 use crate::listing::Listing;
 use crate::manifest::lost_runs;
-use scrub_check::{Candidate, Checked, Liveness, Place, Spares, broken_shards};
+use scrub_check::{Candidate, Checked, Liveness, Place, Spares, broken_shards, is_chunk, size_of};
 use scrub_disk::{OutOfMemory, PageSource};
 use scrub_found::judging::{are_sound, liveness_and_twins};
 use scrub_found::{Judged, Scan, ScrubFault, is_clean, judged_of, scan_chosen};
@@ -173,13 +173,6 @@ fn append_numbers(text: &mut String, numbers: &[(&str, u128)]) -> Result<(), Out
     Ok(())
 }
 
-/// Whether an item is a chunk.
-fn is_chunk(item: &Item) -> bool
-    ensures { result ≡ is_chunk item.now }
-{
-    matches!(item, Item::Chunk { .. })
-}
-
 /// Whether an item is torn.
 fn is_torn(item: &Item) -> bool
     ensures { result ≡ is_torn item.now }
@@ -199,13 +192,6 @@ fn is_lost(item: &Item) -> bool
     ensures { result ≡ is_lost item.now }
 {
     matches!(item, Item::Lost { .. })
-}
-
-/// How many bytes an item takes.
-fn size_of(item: &Item) -> u32
-    ensures { result ≡ size_of item.now }
-{
-    item.stop().saturating_sub(item.start())
 }
 
 /// How many bytes the chunks among items of an extent take.
@@ -552,7 +538,7 @@ fn lists_of<R: Threads + Sync, D: PageSource>(
     alloc: Global,
     judged: &Judged<'_, D>,
 ) -> Result<Lists, OutOfMemory>
-    ensures { IfOk result (AreListsOf judged.now) }
+    ensures { IfOk result (AreSummaryLists judged.now) }
 {
     let (liveness, twins) = liveness_and_twins(rt, alloc, judged)?;
     Ok(Lists {
@@ -570,7 +556,7 @@ fn append_all<D: PageSource>(
     judged: &Judged<'_, D>,
     lists: &Lists,
 ) -> Result<(), OutOfMemory>
-    requires { AreListsOf judged.now lists.now }
+    requires { AreSummaryLists judged.now lists.now }
     ensures { (read : ReadRunsValue) → AreRowsOf judged.now.scan.plan.runs read judged.now.runs.items →
         OnOk result (string_bytes text.new ≡ string_bytes text.old ++
         number_lines (numbers_by pages.now (found_in judged.now (beside_lists read lists.now))

@@ -102,6 +102,7 @@ first_field text k e some first =
 pub empty_is : (xs : List ℕ) (b : Bool) → b ≡ eqb (length xs) 0 → b ≡ true → length xs ≡ 0
 empty_is xs b e t = eqb-true (length xs) 0 (sym e ∙ t)
 
+-- A list whose test for being empty is false has an element.
 pub filled_is : (xs : List ℕ) (b : Bool) → b ≡ eqb (length xs) 0 → b ≡ false → 0 < length xs
 filled_is xs b e t = let ne : length xs ≡ 0 → ⊥ = eqb-false (length xs) 0 (sym e ∙ t) in omega (arith, ne)
 

@@ -22,6 +22,7 @@ pub record LowersFrom (gap : Gap) (size behind number : ℕ) (before after : Lis
       get_or after n 0 ≡ min (get_or before n 0) (gap.from - n * size)
   pub others : (n : ℕ) → n < length before → (n < gap.from / size) ⊎ (number ≤ n) → get_or after n 0 ≡ get_or before n 0
 
+-- Before the loop, at the block of the gap's first byte, the places are as they were.
 pub lowers_none : (gap : Gap) (size behind : ℕ) (before : List ℕ) →
     LowersFrom gap size behind (gap.from / size) before before
 lowers_none gap size behind before = record {
@@ -30,6 +31,7 @@ lowers_none gap size behind before = record {
   others = λ n within either. refl;
 }
 
+-- If a block's place becomes the lesser of it and that of the gap's first byte, one more block is passed.
 pub lowers_more : (gap : Gap) (size behind number first new : ℕ) (before after : List ℕ) → gap.from / size ≤ number →
     number < behind → number < length after → length after ≡ length before → first ≡ gap.from - number * size →
     new ≡ min (get_or after number 0) first → LowersFrom gap size behind number before after →
@@ -53,6 +55,7 @@ lowers_more gap size behind number first new before after low high below same fi
     other : (n : ℕ) → (n ≡ number → ⊥) → get_or (set after number new) n 0 ≡ get_or after n 0
     other n ne = get_or-set_other after number n new 0 ne
 
+-- Once the loop has passed the last block that the gap can hit, each place is lowered by the gap.
 pub lowers_all : (gap : Gap) (size behind number : ℕ) (before after : List ℕ) → 0 < size →
     behind ≡ min ((gap.to - 1) / size + 1) (length before) → behind ≤ number →
     LowersFrom gap size behind number before after → LowersByGap gap size before after
@@ -103,6 +106,7 @@ pub record AreFirstInGaps (gaps : List Gap) (size count : ℕ) (places : List �
   pub one_each : length places ≡ count
   pub first : (n : ℕ) → n < count → IsFirstInGaps gaps size n (get_or places n 0)
 
+-- Without gaps the place of each block is the block's size.
 pub first_none : (gaps : List Gap) (size count : ℕ) (places : List ℕ) → places ≡ replicate count size →
     AreFirstInGaps (take 0 gaps) size count places
 first_none gaps size count places e = record {
@@ -220,6 +224,7 @@ first_more_in v gaps i size count gap now new below item e same f lowers =
     subst (AreFirstInGaps (take (i + 1) gaps) size count) (sym whole)
     (first_more gaps i size count gap now new below item (subst (AreFirstInGaps (take i gaps) size count) (sym e) f) same lowers)
 
+-- In a vector too, the places of all gaps and of the bytes from the end on are the first lacking bytes.
 pub first_lacking_in : {Z : Type 0} (v : Vec ℕ Z) (map : RescueMap) (gaps : List Gap) (gap : Gap) (i size count : ℕ) (now new : List ℕ) →
     gaps ≡ map.gaps.items → length gaps ≤ i → gap.from ≡ map.end → gap.to ≡ 2 ^ 64 - 1 →
     size * count ≤ 2 ^ 63 →

@@ -43,9 +43,11 @@ kept_same map blocks block none keeps i = (
   λ lost. (keeps i).1 (λ covered. lost (covered_before blocks block i covered)),
 )
 
+-- A block without status `+` rescues no byte.
 pub none_unread : (block : MapBlock) → block.is_rescued ≡ false → (i : ℕ) → ¬ IsRescuedIn block i
 none_unread block e i is = absurd (false≢true (sym e ∙ is.rescued))
 
+-- A block of size 0 rescues no byte.
 pub none_empty : (block : MapBlock) → block.size ≡ 0 → (i : ℕ) → ¬ IsRescuedIn block i
 none_empty block e i is = omega (arith, e, is.low, is.high)
 
@@ -55,6 +57,7 @@ pub record GapsGrow (old new : List Gap) (from to : ℕ) : Type 0 where
   pub stay : (i : ℕ) → IsInGaps old i → IsInGaps new i
   pub grown : (i : ℕ) → from ≤ i → i < to → IsInGaps new i
 
+-- With one more gap at their end, the gaps grow by the bytes of that gap.
 pub grow_one : (old new : List Gap) (gap : Gap) → new ≡ old ++ gap ∷ [] → GapsGrow old new gap.from gap.to
 grow_one old new gap e = record {
   only = λ i has. elim (in_gaps_push old gap i (rw e at has)) [
@@ -65,6 +68,7 @@ grow_one old new gap e = record {
   grown = λ i low high. rw e (in_gaps_last old gap i (record { low = low; high = high }));
 }
 
+-- Gaps that stay the same grow by a range without bytes.
 pub grow_none : (old new : List Gap) (from to : ℕ) → new ≡ old → to ≤ from → GapsGrow old new from to
 grow_none old new from to e none = record {
   only = λ i has. inl (rw e at has);
@@ -105,6 +109,7 @@ kept_more old new place block rescued ordered below end grow blocks keeps i = (
   ],
 )
 
+-- If the gaps grow up to the start of a block, each byte in a gap is before that block's end.
 pub below_more : (old : RescueMap) (new : List Gap) (block : MapBlock) → old.end ≤ block.position →
     HasGapsBelowEnd old →
     GapsGrow old.gaps.items new old.end block.position → (i : ℕ) → IsInGaps new i → i < block.position + block.size

@@ -56,6 +56,7 @@ pub record MarksFrom (first behind number : ℕ) (before after : List Bool) : Ty
   pub marked : (n : ℕ) → n < length before →
       (get_or after n false ≡ true) ↔ ((get_or before n false ≡ true) ⊎ ((first ≤ n) × (n < number)))
 
+-- Before the loop, at its first block, the marks are as they were.
 pub marks_none : (first behind : ℕ) (before : List Bool) → MarksFrom first behind first before before
 marks_none first behind before = record {
   placed = inr refl;
@@ -68,6 +69,7 @@ marks_none first behind before = record {
   );
 }
 
+-- If the mark of the next block becomes true, the loop has passed one more block.
 pub marks_more : (first behind number : ℕ) (before after : List Bool) → first ≤ number → number < behind →
     number < length after →
     MarksFrom first behind number before after → MarksFrom first behind (number + 1) before (set after number true)
@@ -92,6 +94,7 @@ marks_more first behind number before after low high below m = record {
   ];
 }
 
+-- Once the loop has passed the last block that the gap can hit, the marks are as `MarksGap` says.
 pub marks_all : (gap : Gap) (size behind number : ℕ) (before after : List Bool) → 0 < size →
     behind ≡ min ((gap.to - 1) / size + 1) (length before) → behind ≤ number →
     MarksFrom (gap.from / size) behind number before after → MarksGap gap size before after
@@ -134,15 +137,18 @@ in_gaps_push (first ∷ gaps) gap i (inr more) = elim (in_gaps_push gaps gap i m
   | inr new ↦ inr new
 ]
 
+-- A byte of one of the gaps is still in one if more gaps follow.
 pub in_gaps_before : (gaps more : List Gap) (i : ℕ) → IsInGaps gaps i → IsInGaps (gaps ++ more) i
 in_gaps_before [] more i none = absurd none
 in_gaps_before (first ∷ gaps) more i (inl here) = inl here
 in_gaps_before (first ∷ gaps) more i (inr old) = inr (in_gaps_before gaps more i old)
 
+-- A byte of the last gap is in one of the gaps.
 pub in_gaps_last : (gaps : List Gap) (gap : Gap) (i : ℕ) → IsInGap gap i → IsInGaps (gaps ++ gap ∷ []) i
 in_gaps_last [] gap i here = inl here
 in_gaps_last (first ∷ gaps) gap i here = inr (in_gaps_last gaps gap i here)
 
+-- Marks that are all false are those of no gaps.
 pub gaps_none : (gaps : List Gap) (size count : ℕ) (marks : List Bool) → marks ≡ replicate count false →
     MarksGaps (take 0 gaps) size count marks
 gaps_none gaps size count marks e = record {
@@ -228,6 +234,7 @@ gaps_more_in v gaps i size sized count gap now new below item se e same m marks 
     subst (MarksGaps (take (i + 1) gaps) size count) (sym whole)
     (gaps_more gaps i size count gap now new below item (subst (MarksGaps (take i gaps) size count) (sym e) m) same (rw se at marks))
 
+-- In a vector too, the marks of all gaps and of the bytes from the end on are those of the lost blocks.
 pub lost_marked_in : {Z : Type 0} (v : Vec Bool Z) (map : RescueMap) (gaps : List Gap) (gap : Gap) (i size sized count : ℕ) (now new : List Bool) →
     gaps ≡ map.gaps.items → length gaps ≤ i → gap.from ≡ map.end → gap.to ≡ 2 ^ 64 - 1 → sized ≡ size →
     size * count ≤ 2 ^ 63 →

@@ -9,6 +9,7 @@ use Rattle.scrub_map.specs.Map.{AreBlocksFrom, BeginsMap, BreaksAt, IsFirstBadLi
 use Rattle.scrub_map.specs.Rescued.{AreFirstLacking, AreLostBlocks, IsCovered, IsFirstLacking, LacksBefore}
 use Rattle.scrub_map.proofs.MapLines.{same_blocks, statements-append}
 
+-- A text is the map of one list of blocks at most.
 pub one_map : (text : List ℕ) (a b : List MapBlock) → IsMap text a → IsMap text b → a ≡ b
 one_map text = of_said (statements (map_lines text))
   where
@@ -50,6 +51,7 @@ none_breaks lines k begins at =
     at.breaks (begins_front (at.before ++ at.line ∷ []) at.behind
     (subst BeginsMap (at.parts ∙ sym (append_assoc at.before (at.line ∷ []) at.behind)) begins))
 
+-- A text that is a map has no first bad line.
 pub no_bad_line : (text : List ℕ) (blocks : List MapBlock) (k : ℕ) → IsMap text blocks → ¬ IsFirstBadLine text k
 no_bad_line text blocks k is (inl at) = none_breaks (map_lines text) k (inr (blocks, is)) at
 no_bad_line text blocks k is (inr none) = rw none.0 at is
@@ -81,6 +83,7 @@ not_before lines j k first second less =
     (sym first.parts ∙ second.parts) less in
     first.breaks (begins_front (first.before ++ first.line ∷ []) cut.0 (subst BeginsMap cut.1 second.begins))
 
+-- A text has one first bad line at most.
 pub one_bad_line : (text : List ℕ) (j k : ℕ) → IsFirstBadLine text j → IsFirstBadLine text k → j ≡ k
 one_bad_line text j k (inl first) (inl second) =
     let low : ¬ (length first.before < length second.before) = not_before (map_lines text) j k first second in
@@ -96,6 +99,7 @@ same_truth true b to back = sym (to refl)
 same_truth false true to back = back refl
 same_truth false false to back = refl
 
+-- For one size and count, blocks allow one list of marks at most.
 pub one_marking : (blocks : List MapBlock) (size count : ℕ) (a b : List Bool) → AreLostBlocks blocks size count a →
     AreLostBlocks blocks size count b → a ≡ b
 one_marking blocks size count a b first second =
@@ -113,6 +117,7 @@ not_higher : (blocks : List MapBlock) (size n a b : ℕ) → IsFirstLacking bloc
     a < b → ⊥
 not_higher blocks size n a b first second less = first.lacks (omega (arith, less, second.within)) (second.covered a less)
 
+-- For one size and count, blocks allow one list of first lacking bytes at most.
 pub one_first_lacking : (blocks : List MapBlock) (size count : ℕ) (a b : List ℕ) → AreFirstLacking blocks size count a →
     AreFirstLacking blocks size count b → a ≡ b
 one_first_lacking blocks size count a b first second =

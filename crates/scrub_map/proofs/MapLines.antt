@@ -151,6 +151,7 @@ map_said : (has : Bool) (said : List (List (List ℕ))) (blocks : List MapBlock)
 map_said true said blocks e are = are
 map_said false said blocks e are = absurd (false≢true e)
 
+-- If the first line that says something is a state, the lines with it are read, and only `has_state` changes.
 pub read_state : (lines : List (List ℕ)) (line : List ℕ) (fields : List (List ℕ)) (old new : Reading) →
     line_fields line ≡ fields → says_nothing fields ≡ false → old.has_state ≡ false → IsState fields →
     new ≡ record old { has_state = true } → HasReadLines lines old → HasReadLines (lines ++ line ∷ []) new
@@ -165,6 +166,7 @@ read_state lines line fields old new e some first state after read =
       end = read.end;
     })
 
+-- If the first line that says something isn't a state, no map begins with the lines.
 pub no_state : (lines : List (List ℕ)) (line : List ℕ) (fields : List (List ℕ)) (old : Reading) →
     line_fields line ≡ fields → says_nothing fields ≡ false → old.has_state ≡ false → (¬ IsState fields) →
     HasReadLines lines old → ¬ BeginsMap (lines ++ line ∷ [])
@@ -199,6 +201,7 @@ read_block lines line fields block old new e some has is behind still next keeps
       end = next ∙ sym (end_from-push 0 read.blocks block);
     }
 
+-- If a line after the state says something and isn't a block from `old.next` on, no map begins so.
 pub no_block : (lines : List (List ℕ)) (line : List ℕ) (fields : List (List ℕ)) (old : Reading) →
     line_fields line ≡ fields → says_nothing fields ≡ false → old.has_state ≡ true →
     ((block : MapBlock) → IsBlock fields block → old.next ≤ block.position → ⊥) → HasReadLines lines old →
@@ -238,6 +241,7 @@ pub record HasReadUpTo (text rest : List ℕ) (number : ℕ) (r : Reading) : Typ
   pub room : number + length rest ≤ length text + 1
   pub read : HasReadLines lines r
 
+-- Once the next line is read, one more line of the text is read, and what is left is what follows it.
 pub up_to_more : (text rest line behind : List ℕ) (number : ℕ) (old new : Reading) →
     map_lines rest ≡ line ∷ map_lines behind → length behind < length rest →
     HasReadUpTo text rest number old → ReadsMore (line_fields line) old new → HasReadUpTo text behind (number + 1) new
@@ -282,6 +286,7 @@ pub whole_map : (text rest : List ℕ) (number : ℕ) (r : Reading) (result : Re
 whole_map text rest number r (Ok map) e up ok = read_whole_map text rest number r map e up ok.0 ok.1
 whole_map text rest number r (Err fault) e up ok = tt
 
+-- If no line is a state, the line that the fault names at the end of the text is the first bad line.
 pub no_map : (text rest : List ℕ) (number : ℕ) (r : Reading) (result : Result RescueMap MapFault) → length rest ≡ 0 →
     HasReadUpTo text rest number r →
     IfErr result (λ fault. IfBadLine fault (λ k. (k ≡ number) × (r.has_state ≡ false))) →

@@ -12,6 +12,7 @@ pub record WritesSoFar (radix : ℕ) (digits : List ℕ) (i value : ℕ) : Type 
   pub value_is : digits_value radix (take i digits) ≡ value
   pub small : value < 2 ^ 63
 
+-- If the next digit can follow and gives the value n, one digit more spells n.
 pub writes_more : (radix : ℕ) (digits : List ℕ) (i value n : ℕ) → i < length digits → WritesSoFar radix digits i value →
     AppendsDigit radix value (get_or digits i 0) n → WritesSoFar radix digits (i + 1) n
 writes_more radix digits i value n below before more = record {

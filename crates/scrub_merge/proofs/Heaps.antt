@@ -177,6 +177,7 @@ module _ {runs : Runs} {items : List Under} (u : Under) (h : IsHeapOf runs items
       All-contains (λ w. is_lt (under_cmp u w) ≡ false) items (under_by k e)
       (All-from_recursion (λ w. is_lt (under_cmp u w) ≡ false) items bound) (h.all k e tt at)
 
+  -- The identifier of the greatest in the heap is the least that is first in any run.
   pub first_least : IsLeast runs u.0.0
   first_least = let own = in_heap u h among in record {
     number = u.0.1;
@@ -186,6 +187,7 @@ module _ {runs : Runs} {items : List Under} (u : Under) (h : IsHeapOf runs items
     least = λ k e at below. not_lesser u (under_by k e) (above_all k e at) below;
   }
 
+  -- The run of the greatest in the heap is the newest in which that identifier is first.
   pub first_newest : IsFirstWith runs u.0.0 u.0.1
   first_newest = let own = in_heap u h among in record {
     entry = own.0;

@@ -10,5 +10,4 @@ pub mod NextBound
 pub mod Moves
 pub mod Heaps
 -- that there is a map
-pub mod SortedOnce
 pub mod MapsThere

@@ -71,7 +71,8 @@ none_found bindings id i b are search_ends (k, here, is) same = elim (cases_lt k
 
 -- ---- one map
 
-abbrev Rise : List BindingValue → Type 0
+-- The identifiers of the bindings are in ascending order.
+abbrev pub Rise : List BindingValue → Type 0
 Rise xs = AllPairs (λ v w. IsBelow v.id w.id) xs
 
 -- what comes after a binding in ascending order is above it
@@ -80,7 +81,8 @@ above : (x : BindingValue) (xs : List BindingValue) (b : BindingValue) → Rise 
 above x xs b rising (k, here, is) =
     rw (get_or_default xs k x b here, is) at (rising zero (suc k) x (omega arith) (omega (arith, here)))
 
-tail_rises : (x : BindingValue) (xs : List BindingValue) → Rise (x ∷ xs) → Rise xs
+-- What follows the first binding in ascending order is in ascending order.
+pub tail_rises : (x : BindingValue) (xs : List BindingValue) → Rise (x ∷ xs) → Rise xs
 tail_rises x xs rising i j d order here = rising (suc i) (suc j) d (omega (arith, order)) (omega (arith, here))
 
 -- two ascending lists with the same bindings are equal

@@ -108,16 +108,6 @@ module _ (id : ShardId) {e : EntryValue} (own : e.id ≡ id) where
   same_behind (run ∷ runs) (place ∷ places) (suc number) count rising at =
       λ i. place_past id run place ∷ same_behind runs places number (omega (arith, count)) (λ k. rising (suc k)) at i
 
-  -- the place past the identifier of a cursor that has it is one further
-  pub one_past : (runs : Runs) (places : List ℕ) (number : ℕ) → length places ≡ length runs →
-      first_of (ahead runs places) number ≡ Some e →
-      get_or (places_past id runs places) number 0 ≡ get_or places number 0 + 1
-  one_past [] places number count at = cc
-  one_past (run ∷ runs) [] number count at = absurd (omega (arith, count))
-  one_past (run ∷ runs) (place ∷ places) zero count at =
-      rw (has_it (entry_at run place) (sym (under_first run place) ∙ at))
-  one_past (run ∷ runs) (place ∷ places) (suc number) count at = one_past runs places number (omega (arith, count)) at
-
   -- the identifier under a cursor that moves on rises
   pub still_not_below : (runs : Runs) (places : List ℕ) (number : ℕ) → length places ≡ length runs → AreRising runs →
       first_of (ahead runs places) number ≡ Some e →

@@ -21,6 +21,7 @@ use Rattle.scrub_merge.specs.ShardMap.{IsShardMap}
 use Rattle.scrub_merge.specs.steps.Cursors.{id_cmp}
 use Rattle.scrub_merge.specs.steps.Parts.{is_before, kept}
 use Rattle.scrub_merge.proofs.Identifiers.{id_cmp_total, same_id}
+use Rattle.scrub_merge.proofs.Maps.{Rise, tail_rises}
 
 -- ---- the entries that pass a test
 
@@ -88,12 +89,6 @@ module _ (passes : ShardId → Bool) (runs : Runs) where
 
 -- ---- lists one after the other
 
-abbrev Rise : List BindingValue → Type 0
-Rise xs = AllPairs (λ v w. IsBelow v.id w.id) xs
-
-tail_rises : (x : BindingValue) (xs : List BindingValue) → Rise (x ∷ xs) → Rise xs
-tail_rises x xs rising i j d order here = rising (suc i) (suc j) d (omega (arith, order)) (omega (arith, here))
-
 -- an identifier before another is below one that isn't
 between : (id a b : ShardId) → is_before id a ≡ true → not (is_before id b) ≡ true → IsBelow a b
 between id a b before not_before = by (id_cmp b id) refl (id_cmp a id) refl
@@ -123,6 +118,7 @@ module _ (runs : Runs) (id : ShardId) where
   abbrev other : ShardId → Bool
   other x = not (is_before id x)
 
+  -- The map of the entries before an identifier, and then that of the others, is the map of all.
   pub maps_joined : (low high : List BindingValue) → IsShardMap (kept (is_before id) runs) low →
       IsShardMap (kept (λ x. not (is_before id x)) runs) high → IsShardMap runs (low ++ high)
   maps_joined low high l h = record {
@@ -188,6 +184,7 @@ module _ (entries : List EntryValue) (rising : RisesById entries) (id : ShardId)
   abbrev before : EntryValue → Bool
   before e = is_before id e.id
 
+  -- Of ascending entries, those before an identifier come first.
   pub are_parted : IsPartitionedBy before entries
   are_parted i j d le under later =
       go (id_cmp (get_or entries i d).id id) (id_cmp (get_or entries j d).id id) (ascends i j d le under) later
@@ -211,9 +208,11 @@ module _ (entries : List EntryValue) (rising : RisesById entries) (id : ShardId)
       go Greater Greater le h = h
 
   module _ (n : ℕ) (point : IsPartitionPoint (λ y. before y ≡ true) (λ y. before y ≡ false) entries n) (within : n ≤ length entries) where
+    -- The entries up to the partition point are those before the identifier.
     pub first_part : take n entries ≡ filter before entries
     first_part = taken before entries n (λ k d lt. point.0 k d (omega arith) lt) (λ k d le lt. point.1 k d le lt) within
 
+    -- The entries from the partition point on are those that aren't before the identifier.
     pub last_part : drop n entries ≡ filter (λ e. not (before e)) entries
     last_part = left before entries n (λ k d lt. point.0 k d (omega arith) lt) (λ k d le lt. point.1 k d le lt) within
 

@@ -11,7 +11,7 @@ pub record BindingValue : Type 0 where
   pub run : ℕ
   pub doubtful : Bool
 
--- the entries of each run, the newest run first; a lost run has none
+-- the entries of each run, the newest run first, or None if the run is lost
 abbrev pub Runs : Type 0
 Runs = List (Option (List EntryValue))
 

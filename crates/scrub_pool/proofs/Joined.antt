@@ -53,10 +53,12 @@ module _ {D : Type 0} {s : _} where
       rw (extents_append all theirs mine (one_list pass.joined) pass.own is joined own)
       (IsPermutation-trans (one_list pass.joined ++ pass.own) (taken_in pass) planned (IsPermutation-append_comm (one_list pass.joined) pass.own) (rw same at whole))
 
+  -- If `all` is `found ++ more`, it has as many results as both together.
   pub long_append : (all found more : List (ExtentResult D s)) → all ≡ found ++ more →
       length all ≡ length found + length more
   long_append all found more is = ap (λ (rs : List (ExtentResult D s)). length rs) is ∙ length-append found more
 
+  -- The empty list of results meets `AreResults` for any image and plan.
   pub no_results : (image : Image) (plan : PlanValue) (rs : List (ExtentResult D s)) → rs ≡ [] →
       AreResults image plan rs
   no_results image plan rs none =

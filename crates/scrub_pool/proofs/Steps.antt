@@ -41,7 +41,7 @@ only : (a : View) (j : ℕ) (u : View) → get_elem? (a ∷ []) j ≡ some u →
 only a zero u at = some-injective a u at
 only a (suc j) u at = absurd (some-ne-none u (sym at))
 
--- who begins has seen nothing
+-- The rule holds of an empty queue with one pass, the first, which took nothing.
 pub begins : Accounts [] (view_of 1 0 0 [] [] [] ∷ [])
 begins = record {
   pushed = [];
@@ -158,7 +158,7 @@ all_taken port v alive items views h at one none empty =
     nil [] is = refl
     nil (x ∷ xs) is = absurd (omega (arith, is))
 
--- no more are taken than were pushed
+-- The queue holds no more extents than were pushed.
 pub queue_at_most_pushed : (port : ℕ) (v : View) → 0 < v.firsts + v.lives →
     Learns Accounts port v (λ items. length items ≤ length v.pushed)
 queue_at_most_pushed port v alive items views h at =

@@ -10,7 +10,8 @@ ghost use Rattle.scrub_pool.specs.Takings.{IsPartition, AreTakenInSomeSchedule};
 
 use std::marker::Model;
 
-/// The extents that each worker took, in that order, and the ledger's total.
+/// The extents that each worker took, and last those of the caller, each list in the order in which they were
+/// taken; and the ledger's total.
 #[derive(Drop)]
 pub struct Takings {
     // By the workers' numbers, the caller's last.

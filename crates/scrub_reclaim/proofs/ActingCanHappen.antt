@@ -6,9 +6,9 @@ use Rattle.std.proofs.lemmas.Bool.{eq-eqb, ne_eqb}
 use Rattle.std.proofs.lemmas.List.{get_or_append_left}
 use Rattle.std.proofs.lemmas.List.Elements.{All-cons, All-nil}
 use Rattle.std.proofs.lemmas.Option.{none-some}
-use Rattle.scrub_disk.specs.Image.{Image, byte, extent_bytes}
+use Rattle.scrub_disk.specs.Image.{Image, image_byte, extent_bytes}
 use Rattle.scrub_frame.specs.declared.form.Form.TheVariants.{Plain}
-use Rattle.scrub_frame.specs.Frame.{frame}
+use Rattle.scrub_frame.specs.Frame.{frame_of}
 use Rattle.scrub_super.specs.Plan.{pointer_of}
 use Rattle.scrub_scan.specs.declared.findings.Findings.{Findings}
 use Rattle.scrub_scan.specs.Extent.{FrameAt, extent_of}
@@ -163,6 +163,7 @@ next_fits : (last : Option ℕ) → IfSome last (λ g. g + 1 < 2 ^ 64) → gener
 next_fits None fits = omega arith
 next_fits (Some g) fits = fits
 
+-- If a generation can follow `last`, a disk has extent 1 listed, whatever is accepted, and then reset.
 pub a_reset_can_happen : (accepted : Acceptance) → IfSome accepted.last (λ g. g + 1 < 2 ^ 64) →
     (before after : Image) × IsReclaimed accepted (1 ∷ []) before after × IsForeseen (1 ∷ []) before after
     × AreListedWithoutSpares accepted (1 ∷ []) before
@@ -187,7 +188,7 @@ abbrev abc : List ℕ
 abc = 0x61 ∷ 0x62 ∷ 0x63 ∷ []
 
 abbrev copied : List ℕ
-copied = frame Plain ones abc ++ replicate 23 0
+copied = frame_of Plain ones abc ++ replicate 23 0
 
 abbrev empty_room : RoomValue
 empty_room = record { extent = 1; place = 0 }
@@ -217,9 +218,9 @@ after_copy = record {
   had = one_room (λ r. HasRoomAt (disk 2 0 zeros) r.extent r.place) had_room;
   sizes = refl;
   others = λ x p first low out. absurd (no_other x first low out);
-  kept = one_room (λ r. (p : ℕ) → p < r.place → byte (disk 3 41 copied) r.extent p ≡ byte (disk 2 0 zeros) r.extent p)
+  kept = one_room (λ r. (p : ℕ) → p < r.place → image_byte (disk 3 41 copied) r.extent p ≡ image_byte (disk 2 0 zeros) r.extent p)
       (λ p below. absurd (omega (arith, below)));
-  readable = one_room (λ r. (p : ℕ) → p < extent_bytes (disk 3 41 copied).geometry → byte (disk 3 41 copied) r.extent p ≢ None)
+  readable = one_room (λ r. (p : ℕ) → p < extent_bytes (disk 3 41 copied).geometry → image_byte (disk 3 41 copied) r.extent p ≢ None)
       (λ p low lost. none-some (get_or copied p 0) (sym lost ∙ byte_of 3 41 copied p refl (omega (arith, low))));
   old = plan_under 2 0;
   new = plan_under 3 41;
@@ -239,11 +240,12 @@ frame_there = record {
   has_frame = record { sixteen = refl; short = omega arith };
   fits = omega arith;
   stands = λ k here.
-      ap (byte (disk 3 41 copied) 1) (let e : 0 + k ≡ k = omega arith in e)
+      ap (image_byte (disk 3 41 copied) 1) (let e : 0 + k ≡ k = omega arith in e)
       ∙ byte_of 3 41 copied k refl (omega (arith, here))
-      ∙ ap Some (get_or_append_left (frame Plain ones abc) (replicate 23 0) 0 k here);
+      ∙ ap Some (get_or_append_left (frame_of Plain ones abc) (replicate 23 0) 0 k here);
 }
 
+-- There is a disk with room into which a whole frame is copied, and which has the frame there afterwards.
 pub a_copy_can_happen : (room : RoomValue) × (copy : WholeFrame) × (before after : Image)
     × (acted : IsAfterCopies (room ∷ []) before after) × (w : ℕ) × (pointer_of acted.new room.extent ≡ Some w)
     × AreFramesFrom (extent_of after room.extent w) room.place (copy ∷ [])

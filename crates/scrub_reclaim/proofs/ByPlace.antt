@@ -1,7 +1,6 @@
 -- The named locators sorted by the places that they point to, and those of one place among them.
-use Rattle.std.proofs.Common.{◌≡◌, ◌&&◌, ◌≤◌, ◌-◌, ℕ, true, false, not, List, [], length, get_or, map, take, drop, arith, refl, sym, ◌∙◌, ap, Ordering, Less, Equal, Greater, nat_cmp, is_eq, is_lt, is_le}
+use Rattle.std.proofs.Common.{◌≡◌, ◌&&◌, ◌≤◌, ◌-◌, ℕ, true, false, not, List, [], length, get_or, map, take, drop, arith, sym, ◌∙◌, ap, Ordering, nat_cmp, is_eq, is_lt, is_le}
 use Rattle.std.proofs.Math.Path.{ap₂}
-use Rattle.std.specs.Ordering.{ordering_reverse, ordering_then}
 use Rattle.std.specs.Cmp.{IsTotalOrder, nat_cmp_total}
 use Rattle.std.specs.List.{filter}
 use Rattle.std.specs.List.Sorted.{IsStableByKey, IsPartitionPoint, ties}
@@ -9,13 +8,13 @@ use Rattle.std.specs.Borrow.{Bor}
 use Rattle.std.proofs.lemmas.Slice.{between_is}
 use Rattle.std.proofs.lemmas.Cmp.{then_total, on_total}
 use Rattle.std.proofs.lemmas.List.Elements.{filter_agree}
+use Rattle.list_facts.proofs.Filters.{filter_between, filter_mapped}
+use Rattle.list_facts.proofs.Orders.{eq_if_neither_lt_nor_gt, is_eq-nat_cmp, is_eq-neither_lt, is_eq-ordering_then, not_eq_from_lt, not_eq_from_not_le}
 use Rattle.scrub_check.specs.declared.statuses.checked.Checked.{Checked}
 use Rattle.scrub_check.specs.declared.named.Owner.TheVariants.{Run}
 use Rattle.scrub_check.specs.declared.statuses.status.Status.TheVariants.{Sound}
-use Rattle.scrub_check.proofs.SortedPlaces.{same_number}
 use Rattle.scrub_reclaim.specs.steps.Moves.{PointAlike, target_cmp, place_pointed_to}
 use Rattle.scrub_reclaim.specs.Reclaimable.{points_to, pointing_to}
-use Rattle.scrub_check.proofs.Between.{filter_between, filter_mapped}
 
 -- the locator of a reference, and its place
 abbrev pub shown : Bor Checked → Checked
@@ -31,6 +30,7 @@ shown_cmp a b = target_cmp (place_shown a) (place_shown b)
 pub place_total : IsTotalOrder target_cmp
 place_total = then_total (on_total (λ (a : ℕ × ℕ). a.0) nat_cmp_total) (on_total (λ (a : ℕ × ℕ). a.1) nat_cmp_total)
 
+-- The order of references by the places of their locators is total.
 pub shown_total : IsTotalOrder shown_cmp
 shown_total = on_total place_shown place_total
 
@@ -45,21 +45,11 @@ probe e p = record {
   };
 }
 
-both : (r q : Ordering) → is_eq (ordering_then r q) ≡ (is_eq r && is_eq q)
-both Less q = refl
-both Equal q = refl
-both Greater q = refl
-
 -- a locator points to a place exactly if it is neither below nor above one that does
 pub points_there : (e p : ℕ) (one : Bor Checked) → points_to e p one.now ≡ is_eq (shown_cmp one (probe e p))
 points_there e p one =
     sym
-    (both (nat_cmp one.now.locator.extent e) (nat_cmp one.now.locator.offset p) ∙ ap₂ (λ a b. a && b) (same_number one.now.locator.extent e) (same_number one.now.locator.offset p))
-
-neither_below : (r : Ordering) → (not (is_lt (ordering_reverse r)) && not (is_lt r)) ≡ is_eq r
-neither_below Less = refl
-neither_below Equal = refl
-neither_below Greater = refl
+    (is_eq-ordering_then (nat_cmp one.now.locator.extent e) (nat_cmp one.now.locator.offset p) ∙ ap₂ (λ a b. a && b) (is_eq-nat_cmp one.now.locator.extent e) (is_eq-nat_cmp one.now.locator.offset p))
 
 -- that is, if neither is below the other
 pub ties_there : (e p : ℕ) (one : Bor Checked) →
@@ -67,7 +57,7 @@ pub ties_there : (e p : ℕ) (one : Bor Checked) →
 ties_there e p one =
     ap (λ (r : Ordering). not (is_lt r) && not (is_lt (shown_cmp one (probe e p))))
     (shown_total.antisymm (probe e p) one)
-    ∙ neither_below (shown_cmp one (probe e p)) ∙ sym (points_there e p one)
+    ∙ is_eq-neither_lt (shown_cmp one (probe e p)) ∙ sym (points_there e p one)
 
 -- the references to locators of a place
 abbrev pub shown_at : ℕ → ℕ → List (Bor Checked) → List (Bor Checked)
@@ -91,21 +81,6 @@ alike checked xs ys are stable e p =
     ∙ filter_mapped (points_to e p) shown xs
     ∙ ap (filter (points_to e p)) are
 
-not_less : (r : Ordering) → is_lt r ≡ true → is_eq r ≡ false
-not_less Less e = refl
-not_less Equal e = sym e
-not_less Greater e = refl
-
-is_equal : (r : Ordering) → is_lt r ≡ false → is_le r ≡ true → is_eq r ≡ true
-is_equal Less e f = sym e
-is_equal Equal e f = refl
-is_equal Greater e f = f
-
-not_more : (r : Ordering) → is_le r ≡ false → is_eq r ≡ false
-not_more Less e = refl
-not_more Equal e = e
-not_more Greater e = refl
-
 -- those of a place are between the ones below it and the ones above it
 pub found_there : (ys : List (Bor Checked)) (e p below through : ℕ) →
     IsPartitionPoint (λ one. is_lt (shown_cmp one (probe e p)) ≡ true) (λ one. is_lt (shown_cmp one (probe e p)) ≡ false) ys below →
@@ -113,9 +88,9 @@ pub found_there : (ys : List (Bor Checked)) (e p below through : ℕ) →
     below ≤ through → through ≤ length ys → shown_at e p ys ≡ drop below (take through ys)
 found_there ys e p below through lows highs le inside =
     filter_between (λ one. points_to e p one.now) ys below through le inside
-    (λ k d lt. points_there e p (get_or ys k d) ∙ not_less _ (lows.0 k d (omega arith) lt))
-    (λ k d from lt. points_there e p (get_or ys k d) ∙ is_equal _ (lows.1 k d from (omega (arith, lt, inside))) (highs.0 k d (omega arith) lt))
-    (λ k d from lt. points_there e p (get_or ys k d) ∙ not_more _ (highs.1 k d from lt))
+    (λ k d lt. points_there e p (get_or ys k d) ∙ not_eq_from_lt _ (lows.0 k d (omega arith) lt))
+    (λ k d from lt. points_there e p (get_or ys k d) ∙ eq_if_neither_lt_nor_gt _ (lows.1 k d from (omega (arith, lt, inside))) (highs.0 k d (omega arith) lt))
+    (λ k d from lt. points_there e p (get_or ys k d) ∙ not_eq_from_not_le _ (highs.1 k d from lt))
 
 -- so the part between them is those of the place
 pub part_there : (checked : List Checked) (ys : List (Bor Checked)) (e p below through : ℕ) →

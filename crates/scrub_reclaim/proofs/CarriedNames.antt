@@ -3,7 +3,8 @@
 use Rattle.std.proofs.Common.{◌≡◌, ℕ, ◌+◌, Option, Some, None, List, [], ◌∷◌, ◌++◌, get_or, arith, sym, ◌∙◌, subst}
 use Rattle.std.proofs.Math.Path.{ap₂}
 use Rattle.std.specs.List.{All, AllZip, flat_map, zip}
-use Rattle.std.proofs.lemmas.List.Elements.{All-cons, All-head, All-map, All-tail}
+use Rattle.std.proofs.lemmas.List.Elements.{All-cons, All-map, All-tail}
+use Rattle.list_facts.proofs.Zips.{AllZip-weaker}
 use Rattle.scrub_disk.specs.Image.{Image}
 use Rattle.scrub_frame.specs.declared.locator.Locator.{Locator}
 use Rattle.scrub_super.specs.Plan.{PlanValue}
@@ -29,15 +30,6 @@ use Rattle.scrub_found.proofs.OneIndex.{one_list_of_runs, one_list_of_checked, r
 use Rattle.scrub_reclaim.specs.Reset.{NameTheSame}
 
 -- ---- lists
-
--- a relation to each element that a property carries over
-zipped : {A B : Type 0} (P Q : A → B → Type 0) (K : A → Type 0) → ((a : A) (b : B) → K a → P a b → Q a b) →
-    (xs : List A) (ys : List B) → All K xs → AllZip P xs ys → AllZip Q xs ys
-zipped P Q K carry [] [] k h = h
-zipped P Q K carry [] (y ∷ ys) k h = absurd h
-zipped P Q K carry (x ∷ xs) [] k h = absurd h
-zipped P Q K carry (x ∷ xs) (y ∷ ys) k h =
-    (carry x y (All-head K x xs k) h.0, zipped P Q K carry xs ys (All-tail K x xs k) h.1)
 
 -- what holds of all named locators holds of those of the runs
 of_runs : (K : Locator → Type 0) (k : ℕ) (ls : List Locator) (ns : List Named) →
@@ -97,7 +89,7 @@ module _ (resets others : List ℕ) (before after : Image) (found rest : Scrubbe
     same = x.read.same;
     each =
         subst (λ (ls : List Locator). AllZip (OfRun after rest.plan) ls (zip found.read.runs found.read.states)) (sym runs)
-        (zipped (OfRun before found.plan) (OfRun after rest.plan) Same (λ l p c h. run_carries l c p.0 p.1 h) found.plan.runs (zip found.read.runs found.read.states) same_runs x.read.each);
+        (AllZip-weaker (OfRun before found.plan) (OfRun after rest.plan) Same (λ l p c h. run_carries l c p.0 p.1 h) found.plan.runs (zip found.read.runs found.read.states) same_runs x.read.each);
   }
 
   read : rest.read ≡ found.read

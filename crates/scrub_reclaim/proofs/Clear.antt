@@ -1,8 +1,9 @@
 -- The lines of what can be reclaimed are those of what was found, an image has one such text, and reclaiming is safe.
-use Rattle.std.proofs.Common.{◌≡◌, ◌++◌, ◌==◌, ◌&&◌, ℕ, Bool, true, false, List, [], ◌∷◌, append-nil, append_assoc, get_or, length, arith, sym, ap, ◌∙◌, inl, inr, if◌then◌else◌}
+use Rattle.std.proofs.Common.{◌≡◌, ◌++◌, ◌==◌, ◌&&◌, ℕ, Bool, true, false, List, [], ◌∷◌, append-nil, append_assoc, get_or, length, arith, sym, ap, ◌∙◌, if◌then◌else◌}
 use Rattle.std.specs.List.{Contains, flat_map}
 use Rattle.std.proofs.lemmas.Bool.{eq-eqb, eqb-true, false≢true}
-use Rattle.std.proofs.lemmas.List.Elements.{Contains-append_left, Contains-append_right, All-contains_itself}
+use Rattle.std.proofs.lemmas.List.Elements.{All-contains_itself}
+use Rattle.list_facts.proofs.Elements.{Contains-filter, Contains-flat_map, Contains-from_map, Contains-map}
 use Rattle.scrub_disk.specs.declared.geometry.Geometry.{Geometry}
 use Rattle.scrub_disk.specs.Image.{Image}
 use Rattle.scrub_scan.specs.Scanned.{Scanned}
@@ -10,7 +11,6 @@ use Rattle.scrub_super.specs.declared.pages.SuperblockPage.{SuperblockPage}
 use Rattle.scrub_super.specs.Planned.{extents_in_use}
 use Rattle.scrub_super.proofs.PageLaws.{one_list_of_pages}
 use Rattle.scrub_super.proofs.PlanParts.{plan_parts}
-use Rattle.scrub_frame.proofs.Elements.{Contains-cases, Contains-filter}
 use Rattle.scrub_check.specs.declared.lists.kept_chunk.KeptChunk.{KeptChunk}
 use Rattle.scrub_check.specs.declared.statuses.checked.Checked.{Checked}
 use Rattle.scrub_check.specs.declared.runs.RunState.{RunState}
@@ -19,7 +19,7 @@ use Rattle.scrub_check.specs.SafeCandidates.{IsKept, AreSafe}
 use Rattle.scrub_check.specs.WholeScan.{IsWholeScan}
 use Rattle.scrub_check.proofs.KeptChunks.{candidates_safe}
 use Rattle.scrub_check.proofs.ListsThere.{some_broken, some_shared}
-use Rattle.scrub_found.specs.Judged.{Beside, IsFound, found_in}
+use Rattle.scrub_found.specs.Judged.{Beside, IsFoundOn, found_in}
 use Rattle.scrub_report.specs.Report.{IsReport, report_text}
 use Rattle.scrub_found.specs.Scrubbed.{Scrubbed, IsScrubbed, is_in_doubt}
 use Rattle.scrub_found.proofs.FoundBeside.{beside, with_lists}
@@ -29,24 +29,25 @@ use Rattle.scrub_reclaim.specs.declared.doubts.Doubt.{Doubt}
 use Rattle.scrub_reclaim.specs.Doubts.{are_accepted, doubts_in}
 use Rattle.scrub_reclaim.specs.Reclaimable.{AreMoved, AreOfCandidates, AreReclaimLines, IsMoved, MoveValue, accepted_in, all_candidate_lines, candidate_lines, doubt_line, doubt_lines, doubts_for, is_clear, moves_of, pointing_to, points_to, reclaim_text, reclaimed, rooms_for}
 use Rattle.scrub_reclaim.specs.declared.gathered.Gathered.{Gathered}
-use Rattle.scrub_reclaim.specs.steps.Gathered.{IsGathered, doubts_of, lines_if}
+use Rattle.scrub_reclaim.specs.steps.Gathered.{IsGatheredOn, doubts_of, lines_if}
 use Rattle.scrub_reclaim.specs.Room.{room_lines}
-use Rattle.scrub_reclaim.proofs.Mapped.{made_of, of_made}
 
 -- ---- what the code writes
 
-module _ {D : Type 0} (image : Image) (g : Gathered D) (are : IsGathered image g) (pages : List SuperblockPage) (accepted : Acceptance) where
+module _ {D : Type 0} (image : Image) (g : Gathered D) (are : IsGatheredOn image g) (pages : List SuperblockPage) (accepted : Acceptance) where
   -- what is found beside what is gathered
   abbrev pub beside_gathered : Beside
   beside_gathered =
       beside [] image g.judged are.judged (some_shared g.judged.checked.items).0 (some_broken g.judged.checked.items).0 g.candidates.items
 
-  pub found_gathered : IsFound image g.judged beside_gathered
+  -- What was gathered, with what is found beside it, is what is found in the image.
+  pub found_gathered : IsFoundOn image g.judged beside_gathered
   found_gathered =
       let shared = some_shared g.judged.checked.items in
       let broken = some_broken g.judged.checked.items in
       with_lists [] image g.judged are.judged shared.0 broken.0 g.candidates.items shared.1 broken.1 are.candidates
 
+  -- What is found on the disk, by what was gathered.
   abbrev pub found_by : Scrubbed
   found_by = found_in g.judged beside_gathered
 
@@ -92,9 +93,11 @@ some_lines_of true geometry all checked (c ∷ cs) is some =
     ap (λ (b : Bool). all_candidate_lines checked (c ∷ cs) ++ (if b then [] else room_lines geometry all checked (c ∷ cs))) (sym some)
 
 module _ {D : Type 0} (clear : Bool) (g : Gathered D) where
+  -- Without candidates no line follows those of the doubts.
   pub no_lines : (old : List ℕ) → (length g.candidates.items == 0) ≡ true → old ≡ old ++ lines_if clear g
   no_lines old none = no_lines_of clear g.judged.scan.plan.geometry g.judged.scan.all.extents g.judged.checked.items g.candidates.items old none
 
+  -- If it is clear, the lines of the candidates and of the rooms follow those of the doubts.
   pub some_lines : clear ≡ true → (length g.candidates.items == 0) ≡ false →
       all_candidate_lines g.judged.checked.items g.candidates.items
       ++ room_lines g.judged.scan.plan.geometry g.judged.scan.all.extents g.judged.checked.items g.candidates.items ≡ lines_if clear g
@@ -103,6 +106,7 @@ module _ {D : Type 0} (clear : Bool) (g : Gathered D) where
 -- ---- one text, and one verdict
 
 module _ (image : Image) (accepted : Acceptance) where
+  -- For one acceptance an image has at most one text of what can be reclaimed, and one verdict.
   pub one_reclaim_lem : (a b : List ℕ) (v w : Bool) → AreReclaimLines image accepted a v → AreReclaimLines image accepted b w →
       (a ≡ b) × (v ≡ w)
   one_reclaim_lem a b v w x y =
@@ -130,15 +134,6 @@ module _ (image : Image) (accepted : Acceptance) where
 
 -- ---- what is reclaimed is safe
 
--- an element of a part is in the parts put together
-pub among_parts : {X A : Type 0} (f : X → List A) (xs : List X) (x : X) (y : A) → Contains xs x → Contains (f x) y →
-    Contains (flat_map f xs) y
-among_parts f [] x y (i, below, is) there = absurd (omega (arith, below))
-among_parts {X} {A} f (z ∷ xs) x y among there = elim (Contains-cases z xs x among) [
-  | inl here ↦ Contains-append_left (f z) (flat_map f xs) y (rw here there)
-  | inr later ↦ Contains-append_right (f z) (flat_map f xs) y (among_parts f xs x y later there)
-]
-
 -- a locator points to its own place
 own_place : (c : Checked) (e p : ℕ) → c.locator.extent ≡ e → c.locator.offset ≡ p → points_to e p c ≡ true
 own_place c e p same at =
@@ -153,13 +148,13 @@ moved checked a c there same k = record {
   kept = kept.1;
   start_is = kept.2;
   line =
-      among_parts (moves_of checked a.extent) a.chunks kept.0 (move_by kept.0.bytes c) kept.1
-      (of_made (move_by kept.0.bytes) (pointing_to checked a.extent kept.0.start) c
+      Contains-flat_map (moves_of checked a.extent) a.chunks kept.0 (move_by kept.0.bytes c) kept.1
+      (Contains-map (move_by kept.0.bytes) (pointing_to checked a.extent kept.0.start) c
       (Contains-filter (points_to a.extent kept.0.start) checked c (own_place c a.extent kept.0.start same (sym kept.2)) there));
 }
   where
     kept : (chunk : KeptChunk) × Contains a.chunks chunk × (chunk.start ≡ c.locator.offset)
-    kept = made_of (λ (chunk : KeptChunk). chunk.start) a.chunks c.locator.offset k.kept
+    kept = Contains-from_map (λ (chunk : KeptChunk). chunk.start) a.chunks c.locator.offset k.kept
 
     move_by : ℕ → Checked → MoveValue
     move_by bytes d = record { named = d; bytes = bytes }
@@ -177,6 +172,7 @@ whole image found x = record {
   findings = x.all;
 }
 
+-- Each named locator into an extent to reclaim is sound and among the moves out of it.
 pub safe_to_reclaim : (image : Image) (accepted : Acceptance) (pages : List SuperblockPage) (found : Scrubbed) →
     IsScrubbed image found → AreMoved found.checked (reclaimed accepted pages found)
 safe_to_reclaim image accepted pages found x = by (is_clear accepted pages found)

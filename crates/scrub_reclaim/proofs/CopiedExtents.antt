@@ -5,7 +5,7 @@ use Rattle.std.specs.List.{Contains, find, list_any}
 use Rattle.std.specs.Option.{option_and_then}
 use Rattle.std.proofs.lemmas.Bool.{eqb-true}
 use Rattle.scrub_disk.specs.declared.geometry.Geometry.{Geometry}
-use Rattle.scrub_disk.specs.Image.{Image, byte}
+use Rattle.scrub_disk.specs.Image.{Image, image_byte}
 use Rattle.scrub_frame.specs.declared.form.Form.{Form}
 use Rattle.scrub_frame.specs.declared.locator.Locator.{Locator}
 use Rattle.scrub_super.specs.Plan.{PlanValue, pointer_of}
@@ -65,7 +65,7 @@ form_there image w l all f g u b entry tiled there =
 -- below a place that isn't below the old pointer, nor above the new one, an extent has the same bytes, and its items are grown
 pub record IsFilled (before after : Image) (e w v place : ℕ) (old new : List Item) : Type 0 where
   pub sizes : after.geometry ≡ before.geometry
-  pub kept : (p : ℕ) → p < place → byte after e p ≡ byte before e p
+  pub kept : (p : ℕ) → p < place → image_byte after e p ≡ image_byte before e p
   pub above : w ≤ place
   pub moved : place ≤ v
   pub was : IsTiling (extent_of before e w) old

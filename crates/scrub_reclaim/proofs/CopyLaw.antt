@@ -1,14 +1,16 @@
 -- Copies into room lose nothing: each chunk is still one, the same is named with the same statuses, and what was copied is found.
 use Rattle.std.proofs.Common.{◌≡◌, ◌≢◌, ◌⊎◌, ◌<◌, ◌≤◌, ◌==◌, ◌&&◌, ◌||◌, ℕ, Bool, true, false, not, nat_lt, is_none, Option, Some, None, List, [], ◌∷◌, length, get_or, arith, refl, sym, ◌∙◌, ap, subst, inl, inr, if◌then◌else◌}
 use Rattle.std.proofs.Math.Path.{fun_ext}
-use Rattle.std.specs.List.{All, AllZip, Contains, cons_option, count_by, filter_map, find}
+use Rattle.std.specs.List.{All, AllZip, Contains, count_by, find}
 use Rattle.std.specs.Option.{option_and_then}
 use Rattle.std.proofs.lemmas.Bool.{and_parts, eq-eqb, eqb-true, false≢true, ltb-false}
 use Rattle.std.proofs.lemmas.Grind.{common_steps}
 use Rattle.std.proofs.lemmas.Option.{same_Some}
 use Rattle.std.proofs.lemmas.List.Elements.{All-contains, All-contains_itself, All-filter}
+use Rattle.list_facts.proofs.Elements.{Contains-behind, Contains-cases, Contains-filter_map, Contains-from_filter_map, Contains-from_map, Contains-map}
+use Rattle.list_facts.proofs.Bools.{false_from_not}
 use Rattle.scrub_disk.specs.declared.geometry.Geometry.{Geometry}
-use Rattle.scrub_disk.specs.Image.{Image, byte, extent_bytes}
+use Rattle.scrub_disk.specs.Image.{Image, image_byte, extent_bytes}
 use Rattle.scrub_frame.specs.declared.locator.Locator.{Locator}
 use Rattle.scrub_super.specs.Plan.{PlanValue, pointer_of}
 use Rattle.scrub_super.proofs.PlanParts.{plan_parts}
@@ -22,10 +24,9 @@ use Rattle.scrub_scan.specs.Scanned.{Scanned}
 use Rattle.scrub_scan.specs.Tiling.{IsTiling}
 use Rattle.scrub_scan.proofs.Tilings.{one_tiling}
 use Rattle.scrub_merge.specs.Binding.{BindingValue}
-use Rattle.scrub_frame.proofs.Elements.{Contains-behind, Contains-cases}
 use Rattle.scrub_check.specs.declared.statuses.checked.Checked.{Checked}
 use Rattle.scrub_check.specs.declared.statuses.status.Status.{Status}
-use Rattle.scrub_check.specs.declared.statuses.status.Status.TheVariants.{OutOfRange, Retired, PastPointer, Unreadable, NoFrame, WrongUuid, WrongLength, WrongDigest, Hidden, Sound}
+use Rattle.scrub_check.specs.declared.statuses.status.Status.TheVariants.{Sound}
 use Rattle.scrub_check.specs.Candidates.{has_sound_alone}
 use Rattle.scrub_check.specs.Checked.{is_hidden, is_sound}
 use Rattle.scrub_check.specs.ChunkForms.{form_at, form_of}
@@ -33,6 +34,7 @@ use Rattle.scrub_check.specs.Live.{is_chunk}
 use Rattle.scrub_check.specs.Runs.{ReadRunsValue}
 use Rattle.scrub_check.specs.Spares.{frame_of_item, frames, frames_in, spares_of}
 use Rattle.scrub_check.specs.Status.{HasStatusIn}
+use Rattle.scrub_check.proofs.RunStates.{Sound_from_is_sound}
 use Rattle.scrub_found.specs.Scrubbed.{Scrubbed, IsScrubbed, is_clean_extent, is_clean_item}
 use Rattle.scrub_found.proofs.OneReader.{one_scanned}
 use Rattle.scrub_found.proofs.OneScrub.{one_scrub}
@@ -44,9 +46,9 @@ use Rattle.scrub_reclaim.specs.Room.{IsRoom, has_room, is_zero_to, may_grow, nex
 use Rattle.scrub_reclaim.proofs.CarriedNames.{Carries, named_alike}
 use Rattle.scrub_reclaim.proofs.CopiedExtents.{IsFilled, filled_carries, form_there, sound_chunk, sound_under, zero_there}
 use Rattle.scrub_reclaim.proofs.NextPlaces.{Grown, chunk_of, frames_are_chunks, grown, place_above}
-use Rattle.scrub_reclaim.proofs.Reset.{HaveTheSameForms, IsScannedBy, IsTheSame, alike_items, carries, in_disk, one_plan_in, same_numbers, same_verdict, scanned_by}
+use Rattle.scrub_reclaim.proofs.Reset.{one_plan_in, same_verdict}
+use Rattle.scrub_reclaim.proofs.SameExtents.{HaveTheSameForms, IsScannedBy, IsTheSame, alike_items, carries, in_disk, same_numbers, scanned_by}
 use Rattle.scrub_reclaim.proofs.ResetForms.{along, frames_along, spare_among, spare_too}
-use Rattle.scrub_reclaim.proofs.Mapped.{made_of, of_made}
 use Rattle.scrub_reclaim.proofs.RoomLines.{shows_room}
 use Rattle.scrub_reclaim.proofs.SparedTexts.{IsSaidAlike, said_alike, texts_alike}
 
@@ -68,39 +70,6 @@ room_cases (r ∷ rooms) e = by (r.extent == e) refl (room_cases rooms e)
     by true same rest = inl (r, (0, omega arith, refl), eqb-true r.extent e same)
     by false other (inl (s, there, is)) = inl (s, Contains-behind r rooms s there, is)
     by false other (inr none) = inr (λ there. neither other none (Contains-cases r.extent (extents_of rooms) e there))
-
--- the elements that give something
-gives : {X Y : Type 0} (h : X → Option Y) (xs : List X) (y : Y) → Contains (filter_map h xs) y →
-    (x : X) × Contains xs x × (h x ≡ Some y)
-gives h [] y there = absurd (omega (arith, there.1))
-gives {X} {Y} h (x ∷ xs) y there = by (h x) refl there (gives h xs y)
-  where
-    behind : (z : X) × Contains xs z × (h z ≡ Some y) → (z : X) × Contains (x ∷ xs) z × (h z ≡ Some y)
-    behind (z, there, is) = (z, Contains-behind x xs z there, is)
-
-    first : (v : Y) → h x ≡ Some v → (v ≡ y) ⊎ Contains (filter_map h xs) y →
-        (Contains (filter_map h xs) y → (z : X) × Contains xs z × (h z ≡ Some y)) → (z : X) × Contains (x ∷ xs) z × (h z ≡ Some y)
-    first v is (inl here) rest = (x, (0, omega arith, refl), is ∙ ap Some here)
-    first v is (inr later) rest = behind (rest later)
-
-    by : (o : Option Y) → h x ≡ o → Contains (cons_option o (filter_map h xs)) y →
-        (Contains (filter_map h xs) y → (z : X) × Contains xs z × (h z ≡ Some y)) → (z : X) × Contains (x ∷ xs) z × (h z ≡ Some y)
-    by None is here rest = behind (rest here)
-    by (Some v) is here rest = first v is (Contains-cases v (filter_map h xs) y here) rest
-
-given : {X Y : Type 0} (h : X → Option Y) (xs : List X) (x : X) (y : Y) → Contains xs x → h x ≡ Some y → Contains (filter_map h xs) y
-given h [] x y there is = absurd (omega (arith, there.1))
-given {X} {Y} h (z ∷ xs) x y there is = by (h z) refl (Contains-cases z xs x there) (λ later. given h xs x y later is)
-  where
-    none : None ≡ Some y → ⊥
-    none e = cc
-
-    by : (o : Option Y) → h z ≡ o → (z ≡ x) ⊎ Contains xs x → (Contains xs x → Contains (filter_map h xs) y) →
-        Contains (cons_option o (filter_map h xs)) y
-    by None e (inl here) rest = absurd (none (sym e ∙ ap h here ∙ is))
-    by None e (inr later) rest = rest later
-    by (Some v) e (inl here) rest = (0, omega arith, same_Some v y (sym e ∙ ap h here ∙ is))
-    by (Some v) e (inr later) rest = Contains-behind v (filter_map h xs) y (rest later)
 
 -- what has some elements still does if it has all of the old ones
 some_still : {X : Type 0} (xs ys : List X) → ((x : X) → Contains xs x → Contains ys x) → (length xs == 0) ≡ false →
@@ -191,8 +160,8 @@ frame_of_chunk e (Lost start stop) s is = absurd (none s is)
 
 frames_kept_in : (f g : Scanned) (s : Standing) → IsKept f g → Contains (frames_in f) s → Contains (frames_in g) s
 frames_kept_in f g s kept there =
-    let from = gives (frame_of_item f.extent) f.findings.items s there in
-    given (frame_of_item g.extent) g.findings.items from.0 s
+    let from = Contains-from_filter_map (frame_of_item f.extent) f.findings.items s there in
+    Contains-filter_map (frame_of_item g.extent) g.findings.items from.0 s
     (kept.chunks from.0 from.1 (frame_of_chunk f.extent from.0 s from.2))
     (ap (λ (e : ℕ). frame_of_item e from.0) kept.extent ∙ from.2)
 
@@ -201,20 +170,6 @@ spares_kept : (fs gs : List Scanned) (c : Checked) (s : Standing) → AllZip IsK
 spares_kept fs gs c s zip there =
     spare_too c (frames fs) (frames gs) s there
     (frames_along IsKept s (λ f g kept inside. frames_kept_in f g s kept inside) fs gs zip (spare_among c (frames fs) (frames gs) s there))
-
--- ---- statuses
-
-sound_is : (s : Status) → is_sound s ≡ true → s ≡ Sound
-sound_is Sound is = refl
-sound_is OutOfRange is = absurd (false≢true is)
-sound_is Retired is = absurd (false≢true is)
-sound_is PastPointer is = absurd (false≢true is)
-sound_is Unreadable is = absurd (false≢true is)
-sound_is NoFrame is = absurd (false≢true is)
-sound_is WrongUuid is = absurd (false≢true is)
-sound_is WrongLength is = absurd (false≢true is)
-sound_is WrongDigest is = absurd (false≢true is)
-sound_is Hidden is = absurd (false≢true is)
 
 -- ---- the extents of a disk
 
@@ -266,8 +221,8 @@ module _ (rooms : List RoomValue) (before after : Image) (found rest : Scrubbed)
   -- and is scanned after the copies
   scanned_after : (f : Scanned) → Contains found.all f → (g : Scanned) × Contains rest.all g × (g.extent ≡ f.extent)
   scanned_after f there =
-      made_of (λ (h : Scanned). h.extent) rest.all f.extent
-      (subst (λ (ns : List ℕ). Contains ns f.extent) (sym numbers) (of_made (λ (h : Scanned). h.extent) found.all f there))
+      Contains-from_map (λ (h : Scanned). h.extent) rest.all f.extent
+      (subst (λ (ns : List ℕ). Contains ns f.extent) (sym numbers) (Contains-map (λ (h : Scanned). h.extent) found.all f there))
 
   has_room_there : (r : RoomValue) → Contains rooms r → (f : Scanned) → IsScannedBy before found.plan f → f.extent ≡ r.extent → HasRoom r f
   has_room_there r there f known number =
@@ -275,10 +230,6 @@ module _ (rooms : List RoomValue) (before after : Image) (found rest : Scrubbed)
       let is = known_before s.0 s.1 in
       let same : s.0 ≡ f = one_scanned before found.plan s.0 f (s.2 ∙ sym number) is.0 known.0 is.1 known.1 in
       subst (λ (h : Scanned). HasRoom r h) same s.3
-
-  not_true : (b : Bool) → not b ≡ true → b ≡ false
-  not_true true e = absurd (false≢true e)
-  not_true false e = refl
 
   -- the named locators into it are sound, and a frame fits
   alone : (r : RoomValue) (f : Scanned) → HasRoom r f → has_sound_alone found.checked f ≡ true
@@ -291,7 +242,7 @@ module _ (rooms : List RoomValue) (before after : Image) (found rest : Scrubbed)
       let space : not (nat_lt (room_in g f) 38) ≡ true =
       (and_parts (is_zero_to (place_in g f) f) (not (nat_lt (room_in g f) 38)) (and_parts (may_grow found.checked f) (room_fits g f) h.fits).1).1 in
       let some : 38 ≤ room_in g f =
-      ltb-false (room_in g f) 38 (not_true (nat_lt (room_in g f) 38) space) in
+      ltb-false (room_in g f) 38 (false_from_not (nat_lt (room_in g f) 38) space) in
       let size : extent_bytes g ≡ extent_bytes before.geometry = ap extent_bytes ((plan_parts found.choice found.plan x.plan).geometry ∙ x.choice.geometry) in
       omega (arith, some, h.place_is, size)
 
@@ -343,19 +294,19 @@ module _ (rooms : List RoomValue) (before after : Image) (found rest : Scrubbed)
           let same : m.0 ≡ g.pointer = same_Some m.0 g.pointer (sym m.1 ∙ ap (pointer_of rest.plan) (sym new) ∙ here.0) in
           omega (arith, m.2, same)
 
-      kept : (p : ℕ) → p < r.place → byte after r.extent p ≡ byte before r.extent p
-      kept = All-contains (λ (s : RoomValue). (p : ℕ) → p < s.place → byte after s.extent p ≡ byte before s.extent p) rooms r c.kept there
+      kept : (p : ℕ) → p < r.place → image_byte after r.extent p ≡ image_byte before r.extent p
+      kept = All-contains (λ (s : RoomValue). (p : ℕ) → p < s.place → image_byte after s.extent p ≡ image_byte before s.extent p) rooms r c.kept there
 
-      readable : (p : ℕ) → p < extent_bytes after.geometry → byte after r.extent p ≢ None
-      readable = All-contains (λ (s : RoomValue). (p : ℕ) → p < extent_bytes after.geometry → byte after s.extent p ≢ None) rooms r c.readable there
+      readable : (p : ℕ) → p < extent_bytes after.geometry → image_byte after r.extent p ≢ None
+      readable = All-contains (λ (s : RoomValue). (p : ℕ) → p < extent_bytes after.geometry → image_byte after s.extent p ≢ None) rooms r c.readable there
 
       is : IsTiling (extent_of after r.extent g.pointer) g.findings.items
       is = subst (λ (e : ℕ). IsTiling (extent_of after e g.pointer) g.findings.items) new here.1.tiled
 
-      zero : (p : ℕ) → f.pointer ≤ p → p < r.place → byte before r.extent p ≡ Some 0
+      zero : (p : ℕ) → f.pointer ≤ p → p < r.place → image_byte before r.extent p ≡ Some 0
       zero p low high =
           let size : extent_bytes after.geometry ≡ extent_bytes before.geometry = ap extent_bytes c.sizes in
-          zero_there (byte before r.extent p) (shown.zeros p low high) (λ none. readable p (omega (arith, high, enough r f room, size)) (kept p high ∙ none))
+          zero_there (image_byte before r.extent p) (shown.zeros p low high) (λ none. readable p (omega (arith, high, enough r f room, size)) (kept p high ∙ none))
 
   -- an extent without copies is the same
   the_same : (e : ℕ) → ¬ Contains (extents_of rooms) e → IsTheSame before after found.plan rest.plan e
@@ -388,7 +339,7 @@ module _ (rooms : List RoomValue) (before after : Image) (found rest : Scrubbed)
   -- a named locator into a room is sound
   sound_in : (r : RoomValue) → Contains rooms r → (i : ℕ) (d : Checked) → i < length found.checked →
       r.extent ≡ (get_or found.checked i d).locator.extent → (get_or found.checked i d).status ≡ Sound
-  sound_in r there i d below number = sound_is one.status (by (one.locator.extent == s.0.extent) (is_sound one.status) same passes)
+  sound_in r there i d below number = Sound_from_is_sound one.status (by (one.locator.extent == s.0.extent) (is_sound one.status) same passes)
     where
       s : (f : Scanned) × Contains found.all f × (f.extent ≡ r.extent) × HasRoom r f
       s = scanned_room r there
@@ -458,9 +409,11 @@ module _ (rooms : List RoomValue) (before after : Image) (found rest : Scrubbed)
 
   -- ---- the law
 
+  -- After copies into rooms the same is named as before.
   pub names_alike : NameTheSame found rest
   names_alike = named_alike [] [] before after found rest x y plans.has plans.runs plans.retired carry forms
 
+  -- After copies each room's extent has its old chunks, and whole frames from the place on are chunks.
   pub holds_copies : All (λ (r : RoomValue). HoldsCopies after found rest r) rooms
   holds_copies i d below =
       let r : RoomValue = get_or rooms i d in
@@ -486,7 +439,7 @@ module _ (rooms : List RoomValue) (before after : Image) (found rest : Scrubbed)
   said i d below =
       let k : Checked = get_or found.checked i d in
       said_alike (form_at found.all k.locator) (form_at rest.all k.locator) (spares_of found.all k) (spares_of rest.all k) k
-      (λ sound. forms i d below (sound_is k.status sound))
+      (λ sound. forms i d below (Sound_from_is_sound k.status sound))
       (some_still (spares_of found.all k) (spares_of rest.all k) (λ s. spares_kept found.all rest.all k s all_kept))
 
   texts : IsSameButSpares (manifest_text found) (manifest_text rest)
@@ -503,6 +456,7 @@ module _ (rooms : List RoomValue) (before after : Image) (found rest : Scrubbed)
       same = λ i. of (sym names_alike.superblock i) (sym names_alike.retired i) (sym names_alike.read i) (sym names_alike.bindings i) (sym names_alike.checked i)
 
 module _ (rooms : List RoomValue) (before after : Image) where
+  -- After copies the manifest is the same, but that `none` may be `spare`, and so is its verdict.
   pub same_but_spares : (a b : List ℕ) (v w : Bool) → IsAfterCopies rooms before after → IsManifest before a v → IsManifest after b w →
       IsSameButSpares a b × (v ≡ w)
   same_but_spares a b v w c x y = (

@@ -62,12 +62,15 @@ module _ (p : Doubt → Bool) (last : Option ℕ) (pages : List SuperblockPage) 
   to_remains =
       (split p (front ++ spares ++ remains) tails (split p (front ++ spares ++ remains ++ tails) (flat_map (tail_lost_doubts page) found.all) all).0).0
 
+  -- If `p` holds of all doubts, it holds of those that remains make.
   pub of_remains : list_all p remains ≡ true
   of_remains = (split p (front ++ spares) remains to_remains).1
 
+  -- If `p` holds of all doubts, it holds of those that spares make.
   pub of_spares : list_all p spares ≡ true
   of_spares = (split p front spares (split p (front ++ spares) remains to_remains).0).1
 
+  -- If `p` holds of all doubts, it holds of that of the last superblock.
   pub of_last : list_all p by_last ≡ true
   of_last =
       let to_front : list_all p front ≡ true = (split p front spares (split p (front ++ spares) remains to_remains).0).0 in

@@ -6,6 +6,7 @@ use Rattle.scrub_found.proofs.Existing.{some_scrub}
 use Rattle.scrub_reclaim.specs.Doubts.{Acceptance}
 use Rattle.scrub_reclaim.specs.Reclaimable.{AreReclaimLines, is_clear, reclaim_text}
 
+-- Whatever is accepted, each image has a text of what can be reclaimed, and a verdict.
 pub some_reclaim_listing : (image : Image) (accepted : Acceptance) →
     (text : List ℕ) × (clear : Bool) × AreReclaimLines image accepted text clear
 some_reclaim_listing image accepted =

@@ -29,6 +29,7 @@ plan_under n w = plan_of (choice_of n w)
 abbrev pub scanned : ℕ → Findings → Scanned
 scanned w f = record { extent = 1; pointer = w; findings = f }
 
+-- Of a small disk extent 1 alone is scanned, with what is found there.
 pub all_found : (n w : ℕ) (xs : List ℕ) (f : Findings) → IsFindings (disk n w xs) 1 w f →
     AreAllFindings (disk n w xs) (plan_under n w) (scanned w f ∷ [])
 all_found n w xs f is = record {
@@ -47,9 +48,11 @@ all_found n w xs f is = record {
 abbrev pub none_read : ReadRunsValue
 none_read = record { runs = []; states = [] }
 
+-- A small disk names no index run, so none is read.
 pub no_runs : (n w : ℕ) (xs : List ℕ) → AreReadRuns (disk n w xs) (plan_under n w) none_read
 no_runs n w xs = record { same = refl; each = tt }
 
+-- The shard map of no runs has no bindings.
 pub no_bindings : IsShardMap [] []
 no_bindings = record {
   bindings_of_map = record {
@@ -60,12 +63,14 @@ no_bindings = record {
   all = λ b is some. absurd (none-some (Some is.entry.entries) is.entry.is_read);
 }
 
+-- Without runs and bindings no locator is named, so none is checked.
 pub none_named : (n w : ℕ) (xs : List ℕ) → AreChecked (disk n w xs) (plan_under n w) (named_locators [] []) []
 none_named n w xs = record {
   same = refl;
   statuses = All-nil (λ (c : Checked). HasStatusIn (disk n w xs) (plan_under n w) c.locator c.status);
 }
 
+-- Without locators no place is shared.
 pub none_shared : AreShared [] []
 unfolding IsStrictlySortedBy
 none_shared = record {
@@ -73,6 +78,7 @@ none_shared = record {
   exact = λ s. ((λ there. absurd (omega (arith, there.1))), (λ h. absurd (omega (arith, h))));
 }
 
+-- Without locators no shard is broken.
 pub none_broken : AreBrokenShards [] []
 none_broken = record {
   rising = λ i j d lt here. absurd (omega (arith, here));
@@ -83,10 +89,12 @@ none_broken = record {
 abbrev pub all_free : CandidateValue
 all_free = record { extent = 1; free = 64; chunks = [] }
 
+-- Under the pointer 64 extent 1 is the one candidate, and all its 64 bytes are freed.
 pub one_candidate : (n : ℕ) → AreCandidates (plan_under n 64) (scanned 64 one_pad ∷ []) [] false (all_free ∷ [])
 unfolding IsStrictlySortedBy
 one_candidate n = record { filtered = IsPermutation-refl (all_free ∷ []); ordered = (tt, tt) }
 
+-- Under the pointer 0 there is no candidate.
 pub no_candidate : (n : ℕ) → AreCandidates (plan_under n 0) (scanned 0 nothing ∷ []) [] false []
 unfolding IsStrictlySortedBy
 no_candidate n = record { filtered = IsPermutation-refl []; ordered = tt }

@@ -66,6 +66,7 @@ apart_with : (q : ℕ) (rs : List PageRange) → AreApart rs → AreApart (with_
 apart_with q [] apart = tt
 apart_with q (r ∷ rs) apart = apart_by (q + 1 == r.first) q r rs refl apart
 
+-- Ranges by `page_ranges` have just these pages, and none is empty or directly followed by the next.
 pub joined_pages : (pages : List ℕ) → AreJoined pages (page_ranges pages)
 joined_pages [] = record { filled = no_ranges; same = refl; apart = tt }
 joined_pages (q ∷ qs) =

@@ -43,6 +43,7 @@ the_one : (o : Option Contents) (last : ℕ) → option_map_or (λ c. c.generati
 the_one None last e = absurd (false≢true e)
 the_one (Some c) last e = (c, refl, eqb-true c.generation last e)
 
+-- If `last` is given and an extent is listed, the superblock that counts has this generation.
 pub by_last : (accepted : Acceptance) (last : ℕ) (pages : List SuperblockPage) (found : Scrubbed) → accepted.last ≡ Some last →
     reclaimed accepted pages found ≢ [] → IsListedByLast last accepted pages found
 by_last accepted last pages found given some = by (is_clear accepted pages found) refl

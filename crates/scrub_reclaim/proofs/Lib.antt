@@ -1,27 +1,35 @@
--- The lemmas of this crate.
+-- Lemmas on doubts, extents to reclaim and room, and on what resets and copies keep.
+
+-- pages, moves and room, as the code finds them
 pub mod PageRanges
 pub mod JoinedPages
 pub mod ByPlace
 pub mod MoveLines
-pub mod Mapped
-pub mod Clear
+pub mod RoomLines
+-- doubts, and what follows if none of a kind is accepted
 pub mod RunDoubts
 pub mod RemainsDoubts
+pub mod SpareDoubts
 pub mod DoubtParts
 pub mod LastLaw
 pub mod RemainsLaw
-pub mod SpareDoubts
 pub mod SpareLaw
+-- the whole text, and that reclaiming is safe
+pub mod Clear
+-- what a reset keeps
 pub mod ResetForms
 pub mod CarriedNames
+pub mod SameExtents
 pub mod Reset
 pub mod ResetSpares
+-- what a copy into room keeps
 pub mod NextPlaces
 pub mod SparedTexts
 pub mod CopiedExtents
 pub mod CopyLaw
-pub mod RoomLines
+-- sound disks
 pub mod SoundDisks
+-- that there is an answer; disks that meet the premises
 pub mod Existing
 pub mod SmallDisks
 pub mod FoundOnSmallDisks

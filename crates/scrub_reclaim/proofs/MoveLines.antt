@@ -7,10 +7,10 @@ use Rattle.std.proofs.lemmas.List.{get_or-map, length-map}
 use Rattle.std.proofs.lemmas.List.Sorted.{list_any-IsPermutation}
 use Rattle.std.proofs.lemmas.Grind.{flat_map-append}
 use Rattle.std.proofs.lemmas.List.Folds.{flat_map-map, list_any_at}
+use Rattle.list_facts.proofs.Filters.{filter_in, filter_out}
 use Rattle.scrub_check.specs.declared.lists.kept_chunk.KeptChunk.{KeptChunk}
 use Rattle.scrub_check.specs.declared.statuses.checked.Checked.{Checked}
 use Rattle.scrub_check.specs.Candidates.{CandidateValue}
-use Rattle.scrub_check.proofs.Between.{filter_in, filter_out}
 use Rattle.scrub_listings.proofs.SpareLines.{flat_same}
 use Rattle.scrub_reclaim.specs.Reclaimable.{MoveValue, all_candidate_lines, candidate_lines, move_line, moves, moves_of, pointing_to, points_to, reclaim_line}
 use Rattle.scrub_reclaim.specs.steps.Moves.{kept_lines, named_in}
@@ -70,6 +70,7 @@ flat_parts : {X Y Z : Type 0} (f : Y → List Z) (g : X → List Y) (xs : List X
 flat_parts f g [] = refl
 flat_parts {X} {Y} {Z} f g (x ∷ xs) = flat_map-append f (g x) (flat_map g xs) ∙ ap (λ (u : List Z). flat_map f (g x) ++ u) (flat_parts f g xs)
 
+-- The lines of a candidate's moves are those of its chunks to keep, one chunk after another.
 pub by_chunk : (checked : List Checked) (a : CandidateValue) →
     flat_map (kept_lines checked a.extent) a.chunks ≡ flat_map move_line (moves checked a)
 by_chunk checked a =

@@ -7,14 +7,14 @@ use Rattle.std.proofs.lemmas.Bool.{cases_lt, eq-eqb, eqb-true, false≢true}
 use Rattle.std.proofs.lemmas.List.Elements.{All-contains, All-head, All-tail}
 use Rattle.std.proofs.lemmas.Nat.{div-add-mod'}
 use Rattle.sha2.specs.Sha256.{sha256}
+use Rattle.list_facts.proofs.Elements.{Contains-behind, Contains-cases}
 use Rattle.scrub_frame.specs.declared.form.Form.{Form}
 use Rattle.scrub_frame.specs.declared.form.Form.TheVariants.{Plain, Sealed}
 use Rattle.scrub_frame.specs.Frame.{frame_overhead}
 use Rattle.scrub_frame.proofs.Frames.{length-frame}
-use Rattle.scrub_frame.proofs.Elements.{Contains-behind, Contains-cases}
 use Rattle.scrub_scan.specs.declared.item.Item.{Item}
 use Rattle.scrub_scan.specs.declared.item.Item.TheVariants.{Chunk, Pad, Torn, Noise, Lost}
-use Rattle.scrub_scan.specs.Extent.{Extent, FrameAt, NoFrameAt, bound}
+use Rattle.scrub_scan.specs.Extent.{Extent, FrameAt, NoFrameAt, bound_above}
 use Rattle.scrub_scan.specs.Item.{start_of, stop_of, IsItem}
 use Rattle.scrub_scan.specs.Tiling.{Joins, IsTiling}
 use Rattle.scrub_scan.proofs.FrameBytes.{first_byte}
@@ -28,9 +28,6 @@ use Rattle.scrub_reclaim.specs.Room.{ends_in_chunk, next_place}
 
 -- the page bound above a place is that above the pointer, or the pointer if that is at a bound
 module _ (page p w : ℕ) (pos : 0 < page) (below : p < w) (within : w ≤ (p / page + 1) * page) where
-  rest_of_p : p % page < page
-  rest_of_p = mod-lt p pos
-
   rest_of_w : w % page < page
   rest_of_w = mod-lt w pos
 
@@ -106,6 +103,7 @@ overhead_some Sealed = omega arith
 abbrev pub chunk_of : ℕ → Form → List ℕ → List ℕ → Item
 chunk_of p f u b = Chunk f p (p + (length b + frame_overhead f)) u (length b) (sha256 b)
 
+-- A frame in an extent fits there as a chunk.
 pub chunk_is_item : (x : Extent) (p : ℕ) (f : Form) (u b : List ℕ) → FrameAt x p f u b → IsItem x (chunk_of p f u b)
 chunk_is_item x p f u b placed = record {
   below = omega (arith, placed.fits, overhead_some f);
@@ -160,7 +158,7 @@ no_frame_at_zero x p is f u b h = differ (sym is ∙ first_byte x p f u b h)
     differ e = cc
 
 -- zeros up to the bound are an item
-zeros_are_item : (x : Extent) (start stop : ℕ) → start < x.pointer → start < stop → stop ≡ bound x start →
+zeros_are_item : (x : Extent) (start stop : ℕ) → start < x.pointer → start < stop → stop ≡ bound_above x start →
     ((i : ℕ) → start ≤ i → i < stop → x.byte i ≡ Some 0) → IsItem x (Pad start stop)
 zeros_are_item x start stop below some to all = record {
   below = below;
@@ -230,7 +228,7 @@ module _ (x y : Extent) (o : ℕ) (pos : 0 < x.page) (page : y.page ≡ x.page) 
     );
   }
 
-  bound_after : (p : ℕ) → bound y p ≡ min y.pointer ((p / x.page + 1) * x.page)
+  bound_after : (p : ℕ) → bound_above y p ≡ min y.pointer ((p / x.page + 1) * x.page)
   bound_after p = ap (λ n. min y.pointer ((p / n + 1) * n)) page
 
   -- zeros that stop below the old pointer
@@ -303,6 +301,7 @@ module _ (x y : Extent) (o : ℕ) (pos : 0 < x.page) (page : y.page ≡ x.page) 
       more item new (next ∷ olds) news (λ is. same)
       (grow (stop_of item) next olds news joins.1 (subst (λ (i : Item). Joins (stop_of i) y.pointer news) same joined.1) behind (All-tail (IsItem y) new news fits) (All-tail (λ i. is_clean_item i ≡ true) item (next ∷ olds) clean) place)
 
+  -- If all bytes before the place are kept, each old chunk is a new one, and new items begin at the place.
   pub grown : (olds news : List Item) → IsTiling x olds → IsTiling y news → All (λ i. is_clean_item i ≡ true) olds →
       o ≡ next_place x.page x.pointer olds → Grown y o olds news
   grown [] news was tiled clean place =

@@ -70,11 +70,13 @@ ranges_more ps i d below = ap page_ranges (take_more ps i d below) ∙ ranges_pu
 
 -- a page after ranges, whether it follows the last one directly or not
 module _ (old rest : List PageRange) (r : PageRange) (q : ℕ) (split : old ≡ rest ++ r ∷ []) where
+  -- A page that follows the last range directly becomes the end of this range.
   pub joined_neighbour : (r.last + 1 == q) ≡ true → rest ++ up_to_page r q ∷ [] ≡ joined_with old q
   joined_neighbour e =
       sym
       (ap (λ (rs : List PageRange). joined_with rs q) split ∙ joined_behind rest r q ∙ ap (λ b. rest ++ last_joined b r q) e)
 
+  -- Any other page becomes a range of its own behind the last one.
   pub joined_alone : (r.last + 1 == q) ≡ false → (rest ++ r ∷ []) ++ alone q ∷ [] ≡ joined_with old q
   joined_alone e =
       append_assoc rest (r ∷ []) (alone q ∷ [])

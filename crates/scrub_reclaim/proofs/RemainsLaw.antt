@@ -1,25 +1,25 @@
 -- Where no remains are accepted and nothing is in doubt, a copy of a chunk that isn't found begins in an extent to reclaim only inside
 -- a chunk.
-use Rattle.std.proofs.Common.{◌≡◌, ◌≢◌, ◌⊎◌, inl, inr, ◌<◌, ◌≤◌, ◌+◌, ◌*◌, ◌/◌, ◌%◌, ◌==◌, ◌&&◌, ◌∷◌, [], ℕ, Bool, true, false, not, cond, List, Option, Some, None, length, get_or, map, nat_lt, option_and_then, arith, refl, sym, ◌∙◌, ap, subst, if◌then◌else◌}
+use Rattle.std.proofs.Common.{◌≡◌, ◌⊎◌, inl, inr, ◌<◌, ◌≤◌, ◌+◌, ◌*◌, ◌/◌, ◌%◌, ◌==◌, ◌&&◌, ◌∷◌, [], ℕ, Bool, true, false, not, cond, List, Option, Some, None, length, get_or, map, nat_lt, option_and_then, arith, refl, sym, ◌∙◌, ap, subst, if◌then◌else◌}
 use Rattle.std.proofs.Math.Path.{ap₂}
 use Rattle.std.proofs.Math.Nat.{mod-lt, mul-le-mul_right}
 use Rattle.std.specs.Option.{option_map, option_to_list}
-use Rattle.std.specs.List.{Contains, cons_option, count_by, filter_map, find, flat_map, list_all, list_any, slice_get}
+use Rattle.std.specs.List.{Contains, count_by, find, flat_map, list_all, list_any, slice_get}
 use Rattle.std.proofs.lemmas.Bool.{and_parts, cases_lt, eq-eqb, eqb-true, false≢true, le-ltb, lt-ltb}
 use Rattle.std.proofs.lemmas.List.Elements.{All-contains, All-contains_itself}
 use Rattle.std.proofs.lemmas.Nat.{div-add-mod'}
 use Rattle.std.proofs.lemmas.Option.{none-some, slice_get_cases, slice_get_past}
 use Rattle.std.proofs.lemmas.Slice.Eq.{bytes_eq-Decides}
 use Rattle.sha2.specs.Sha256.{sha256}
-use Rattle.scrub_disk.specs.Image.{Image, byte, extent_bytes}
+use Rattle.list_facts.proofs.Counts.{count_in, count_out}
+use Rattle.list_facts.proofs.Elements.{Contains-behind, Contains-cases, Contains-filter, Contains-filter_map, Contains-flat_map}
+use Rattle.scrub_disk.specs.Image.{Image, image_byte, extent_bytes}
 use Rattle.scrub_frame.specs.declared.form.Form.{Form}
-use Rattle.scrub_frame.specs.Frame.{frame}
 use Rattle.scrub_super.specs.declared.pages.SuperblockPage.{SuperblockPage}
-use Rattle.scrub_frame.proofs.Elements.{Contains-behind, Contains-cases, Contains-filter}
 use Rattle.scrub_scan.specs.declared.item.Item.{Item}
 use Rattle.scrub_scan.specs.declared.item.Item.TheVariants.{Chunk, Pad, Torn, Noise, Lost}
 use Rattle.scrub_scan.specs.declared.standing.Standing.{Standing}
-use Rattle.scrub_scan.specs.Extent.{Extent, bound, extent_of}
+use Rattle.scrub_scan.specs.Extent.{Extent, extent_of}
 use Rattle.scrub_scan.specs.Findings.{IsFindings}
 use Rattle.scrub_scan.specs.Item.{start_of, stop_of, IsItem}
 use Rattle.scrub_scan.specs.Scanned.{Scanned}
@@ -29,7 +29,6 @@ use Rattle.scrub_scan.proofs.Tilings.{one_item}
 use Rattle.scrub_check.specs.declared.statuses.checked.Checked.{Checked}
 use Rattle.scrub_check.specs.Checked.{is_dangling}
 use Rattle.scrub_check.specs.Spares.{copies_of, frame_of_item, frames, frames_in, is_copy_of, spares_of}
-use Rattle.scrub_check.proofs.Counts.{count_in, count_out}
 use Rattle.scrub_found.specs.Scrubbed.{Scrubbed, IsScrubbed}
 use Rattle.scrub_listings.specs.Manifest.{is_without_spare}
 use Rattle.scrub_reclaim.specs.declared.doubts.Doubt.{Doubt}
@@ -37,7 +36,6 @@ use Rattle.scrub_reclaim.specs.declared.doubts.Doubt.TheVariants.{Remains}
 use Rattle.scrub_reclaim.specs.Doubts.{Acceptance, gone_count, is_accepted, is_gone, is_of_remains, is_remains, remains_among, remains_doubts, remains_in}
 use Rattle.scrub_reclaim.specs.Reclaimable.{accepted_in, is_clear}
 use Rattle.scrub_reclaim.specs.Remains.{AcceptsNoRemains, HasCopiesInsideAlone, IsCopyAt, IsInsideChunk, KeepsRemains}
-use Rattle.scrub_reclaim.proofs.Clear.{among_parts}
 use Rattle.scrub_reclaim.proofs.DoubtParts.{each_part, of_remains}
 use Rattle.scrub_reclaim.proofs.NextPlaces.{chunk_is_item, chunk_of}
 use Rattle.scrub_reclaim.proofs.SpareLaw.{clash, numbered}
@@ -68,20 +66,6 @@ counted {X} p (y ∷ ys) x there passes = by (λ later. counted p ys x later pas
       | inr later ↦ omega (arith, count_out p y ys is, rest later)
     ]
 
--- what is made of an element is among what is made of all
-among_mapped : {X Y : Type 0} (h : X → Option Y) (xs : List X) (x : X) (y : Y) → Contains xs x → h x ≡ Some y →
-    Contains (filter_map h xs) y
-among_mapped h [] x y there is = absurd (omega (arith, there.1))
-among_mapped {X} {Y} h (z ∷ xs) x y there is = elim (Contains-cases z xs x there) [
-  | inl here ↦
-      subst (λ (o : Option Y). Contains (cons_option o (filter_map h xs)) y) (sym (ap h here ∙ is)) (0, omega arith, refl)
-  | inr later ↦ behind (h z) (among_mapped h xs x y later is)
-]
-  where
-    behind : (o : Option Y) → Contains (filter_map h xs) y → Contains (cons_option o (filter_map h xs)) y
-    behind None rest = rest
-    behind (Some v) rest = Contains-behind v (filter_map h xs) y rest
-
 -- ---- the item over a place
 
 item_over : (x : Extent) (items : List Item) (a p : ℕ) → Joins a x.pointer items → a ≤ p → p < x.pointer →
@@ -96,7 +80,7 @@ item_over x (i ∷ items) a p joined low high = elim (cases_lt p (stop_of i)) [
 
 -- a byte after one that can't be read, on the same page, can't be read either
 lost_after : (image : Image) (e i j : ℕ) → i ≤ j → i % image.geometry.page ≤ j % image.geometry.page →
-    j / image.geometry.page ≡ i / image.geometry.page → byte image e i ≡ None → byte image e j ≡ None
+    j / image.geometry.page ≡ i / image.geometry.page → image_byte image e i ≡ None → image_byte image e j ≡ None
 lost_after image e i j up later same none = by (nat_lt j (extent_bytes image.geometry)) refl
   where
     within : (r : Option (List ℕ)) → option_and_then (λ bytes. slice_get bytes (i % image.geometry.page)) r ≡ None →
@@ -107,7 +91,7 @@ lost_after image e i j up later same none = by (nat_lt j (extent_bytes image.geo
       | inr past ↦ slice_get_past bytes (j % image.geometry.page) (omega (arith, past.0, later))
     ]
 
-    by : (b : Bool) → nat_lt j (extent_bytes image.geometry) ≡ b → byte image e j ≡ None
+    by : (b : Bool) → nat_lt j (extent_bytes image.geometry) ≡ b → image_byte image e j ≡ None
     by false is =
         ap (λ (t : Bool). if t then option_and_then (λ (bytes : List ℕ). slice_get bytes (j % image.geometry.page)) (image.page e (j / image.geometry.page)) else None) is
     by true is =
@@ -168,8 +152,8 @@ module _ (image : Image) (found : Scrubbed) (scrubbed : IsScrubbed image found) 
       Contains f.findings.items (chunk_of p form u b) → length b ≡ c.locator.length → sha256 b ≡ c.locator.digest → ⊥
   no_such_chunk f p form u b among item size digest =
       let s : Standing = record { extent = f.extent; offset = p; form = form; uuid = u; length = length b; digest = sha256 b } in
-      let one : Contains (frames_in f) s = among_mapped (frame_of_item f.extent) f.findings.items (chunk_of p form u b) s item refl in
-      let all : Contains (frames found.all) s = among_parts frames_in found.all f s among one in
+      let one : Contains (frames_in f) s = Contains-filter_map (frame_of_item f.extent) f.findings.items (chunk_of p form u b) s item refl in
+      let all : Contains (frames found.all) s = Contains-flat_map frames_in found.all f s among one in
       let copy : is_copy_of c.locator s ≡ true =
       ap₂ (λ (a b : Bool). a && b) ((bytes_eq-Decides (sha256 b) c.locator.digest).1 digest) (eq-eqb (length b) c.locator.length size) in
       let there : Contains (copies_of found.all c.locator) s = Contains-filter (is_copy_of c.locator) (frames found.all) s copy all in
@@ -280,6 +264,7 @@ module _ (image : Image) (accepted : Acceptance) (pages : List SuperblockPage) (
       (quiet c there gone f among (subst (λ (n : ℕ). list_any (λ m. m == n) numbers ≡ true) (sym same) (numbered found.candidates k d below)))
       place copy
 
+-- If no remains are accepted, copies of a missing chunk in listed extents begin only inside chunks.
 pub remains_kept : (image : Image) (accepted : Acceptance) (pages : List SuperblockPage) (found : Scrubbed) → IsScrubbed image found →
     is_clear accepted pages found ≡ true → AcceptsNoRemains accepted pages found → KeepsRemains image accepted pages found
 remains_kept image accepted pages found scrubbed clear refused k d below gone =

@@ -8,6 +8,7 @@ use Rattle.std.specs.Option.{option_and_then}
 use Rattle.std.proofs.lemmas.Bool.{eqb-true}
 use Rattle.std.proofs.lemmas.Grind.{common_steps}
 use Rattle.std.proofs.lemmas.List.Elements.{All-cons, All-contains, All-contains_itself, All-filter, All-head, All-tail, Contains-append_cases, Contains-append_left, Contains-append_right, filter_passes}
+use Rattle.list_facts.proofs.Elements.{Contains-filter, nil_has_no_first, same_behind_first, same_first}
 use Rattle.scrub_frame.specs.declared.form.Form.{Form}
 use Rattle.scrub_frame.specs.declared.locator.Locator.{Locator}
 use Rattle.scrub_scan.specs.declared.item.Item.{Item}
@@ -17,14 +18,12 @@ use Rattle.scrub_scan.specs.AllFindings.{entry_of, extent_numbers}
 use Rattle.scrub_scan.specs.Item.{start_of}
 use Rattle.scrub_scan.specs.Scanned.{Scanned}
 use Rattle.scrub_merge.specs.Binding.{BindingValue}
-use Rattle.scrub_frame.proofs.Elements.{Contains-filter}
 use Rattle.scrub_check.specs.declared.statuses.checked.Checked.{Checked}
 use Rattle.scrub_check.specs.declared.statuses.status.Status.{Status}
 use Rattle.scrub_check.specs.declared.statuses.status.Status.TheVariants.{OutOfRange, Retired, PastPointer, Unreadable, NoFrame, WrongUuid, WrongLength, WrongDigest, Hidden, Sound}
 use Rattle.scrub_check.specs.Checked.{is_dangling, is_owned_by, is_sound}
 use Rattle.scrub_check.specs.ChunkForms.{form_at, form_of}
 use Rattle.scrub_check.specs.Spares.{asks_for_spares, frame_of_item, frames, frames_in, is_copy_of, spares_by, spares_of}
-use Rattle.scrub_found.proofs.OneReader.{heads, no_tail, tails}
 use Rattle.scrub_listings.specs.Manifest.{after_status_in, form_text, looked_for, numbered_line, numbered_text, retired_line, runs_line, text_by, total_line}
 
 -- ---- two scans of the same extents
@@ -43,11 +42,11 @@ pub record IsPartOf (f g : Scanned) : Type 0 where
 pub along : (P Q : Scanned → Type 0) (R : Scanned → Scanned → Type 0) → ((f g : Scanned) → g.extent ≡ f.extent → P f → Q g → R f g) →
     (fs gs : List Scanned) → extent_numbers gs ≡ extent_numbers fs → All P fs → All Q gs → AllZip R fs gs
 along P Q R both [] [] e p q = tt
-along P Q R both [] (g ∷ gs) e p q = absurd (no_tail g.extent (extent_numbers gs) (sym e))
-along P Q R both (f ∷ fs) [] e p q = absurd (no_tail f.extent (extent_numbers fs) e)
+along P Q R both [] (g ∷ gs) e p q = absurd (nil_has_no_first g.extent (extent_numbers gs) (sym e))
+along P Q R both (f ∷ fs) [] e p q = absurd (nil_has_no_first f.extent (extent_numbers fs) e)
 along P Q R both (f ∷ fs) (g ∷ gs) e p q = (
-  both f g (heads g.extent f.extent (extent_numbers gs) (extent_numbers fs) e) (All-head P f fs p) (All-head Q g gs q),
-  along P Q R both fs gs (tails g.extent f.extent (extent_numbers gs) (extent_numbers fs) e) (All-tail P f fs p) (All-tail Q g gs q),
+  both f g (same_first g.extent f.extent (extent_numbers gs) (extent_numbers fs) e) (All-head P f fs p) (All-head Q g gs q),
+  along P Q R both fs gs (same_behind_first g.extent f.extent (extent_numbers gs) (extent_numbers fs) e) (All-tail P f fs p) (All-tail Q g gs q),
 )
 
 -- ---- the form of a chunk
@@ -60,6 +59,7 @@ module _ (l : Locator) where
   abbrev form_in : Option Scanned → Option Form
   form_in o = option_and_then form_of (option_and_then (λ f. find (λ item. start_of item == l.offset) f.findings.items) o)
 
+  -- If a locator's extent has the same items in both scans, its chunk has the same form in both.
   pub same_form : (K : ℕ → Type 0) (fs gs : List Scanned) → AllZip (IsAlikeIn K) fs gs → K l.extent → form_at gs l ≡ form_at fs l
   same_form K [] [] alike known = refl
   same_form K [] (g ∷ gs) alike known = absurd alike
@@ -118,6 +118,7 @@ frames_along R s each (f ∷ fs) (g ∷ gs) related there = elim (Contains-appen
   | inr later ↦ Contains-append_right (frames_in g) (frames gs) s (frames_along R s each fs gs related.1 later)
 ]
 
+-- If its extent has the same items in both scans, a chunk of the first is one of the second.
 pub frame_stays : (K : ℕ → Type 0) (fs gs : List Scanned) (s : Standing) → AllZip (IsAlikeIn K) fs gs → K s.extent →
     Contains (frames fs) s → Contains (frames gs) s
 frame_stays K fs gs s alike known =
@@ -135,6 +136,7 @@ own_was f g s part there = by part.items
         let nothing : Contains [] s = subst (λ (items : List Item). Contains (filter_map (frame_of_item g.extent) items) s) none there in
         absurd (omega (arith, nothing.1))
 
+-- If each extent has the same items in the second scan or none, its chunks are among the first's.
 pub frame_was : (fs gs : List Scanned) (s : Standing) → AllZip IsPartOf fs gs → Contains (frames gs) s → Contains (frames fs) s
 frame_was [] [] s part there = there
 frame_was [] (g ∷ gs) s part there = absurd part
@@ -157,6 +159,7 @@ module _ (c : Checked) (xs ys : List Standing) where
           (All-filter (is_copy_of c.locator) (Contains xs) xs (All-contains_itself xs)) there
       by false there = absurd (omega (arith, there.1))
 
+  -- A spare among `xs` that is also among `ys` is a spare there.
   pub spare_too : (s : Standing) → Contains (spares_by xs c) s → Contains ys s → Contains (spares_by ys c) s
   spare_too s = by (asks_for_spares c)
     where
@@ -168,7 +171,8 @@ module _ (c : Checked) (xs ys : List Standing) where
           too
       by false there too = there
 
-not_none : (n : ℕ) → (suc n == 0) ≡ false
+-- A number above 0 is not 0.
+pub not_none : (n : ℕ) → (suc n == 0) ≡ false
 not_none n = grind (arith, common_steps)
 
 -- there are spares in both or in neither
@@ -181,7 +185,7 @@ same_none c xs ys was stays = by (spares_by xs c) (spares_by ys c) refl refl
     empty s there = omega (arith, there.1)
 
     some : (s : Standing) (ss : List Standing) → (s ∷ ss) ≡ [] → ⊥
-    some s ss e = no_tail s ss (sym e)
+    some s ss e = nil_has_no_first s ss (sym e)
 
     by : (us vs : List Standing) → spares_by xs c ≡ us → spares_by ys c ≡ vs → (length vs == 0) ≡ (length us == 0)
     by [] [] old new = refl
@@ -208,6 +212,7 @@ unsound l s o p a b is same =
     ∙ ap (λ (t : Bool). looked_for l ++ (if is_dangling s then (if t then codes " none" else codes " spare") else [])) same
     ∙ ap (λ (t : Bool). if t then form_text p else looked_for l ++ (if is_dangling s then (if b then codes " none" else codes " spare") else [])) (sym is)
 
+-- If its form and whether it has spares are the same, the same follows a locator's status.
 pub same_after : (fs gs : List Scanned) (c : Checked) → (c.status ≡ Sound → form_at gs c.locator ≡ form_at fs c.locator) →
     (length (spares_of gs c) == 0) ≡ (length (spares_of fs c) == 0) → after_status_in gs c ≡ after_status_in fs c
 same_after fs gs c form spares = by c.status refl

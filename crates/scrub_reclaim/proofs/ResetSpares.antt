@@ -6,6 +6,7 @@ use Rattle.std.proofs.lemmas.Bool.{and_parts, eqb-true}
 use Rattle.std.proofs.lemmas.List.Elements.{All-contains, All-contains_itself}
 use Rattle.std.proofs.lemmas.List.Folds.{Any-from_list_any}
 use Rattle.std.proofs.lemmas.Option.{same_Some}
+use Rattle.list_facts.proofs.Counts.{any_counts}
 use Rattle.scrub_disk.specs.Image.{Image}
 use Rattle.scrub_super.specs.declared.pages.SuperblockPage.{SuperblockPage}
 use Rattle.scrub_super.specs.Plan.{PlanValue, plan_of, pointer_of}
@@ -21,7 +22,6 @@ use Rattle.scrub_check.specs.Checked.{is_sound}
 use Rattle.scrub_check.specs.Live.{has_sound_at}
 use Rattle.scrub_check.specs.Spares.{frames, spares_by}
 use Rattle.scrub_check.specs.steps.SoundPlaces.{is_sound_at}
-use Rattle.scrub_check.proofs.Counts.{any_counts}
 use Rattle.scrub_found.specs.Resets.{IsScrubbedBut}
 use Rattle.scrub_found.specs.Scrubbed.{Scrubbed, IsScrubbed}
 use Rattle.scrub_found.proofs.OneScrub.{one_scrub}
@@ -29,7 +29,8 @@ use Rattle.scrub_listings.specs.Manifest.{IsManifest, IsManifestBut, after_statu
 use Rattle.scrub_reclaim.specs.Doubts.{Acceptance}
 use Rattle.scrub_reclaim.specs.Reclaimable.{AcceptsNoSpare, HasSafeSpare, KeepsSpares, reclaimed}
 use Rattle.scrub_reclaim.specs.Reset.{AreListedWithoutSpares, IsListedWithoutMoves, NameTheSame}
-use Rattle.scrub_reclaim.proofs.Reset.{HaveTheSameForms, IsScannedBy, IsTheSame, alike_items, among_cases, kept_pointer, name_the_same, no_items, none_into_these, one_plan_in, reset_of, said_of, same_numbers, same_text, same_verdict, scanned_by, scans_alike, zero_pointer}
+use Rattle.scrub_reclaim.proofs.Reset.{among_cases, kept_pointer, name_the_same, none_into_these, one_plan_in, reset_of, said_of, same_text, same_verdict, zero_pointer}
+use Rattle.scrub_reclaim.proofs.SameExtents.{HaveTheSameForms, IsScannedBy, IsTheSame, alike_items, no_items, same_numbers, scanned_by, scans_alike}
 use Rattle.scrub_reclaim.proofs.ResetForms.{IsAlikeIn, IsPartOf, along, frame_stays, frame_was, same_after, same_form, same_none, spare_among, spare_too}
 use Rattle.scrub_reclaim.proofs.SpareLaw.{spares_kept}
 
@@ -145,6 +146,7 @@ module _ (accepted : Acceptance) (extents : List ℕ) (image : Image) (l : AreLi
       (same_none (get_or found.checked i d) (frames found.all) (frames rest.all) (λ s. frame_was found.all rest.all s parts)
       (λ some. still (get_or found.checked i d) (keeps i d below some)))
 
+-- If extents are listed and no spare is accepted, the manifest as if they were reset is the manifest.
 pub same_without : (accepted : Acceptance) (extents : List ℕ) (image : Image) (a b : List ℕ) (v w : Bool) → AreListedWithoutSpares accepted extents image →
     IsManifestBut extents image a v → IsManifest image b w → (a ≡ b) × (v ≡ w)
 same_without accepted extents image a b v w l y x =

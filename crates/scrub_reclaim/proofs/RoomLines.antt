@@ -9,7 +9,7 @@ use Rattle.std.proofs.lemmas.List.Sorted.{list_any-IsPermutation}
 use Rattle.std.proofs.lemmas.Nat.{div-add-mod'}
 use Rattle.std.proofs.lemmas.Option.{none-some, same_Some}
 use Rattle.scrub_disk.specs.declared.geometry.Geometry.{Geometry}
-use Rattle.scrub_disk.specs.Image.{Image, byte, extent_bytes}
+use Rattle.scrub_disk.specs.Image.{Image, image_byte, extent_bytes}
 use Rattle.scrub_super.proofs.PlanParts.{plan_parts}
 use Rattle.scrub_scan.specs.declared.item.Item.{Item}
 use Rattle.scrub_scan.specs.Findings.{IsFindings, is_nonzero, nonzero_places}
@@ -25,6 +25,7 @@ use Rattle.scrub_reclaim.specs.steps.Room.{may_grow_by, room_text}
 
 -- ---- which extents
 
+-- The test of an extent by barred numbers says just whether a chunk can be put into it.
 pub grows_by : (checked : List Checked) (unsound : List ℕ) (f : Scanned) → AreBarredExtents checked unsound →
     may_grow_by unsound f ≡ may_grow checked f
 grows_by checked unsound f are =
@@ -71,6 +72,7 @@ in_any_order is_listed g all checked numbers sorted same =
 
 -- ---- the last item
 
+-- Items end in a chunk exactly if their last item is a chunk.
 pub last_chunk : (items : List Item) (item : Item) → slice_get items (length items - 1) ≡ Some item →
     ends_in_chunk items ≡ is_chunk item
 last_chunk [] item is = absurd (none-some item is)
@@ -81,6 +83,7 @@ last_chunk (i ∷ j ∷ js) item is =
     ∙ ap (slice_get (i ∷ j ∷ js)) (let e : suc (length js) ≡ suc (suc (length js)) - 1 = omega arith in e)
     ∙ is)
 
+-- Without a last item they don't end in a chunk.
 pub no_last : (items : List Item) → slice_get items (length items - 1) ≡ None → ends_in_chunk items ≡ false
 no_last [] is = refl
 no_last (i ∷ []) is = absurd (none-some i (sym is))
@@ -168,6 +171,7 @@ is_bound page w items pos off none = by (w % page == 0) (ends_in_chunk items) re
           mul-mod_left (w / page + 1) page,
         )
 
+-- If a scanned extent has room, its items are chunks or zeros, and a frame of no payload fits at the place.
 pub shows_room : (image : Image) (found : Scrubbed) → IsScrubbed image found →
     All (λ f. has_room found.plan.geometry found.checked f ≡ true →
     IsRoom image f.extent f.pointer (place_in found.plan.geometry f)) found.all
@@ -194,7 +198,7 @@ shows_room image found x i d below roomy =
           (sym at)
           (is_bound image.geometry.page f.pointer f.findings.items (omega (arith, image.geometry.page_least)) off none);
       zeros =
-          zeros_to (byte image f.extent) f.pointer (extent_bytes image.geometry - f.pointer) (place_in g f) f.findings.tail_first is.tail_least zero
+          zeros_to (image_byte image f.extent) f.pointer (extent_bytes image.geometry - f.pointer) (place_in g f) f.findings.tail_first is.tail_least zero
           (omega (arith, enough, whole));
       fits = omega (arith, enough, whole);
     }
@@ -223,11 +227,13 @@ has_line is_listed g checked f some = by (has_room g checked f) some
     by true there = refl
     by false there = absurd (there refl)
 
+-- If an extent has a line, it has its number, its place, and how many bytes there are behind the place.
 pub line_named : (is_listed : Bool) (g : Geometry) (checked : List Checked) (f : Scanned) → room_if is_listed g checked f ≢ [] →
     room_if is_listed g checked f ≡ room_line is_listed f.extent (place_in g f) (room_in g f)
 line_named is_listed g checked f some =
     ap (λ (t : Bool). if t then room_line is_listed f.extent (place_in g f) (room_in g f) else []) (has_line is_listed g checked f some)
 
+-- An extent with a line has room in the image.
 pub line_shows_room : (image : Image) (found : Scrubbed) (is_listed : Bool) → IsScrubbed image found →
     All (λ f. room_if is_listed found.plan.geometry found.checked f ≢ [] →
     IsRoom image f.extent f.pointer (place_in found.plan.geometry f)) found.all

@@ -6,18 +6,18 @@ use Rattle.std.proofs.lemmas.Bool.{cases_lt, le-ltb}
 use Rattle.std.proofs.lemmas.List.{get_or-append_right, get_or-replicate, get_or_append_left}
 use Rattle.std.proofs.lemmas.List.Elements.{All-cons, All-nil}
 use Rattle.std.proofs.lemmas.Option.{get_or_from_slice_get, none-some, same_Some}
+use Rattle.list_facts.proofs.Elements.{Contains-cases}
 use Rattle.scrub_disk.specs.declared.geometry.Geometry.{Geometry}
-use Rattle.scrub_disk.specs.Image.{Image, byte}
+use Rattle.scrub_disk.specs.Image.{Image, image_byte}
 use Rattle.scrub_disk.proofs.HeldBytes.{byte-page}
 use Rattle.scrub_frame.specs.Locator.{IsLocator}
-use Rattle.scrub_frame.proofs.Elements.{Contains-cases}
 use Rattle.scrub_super.specs.declared.kind.RecordKind.TheVariants.{Ssb1}
 use Rattle.scrub_super.specs.declared.pages.Rank.TheVariants.{Counts}
 use Rattle.scrub_super.specs.declared.pages.SuperblockPage.{SuperblockPage}
 use Rattle.scrub_super.specs.declared.pages.SuperblockPage.TheVariants.{Record}
 use Rattle.scrub_super.specs.Contents.{Contents}
 use Rattle.scrub_super.specs.Record.{AreContents, record_bytes}
-use Rattle.scrub_super.specs.Chosen.{AreRecords, Choice, IsChoice, RecordStandsAt, newest}
+use Rattle.scrub_super.specs.Chosen.{AreRecords, Choice, IsChoice, RecordStandsAt, newest_records}
 use Rattle.scrub_super.specs.Pages.{AreHeldBytes, AreSuperblockPages, IsRank, IsSuperblockPage}
 use Rattle.scrub_super.proofs.Laws.{one_record_on_page}
 use Rattle.scrub_super.proofs.RecordParts.{length_record}
@@ -92,11 +92,11 @@ abbrev pub disk : ℕ → ℕ → List ℕ → Image
 disk n w xs = record { geometry = small; page = λ e q. if e == 0 then Some (first_page n w) else Some xs }
 
 -- byte k of extent 1
-pub byte_of : (n w : ℕ) (xs : List ℕ) (k : ℕ) → length xs ≡ 64 → k < 64 → byte (disk n w xs) 1 k ≡ Some (get_or xs k 0)
+pub byte_of : (n w : ℕ) (xs : List ℕ) (k : ℕ) → length xs ≡ 64 → k < 64 → image_byte (disk n w xs) 1 k ≡ Some (get_or xs k 0)
 byte_of n w xs k long low =
-    let at : byte (disk n w xs) 1 (0 * 64 + k) ≡ Some (get_or xs k 0) =
+    let at : image_byte (disk n w xs) 1 (0 * 64 + k) ≡ Some (get_or xs k 0) =
     byte-page (disk n w xs) 1 0 k xs refl long (omega arith) low in
-    ap (byte (disk n w xs) 1) (let e : k ≡ 0 * 64 + k = omega arith in e) ∙ at
+    ap (image_byte (disk n w xs) 1) (let e : k ≡ 0 * 64 + k = omega arith in e) ∙ at
 
 -- ---- their superblocks
 
@@ -164,9 +164,10 @@ module _ (n w : ℕ) (xs : List ℕ) (are : AreSmall n w) where
   not_older : nat_lt n n ≡ false
   not_older = le-ltb n n (omega arith)
 
-  newest_are : newest only_record ≡ only_record
+  newest_are : newest_records only_record ≡ only_record
   newest_are = rw not_older refl
 
+  -- On a small disk the one record is the superblock that counts.
   pub chosen : IsChoice (disk n w xs) (choice_of n w)
   chosen = record {
     valid = only_record;
@@ -205,6 +206,7 @@ module _ (n w : ℕ) (xs : List ℕ) (are : AreSmall n w) where
   page_is : IsSuperblockPage (disk n w xs) 0 (Record Ssb1 n Counts false)
   page_is = (contents n w, stands, refl, refl, rank_is, (first_page n w, refl, held))
 
+  -- The one page of extent 0 begins with the record that counts, and none of its bytes is stray.
   pub pages_are : AreSuperblockPages (disk n w xs) (pages_of n)
   pages_are = record { count = refl; each = each }
     where
@@ -216,16 +218,18 @@ module _ (n w : ℕ) (xs : List ℕ) (are : AreSmall n w) where
 
 -- ---- what is in extent 1
 
+-- A page of zeros.
 abbrev pub zeros : List ℕ
 zeros = replicate 64 0
 
-zero_at : (n w k : ℕ) → k < 64 → byte (disk n w zeros) 1 k ≡ Some 0
+zero_at : (n w k : ℕ) → k < 64 → image_byte (disk n w zeros) 1 k ≡ Some 0
 zero_at n w k low = byte_of n w zeros k refl low ∙ ap Some (get_or-replicate 64 k 0 0 low)
 
 -- under the pointer 64 it is a pad
 abbrev pub one_pad : Findings
 one_pad = record { items = Pad 0 64 ∷ []; tail_count = 0; tail_first = None; bad_pages = [] }
 
+-- Under the pointer 64 one pad is found in a page of zeros.
 pub found_pad : (n w : ℕ) → IsFindings (disk n w zeros) 1 64 one_pad
 found_pad n w = record {
   tiled = record {
@@ -242,7 +246,7 @@ found_pad n w = record {
   where
     no_frame : NoFrameAt (extent_of (disk n w zeros) 1 64) 0
     no_frame f u b k =
-        differs (byte (disk n w zeros) 1 0) (first_byte (extent_of (disk n w zeros) 1 64) 0 f u b k) (zero_at n w 0 (omega arith))
+        differs (image_byte (disk n w zeros) 1 0) (first_byte (extent_of (disk n w zeros) 1 64) 0 f u b k) (zero_at n w 0 (omega arith))
       where
         differs : (o : Option ℕ) → o ≡ Some 0xC5 → o ≡ Some 0 → ⊥
         differs o x y = omega (arith, same_Some _ _ (sym x ∙ y))
@@ -251,6 +255,7 @@ found_pad n w = record {
 abbrev pub nothing : Findings
 nothing = record { items = []; tail_count = 0; tail_first = None; bad_pages = [] }
 
+-- Under the pointer 0 nothing is found in a page of zeros.
 pub found_nothing : (n w : ℕ) → IsFindings (disk n w zeros) 1 0 nothing
 found_nothing n w = record {
   tiled = record { joined = refl; each = All-nil (IsItem (extent_of (disk n w zeros) 1 0)) };

@@ -10,6 +10,8 @@ use Rattle.std.proofs.lemmas.List.FromFn.{get_or-range_with_len, length-range_wi
 use Rattle.std.proofs.lemmas.List.Sums.{AllPass-from_list_all, sum_by-cons}
 use Rattle.std.proofs.lemmas.Option.{slice_get-get_or, slice_get_within}
 use Rattle.std.specs.List.{slice_get}
+use Rattle.list_facts.proofs.Bools.{false_from_not}
+use Rattle.list_facts.proofs.Elements.{Contains-filter}
 use Rattle.scrub_disk.specs.Image.{Image, unreadable_pages}
 use Rattle.scrub_frame.specs.declared.locator.Locator.{Locator}
 use Rattle.scrub_super.specs.Chosen.{Choice}
@@ -22,7 +24,6 @@ use Rattle.scrub_super.specs.declared.pages.SuperblockPage.{SuperblockPage}
 use Rattle.scrub_super.specs.declared.pages.SuperblockPage.TheVariants.{Lost, Record, Damaged, Stray, Held}
 use Rattle.scrub_scan.specs.Scanned.{Scanned}
 use Rattle.scrub_merge.specs.Binding.{Runs}
-use Rattle.scrub_frame.proofs.Elements.{Contains-filter}
 use Rattle.scrub_run.specs.Entry.{EntryValue}
 use Rattle.scrub_check.specs.declared.runs.RunState.{RunState}
 use Rattle.scrub_check.specs.declared.runs.RunState.TheVariants.{Read, BadChunk, NotARun}
@@ -49,10 +50,6 @@ use Rattle.scrub_super.proofs.PageLaws.{held_unless_odd, one_list_of_pages}
 
 -- ---- lists whose elements pass
 
-not_true : (b : Bool) → not b ≡ true → b ≡ false
-not_true true e = absurd (false≢true e)
-not_true false e = refl
-
 -- a test that is weaker passes too
 pub all_weaker : {X : Type 0} (p q : X → Bool) (xs : List X) → ((x : X) → p x ≡ true → q x ≡ true) → list_all p xs ≡ true → list_all q xs ≡ true
 all_weaker p q [] weaker all = refl
@@ -77,16 +74,16 @@ none_counted p [] all = refl
 none_counted p (x ∷ xs) all =
     let parts = and_parts (not (p x)) (list_all (λ y. not (p y)) xs) all in
     let sum : count_by p (x ∷ xs) ≡ one_if (p x) + count_by p xs = sum_by-cons (λ y. one_if (p y)) x xs in
-    let here : one_if (p x) ≡ 0 = ap one_if (not_true (p x) parts.0) in
+    let here : one_if (p x) ≡ 0 = ap one_if (false_from_not (p x) parts.0) in
     let later : count_by p xs ≡ 0 = none_counted p xs parts.1 in
     omega (arith, sum, here, later)
 
 -- nothing comes of those of which nothing comes
-nothing : {X A : Type 0} (f : X → List A) (p : X → Bool) (xs : List X) → ((x : X) → p x ≡ true → f x ≡ []) → list_all p xs ≡ true → flat_map f xs ≡ []
-nothing f p [] none all = refl
-nothing {X} {A} f p (x ∷ xs) none all =
+flat_map_of_none : {X A : Type 0} (f : X → List A) (p : X → Bool) (xs : List X) → ((x : X) → p x ≡ true → f x ≡ []) → list_all p xs ≡ true → flat_map f xs ≡ []
+flat_map_of_none f p [] none all = refl
+flat_map_of_none {X} {A} f p (x ∷ xs) none all =
     let parts = and_parts (p x) (list_all p xs) all in
-    (λ i. none x parts.0 i ++ nothing f p xs none parts.1 i)
+    (λ i. none x parts.0 i ++ flat_map_of_none f p xs none parts.1 i)
 
 -- ---- index runs
 
@@ -281,7 +278,7 @@ module _ (image : Image) (pages : List SuperblockPage) (found : Scrubbed) (x : I
   has = (and_parts (is_some found.choice.superblock) (not found.choice.tie) (and_parts (is_some found.choice.superblock && not found.choice.tie) (length found.choice.bad_pages == 0) choice_is).0).0
 
   no_tie : found.choice.tie ≡ false
-  no_tie = not_true found.choice.tie (and_parts (is_some found.choice.superblock) (not found.choice.tie) (and_parts (is_some found.choice.superblock && not found.choice.tie) (length found.choice.bad_pages == 0) choice_is).0).1
+  no_tie = false_from_not found.choice.tie (and_parts (is_some found.choice.superblock) (not found.choice.tie) (and_parts (is_some found.choice.superblock && not found.choice.tie) (length found.choice.bad_pages == 0) choice_is).0).1
 
   no_bad : length (unreadable_pages image 0) ≡ 0
   no_bad =
@@ -331,11 +328,11 @@ module _ (image : Image) (pages : List SuperblockPage) (found : Scrubbed) (x : I
       ++ no_page_doubt superblock_damaged pages 0 no_damaged quiet i
       ++ no_page_doubt superblock_stray pages 0 no_stray quiet i
       ++ no_run_doubts image found.plan found.plan.runs found.read.runs found.read.states 0 x.read.same x.read.each runs_are i
-      ++ nothing (spare_doubts_of found.all found.checked (map (λ (a : CandidateValue). a.extent) found.candidates)) (λ (c : Checked). is_sound c.status) found.checked
+      ++ flat_map_of_none (spare_doubts_of found.all found.checked (map (λ (a : CandidateValue). a.extent) found.candidates)) (λ (c : Checked). is_sound c.status) found.checked
       (no_spare_doubt found.all found.checked (map (λ (a : CandidateValue). a.extent) found.candidates)) sound_are i
       ++ no_remains found.all found.checked (map (λ (a : CandidateValue). a.extent) found.candidates) sound_are i
       ++ flat_map tail_doubts found.all
-      ++ nothing (tail_lost_doubts found.plan.geometry.page) is_clean_extent found.all (no_tail_lost found.plan.geometry.page) extents_are i) in
+      ++ flat_map_of_none (tail_lost_doubts found.plan.geometry.page) is_clean_extent found.all (no_tail_lost found.plan.geometry.page) extents_are i) in
       ap (list_all is_tail) parts
       ∙ list_all-append is_tail (flat_map tail_doubts found.all) []
       ∙ both_true (tails_only found.all) refl
@@ -343,6 +340,7 @@ module _ (image : Image) (pages : List SuperblockPage) (found : Scrubbed) (x : I
   all_right : IsAllRight last pages found
   all_right = record { clean = clean; whole = whole; quiet = quiet; tails = tails }
 
+-- If the verdict is sound, what is found is clean, whole and quiet, and each doubt is a tail.
 pub sound_is_right : (last : Option ℕ) (image : Image) (pages : List SuperblockPage) (found : Scrubbed) → IsScrubbed image found →
     AreSuperblockPages image pages → is_sound_verdict (verdict last found pages) ≡ true → IsAllRight last pages found
 sound_is_right last image pages found x held is = by (is_clean_disk found) (list_any is_odd pages || is_behind last found.choice) refl refl is
@@ -361,12 +359,15 @@ module _ (last : Option ℕ) (image : Image) (summary : List ℕ) (x : IsSummary
   right : IsAllRight last x.pages x.found
   right = sound_is_right last image x.pages x.found x.scrubbed x.held (sym x.verdict_is)
 
+  -- If the summary says that the disk is sound, the report says that it is clean.
   pub sound_is_clean : (answer : AnswerValue) → IsScrubAnswer image answer → answer.is_clean ≡ true
   sound_is_clean answer a = a.clean ∙ ap is_clean_disk (one_scrub image a.found x.found a.scrubbed x.scrubbed) ∙ right.clean
 
+  -- If the summary says that the disk is sound, nothing is missing of its manifest.
   pub sound_is_whole : (text : List ℕ) (whole : Bool) → IsManifest image text whole → whole ≡ true
   sound_is_whole text whole m = m.verdict ∙ ap is_whole (one_scrub image m.found x.found m.scrubbed x.scrubbed) ∙ right.whole
 
+-- If the summary says that the disk is sound, records hold each nonzero readable byte of extent 0.
 pub sound_is_held : (last : Option ℕ) (image : Image) (summary : List ℕ) (q : ℕ) (bytes : List ℕ) → IsSummary last image summary true →
     q < image.geometry.pages → image.page 0 q ≡ Some bytes → AreHeldBytes image q bytes
 sound_is_held last image summary q bytes x here readable =
@@ -381,6 +382,7 @@ sound_alone_is true true e = absurd (false≢true e)
 sound_alone_is true false e = refl
 sound_alone_is false doubt e = absurd (false≢true e)
 
+-- If the summary by `last` says that the disk is sound, each doubt is accepted by the same `last`.
 pub sound_is_clear : (last : ℕ) (image : Image) (summary : List ℕ) (accepted : Acceptance) (text : List ℕ) (clear : Bool) →
     IsSummary (Some last) image summary true → accepted.last ≡ Some last → AreReclaimLines image accepted text clear → clear ≡ true
 sound_is_clear last image summary accepted text clear x given c =

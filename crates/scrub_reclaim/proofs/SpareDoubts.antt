@@ -7,17 +7,18 @@ use Rattle.std.proofs.lemmas.List.{take_more}
 use Rattle.std.proofs.lemmas.List.Elements.{All-contains_itself, filter-append}
 use Rattle.std.proofs.lemmas.List.Sorted.{list_any-IsPermutation}
 use Rattle.std.proofs.lemmas.Option.{none-some, same_Some}
+use Rattle.list_facts.proofs.Filters.{filter_comm}
 use Rattle.scrub_scan.specs.declared.standing.Standing.{Standing}
 use Rattle.scrub_scan.specs.Scanned.{Scanned}
 use Rattle.scrub_check.specs.declared.named.Owner.{Owner}
 use Rattle.scrub_check.specs.declared.statuses.checked.Checked.{Checked}
 use Rattle.scrub_check.specs.Live.{has_sound_at}
 use Rattle.scrub_check.specs.Spares.{AreSpares, HaveTheSameCopies, asks_for_spares, is_copy_of, spares_by}
-use Rattle.scrub_check.proofs.Between.{filter_in, filter_out}
 use Rattle.scrub_listings.proofs.SpareLines.{flat_same}
 use Rattle.scrub_reclaim.specs.declared.doubts.Doubt.{Doubt}
 use Rattle.scrub_reclaim.specs.Doubts.{is_at_risk, spare_doubt, spare_doubts_by, spare_doubts_of, staying}
 
+-- Some element of `map f xs` passes `p` exactly if `p (f x)` is true of some element of `xs`.
 pub any_mapped : {X Y : Type 0} (p : Y → Bool) (f : X → Y) (xs : List X) → list_any p (map f xs) ≡ list_any (λ x. p (f x)) xs
 any_mapped p f [] = refl
 any_mapped p f (x ∷ xs) = ap (λ (t : Bool). p (f x) || t) (any_mapped p f xs)
@@ -28,11 +29,13 @@ pub stays_too : (checked : List Checked) (extents : List ℕ) (s : Standing) (b 
 stays_too checked extents s b old new is safe grown =
     grown ∙ ap (λ (t : Bool). old ++ cond (not t) (s ∷ []) []) (sym safe ∙ is)
 
-pub goes : (checked : List Checked) (extents : List ℕ) (s : Standing) (b : Bool) (old : List Standing) →
+-- A chunk that a reset might take isn't added to those that stay.
+pub at_risk_not_kept : (checked : List Checked) (extents : List ℕ) (s : Standing) (b : Bool) (old : List Standing) →
     b ≡ is_at_risk checked extents s → b ≡ true → old ≡ old ++ staying checked extents (s ∷ [])
-goes checked extents s b old is risk =
+at_risk_not_kept checked extents s b old is risk =
     sym (append-nil old) ∙ ap (λ (t : Bool). old ++ cond (not t) (s ∷ []) []) (sym risk ∙ is)
 
+-- Those that stay of the first `i` chunks, and the next one if it stays, are those of the first `i + 1`.
 pub staying_more : (checked : List Checked) (extents : List ℕ) (some : List Standing) (i : ℕ) (s : Standing) (old new : List Standing) →
     i < length some → s ≡ get_or some i s → old ≡ staying checked extents (take i some) →
     new ≡ old ++ staying checked extents (s ∷ []) → new ≡ staying checked extents (take (i + 1) some)
@@ -50,11 +53,13 @@ none_taken owner [] stay old is = sym (append-nil old)
 none_taken owner (s ∷ ss) [] old is = absurd (false≢true (sym is))
 none_taken owner (s ∷ ss) (t ∷ ts) old is = sym (append-nil old)
 
+-- A locator without spares makes no doubt.
 pub no_spare : (owner : Owner) (some stay : List Standing) (old : List Doubt) → slice_get some 0 ≡ None →
     old ≡ old ++ spare_doubt owner some stay
 no_spare owner [] stay old is = sym (append-nil old)
 no_spare owner (s ∷ ss) stay old is = absurd (none-some s (sym is))
 
+-- If no spare of a locator stays, its doubt is of the first spare.
 pub first_doubted : {E : Type 0} (r : Result (Unit {0}) E) (owner : Owner) (some stay : List Standing) (first : Standing)
     (old new : List Doubt) → (length stay == 0) ≡ true → slice_get some 0 ≡ Some first →
     OnOk r (new ≡ old ++ spare_doubt owner (first ∷ []) []) → OnOk r (new ≡ old ++ spare_doubt owner some stay)
@@ -63,25 +68,6 @@ first_doubted r owner (s ∷ ss) (t ∷ ts) first old new none is later =
     let e : length (t ∷ ts) ≡ 0 = eqb-true (length (t ∷ ts)) 0 none in absurd (omega (arith, e))
 first_doubted r owner (s ∷ ss) [] first old new none is later =
     subst (λ (x : Standing). OnOk r (new ≡ old ++ spare_doubt owner (x ∷ []) [])) (sym (same_Some s first is)) later
-
--- two filters, in either order
-swap : {X : Type 0} (p q : X → Bool) (xs : List X) → filter p (filter q xs) ≡ filter q (filter p xs)
-swap p q [] = refl
-swap {X} p q (x ∷ xs) = by (p x) (q x) refl refl (swap p q xs)
-  where
-    by : (a b : Bool) → p x ≡ a → q x ≡ b → filter p (filter q xs) ≡ filter q (filter p xs) →
-        filter p (filter q (x ∷ xs)) ≡ filter q (filter p (x ∷ xs))
-    by true true hp hq rest =
-        ap (filter p) (filter_in q x xs hq)
-        ∙ filter_in p x (filter q xs) hp
-        ∙ ap (λ (ys : List X). x ∷ ys) rest
-        ∙ sym (filter_in q x (filter p xs) hq)
-        ∙ ap (filter q) (sym (filter_in p x xs hp))
-    by true false hp hq rest =
-        ap (filter p) (filter_out q x xs hq) ∙ rest ∙ sym (filter_out q x (filter p xs) hq) ∙ ap (filter q) (sym (filter_in p x xs hp))
-    by false true hp hq rest =
-        ap (filter p) (filter_in q x xs hq) ∙ filter_out p x (filter q xs) hp ∙ rest ∙ ap (filter q) (sym (filter_out p x xs hp))
-    by false false hp hq rest = ap (filter p) (filter_out q x xs hq) ∙ rest ∙ ap (filter q) (sym (filter_out p x xs hp))
 
 -- all of them
 module _ (all : List Scanned) (checked : List Checked) (found : List Standing) (are : AreSpares all checked found)
@@ -102,7 +88,7 @@ module _ (all : List Scanned) (checked : List Checked) (found : List Standing) (
           ap (λ (b : Bool). if b then filter (is_copy_of c.locator) stay else []) asks
           ∙ alike c.locator
           ∙ ap (filter (is_copy_of c.locator)) (safe_is ∙ ap (λ (f : List Standing → List Standing). f found) in_order)
-          ∙ swap (is_copy_of c.locator) (λ s. not (is_at_risk checked numbers s)) found
+          ∙ filter_comm (is_copy_of c.locator) (λ s. not (is_at_risk checked numbers s)) found
           ∙ sym (ap (λ (b : Bool). staying checked numbers (if b then filter (is_copy_of c.locator) found else [])) asks)
       by false none =
           ap (λ (b : Bool). if b then filter (is_copy_of c.locator) stay else []) none
@@ -113,6 +99,7 @@ module _ (all : List Scanned) (checked : List Checked) (found : List Standing) (
       ap (spare_doubt c.owner (spares_by found c)) (stay_of c)
       ∙ ap (λ (ss : List Standing). spare_doubt c.owner ss (staying checked numbers ss)) (are c there)
 
+  -- The doubts by the chunks that stay are those that resets of these extents make.
   pub all_alike : flat_map (spare_doubts_by found stay) checked ≡ flat_map (spare_doubts_of all checked numbers) checked
   all_alike =
       flat_same (spare_doubts_by found stay) (spare_doubts_of all checked numbers) checked

@@ -3,6 +3,7 @@ use Rattle.std.proofs.Common.{◌≡◌, ◌≢◌, ◌⊎◌, inl, inr, ◌<◌
 use Rattle.std.specs.List.{All, Contains, list_all, list_any}
 use Rattle.std.proofs.lemmas.Bool.{eq-eqb, false≢true, or_right}
 use Rattle.std.proofs.lemmas.List.Elements.{All-contains_itself, All-filter, filter_passes}
+use Rattle.list_facts.proofs.Bools.{false_from_not}
 use Rattle.scrub_frame.specs.declared.form.Form.TheVariants.{Plain}
 use Rattle.scrub_super.specs.declared.pages.SuperblockPage.{SuperblockPage}
 use Rattle.scrub_scan.specs.declared.standing.Standing.{Standing}
@@ -17,10 +18,6 @@ use Rattle.scrub_reclaim.specs.declared.doubts.Doubt.TheVariants.{Spare}
 use Rattle.scrub_reclaim.specs.Doubts.{is_accepted, is_at_risk, spare_doubt, spare_doubts_of, staying}
 use Rattle.scrub_reclaim.specs.Reclaimable.{AcceptsNoSpare, HasSafeSpare, KeepsSpares, accepted_in, doubts_for, is_clear, reclaimed}
 use Rattle.scrub_reclaim.proofs.DoubtParts.{each_part, of_spares}
-
-not_true : (b : Bool) → not b ≡ true → b ≡ false
-not_true true e = absurd (false≢true e)
-not_true false e = refl
 
 -- what is accepted isn't unaccepted
 pub clash : (b : Bool) → (b && true) ≡ true → (not (true && b) && true) ≡ true → ⊥
@@ -71,7 +68,7 @@ module _ (accepted : Acceptance) (pages : List SuperblockPage) (found : Scrubbed
       by false dead passes =
           inr
           (others found.candidates s.extent
-          (not_true (list_any (λ n. n == s.extent) numbers) (ap (λ (t : Bool). not (not t && list_any (λ n. n == s.extent) numbers)) (sym dead) ∙ passes)))
+          (false_from_not (list_any (λ n. n == s.extent) numbers) (ap (λ (t : Bool). not (not t && list_any (λ n. n == s.extent) numbers)) (sym dead) ∙ passes)))
 
   kept : is_clear accepted pages found ≡ true → KeepsSpares found found.candidates
   kept clear k d below has = by (spares_of found.all c) (staying found.checked numbers (spares_of found.all c)) refl refl (of_one (is_accepted (accepted_in accepted found)) clear)
@@ -106,6 +103,7 @@ module _ (accepted : Acceptance) (pages : List SuperblockPage) (found : Scrubbed
         stays = inr (λ j e within. absurd (omega (arith, within)));
       }
 
+  -- If no spare is accepted, each locator with spares has one that is live or in no listed extent.
   pub spares_kept : KeepsSpares found (reclaimed accepted pages found)
   spares_kept = by (is_clear accepted pages found) refl
     where

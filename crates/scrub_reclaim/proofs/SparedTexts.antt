@@ -77,6 +77,7 @@ said_spares l n m still = by (n == 0) (m == 0) still
     by false true still = absurd (clash (still refl))
     by false false still = inl refl
 
+-- If a sound locator keeps its form, and one with spares keeps some, what follows its status is alike.
 pub said_alike : (form other : Option Form) (spares now : List Standing) (c : Checked) →
     (is_sound c.status ≡ true → other ≡ form) →
     ((length spares == 0) ≡ false → (length now == 0) ≡ false) → IsSaidAlike (after_status form spares c) (after_status other now c)
@@ -122,6 +123,7 @@ module _ (before after : Checked → List ℕ) where
       of_each (λ (p : ℕ × Checked). numbered_line before p.0 p.1) (λ (p : ℕ × Checked). numbered_line after p.0 p.1)
       (enumerate_from 0 cs) (numbered_alike 0 cs each)
 
+  -- If what follows each status is alike, the manifests are the same but that `none` may be `spare`.
   pub texts_alike : (has : Bool) (retired : List ℕ) (lost hidden : ℕ) (bindings : List BindingValue) (shards : List Checked) →
       All AreAlike shards →
       IsSameButSpares (text_by before has retired lost hidden bindings shards) (text_by after has retired lost hidden bindings shards)

@@ -3,7 +3,7 @@ use Rattle.std.specs.Prelude.{◌≡◌, ◌≢◌, ◌⊎◌, ◌<◌, ◌≤�
 use Rattle.std.specs.Prelude.{length as len}
 use Rattle.std.specs.List.{AllZip, flat_map}
 use Rattle.sha2.specs.Sha256.{sha256}
-use Rattle.scrub_disk.specs.Image.{Image, byte, extent_bytes}
+use Rattle.scrub_disk.specs.Image.{Image, image_byte, extent_bytes}
 use Rattle.scrub_frame.specs.declared.form.Form.{Form}
 use Rattle.scrub_frame.specs.Frame.{frame_overhead}
 use Rattle.scrub_scan.specs.declared.item.Item.{Item}
@@ -52,9 +52,9 @@ pub record IsPlanAfterCopies (rooms : List RoomValue) (old new : PlanValue) : Ty
 pub record IsAfterCopies (rooms : List RoomValue) (before after : Image) : Type 0 where
   pub had : All (λ r. HasRoomAt before r.extent r.place) rooms
   pub sizes : after.geometry ≡ before.geometry
-  pub others : (x p : ℕ) → x ≢ 0 → x < before.geometry.extents → ¬ Contains (extents_of rooms) x → byte after x p ≡ byte before x p
-  pub kept : All (λ r. (p : ℕ) → p < r.place → byte after r.extent p ≡ byte before r.extent p) rooms
-  pub readable : All (λ r. (p : ℕ) → p < extent_bytes after.geometry → byte after r.extent p ≢ None) rooms
+  pub others : (x p : ℕ) → x ≢ 0 → x < before.geometry.extents → ¬ Contains (extents_of rooms) x → image_byte after x p ≡ image_byte before x p
+  pub kept : All (λ r. (p : ℕ) → p < r.place → image_byte after r.extent p ≡ image_byte before r.extent p) rooms
+  pub readable : All (λ r. (p : ℕ) → p < extent_bytes after.geometry → image_byte after r.extent p ≢ None) rooms
   pub old : PlanValue
   pub new : PlanValue
   pub was : IsPlanIn before old

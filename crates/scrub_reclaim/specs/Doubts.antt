@@ -79,7 +79,8 @@ abbrev pub superblock_lost : ℕ → SuperblockPage → Option Doubt
 superblock_lost q Lost = Some (SuperblockLost q)
 superblock_lost q _ = None
 
--- the doubt that page q of extent 0 is damaged: it begins with the letters of a kind of record, and no valid record holds these
+-- the doubt that page q of extent 0 is damaged: it begins with the letters of a kind of record, and no valid
+-- record holds the first of them
 abbrev pub superblock_damaged : ℕ → SuperblockPage → Option Doubt
 superblock_damaged q (Damaged kind) = Some (SuperblockDamaged q)
 superblock_damaged q _ = None

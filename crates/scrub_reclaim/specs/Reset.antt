@@ -1,6 +1,6 @@
 -- Resetting extents: what an image keeps then, and what is the same in what is found on it before and after.
 use Rattle.std.specs.Prelude.{◌≡◌, ◌≢◌, ◌<◌, ℕ, List, [], Some, All, Contains}
-use Rattle.scrub_disk.specs.Image.{Image, byte}
+use Rattle.scrub_disk.specs.Image.{Image, image_byte}
 use Rattle.scrub_super.specs.declared.pages.SuperblockPage.{SuperblockPage}
 use Rattle.scrub_super.specs.Chosen.{Choice, IsChoice}
 use Rattle.scrub_super.specs.Pages.{AreSuperblockPages}
@@ -41,11 +41,12 @@ pub record IsPlanAfterReset (extents : List ℕ) (old new : PlanValue) : Type 0 
   pub retired : new.retired ≡ old.retired
   pub pointers : (x : ℕ) → ¬ Contains extents x → pointer_of new x ≡ pointer_of old x
 
--- these extents were reset: the sizes are the same, so are the bytes of all other extents of the disk but extent 0, and the
--- superblock that counts differs in nothing but its generation and the write pointers of these extents
+-- these extents were reset: the sizes are the same, so are the bytes of all other extents of the disk but
+-- extent 0, and the superblock that counts differs in nothing but its generation and the write pointers of
+-- these extents, which may be any now
 pub record IsAfterReset (extents : List ℕ) (before after : Image) : Type 0 where
   pub sizes : after.geometry ≡ before.geometry
-  pub bytes : (x p : ℕ) → x ≢ 0 → x < before.geometry.extents → ¬ Contains extents x → byte after x p ≡ byte before x p
+  pub bytes : (x p : ℕ) → x ≢ 0 → x < before.geometry.extents → ¬ Contains extents x → image_byte after x p ≡ image_byte before x p
   pub old : PlanValue
   pub new : PlanValue
   pub was : IsPlanIn before old

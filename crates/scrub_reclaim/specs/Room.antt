@@ -4,7 +4,7 @@ use Rattle.std.specs.Fmt.{decimal}
 use Rattle.std.specs.List.{flat_map, list_all, list_any}
 use Rattle.std.specs.Option.{option_map_or}
 use Rattle.scrub_disk.specs.declared.geometry.Geometry.{Geometry}
-use Rattle.scrub_disk.specs.Image.{Image, byte, extent_bytes}
+use Rattle.scrub_disk.specs.Image.{Image, image_byte, extent_bytes}
 use Rattle.scrub_scan.specs.declared.item.Item.{Item}
 use Rattle.scrub_scan.specs.Extent.{extent_of}
 use Rattle.scrub_scan.specs.Findings.{is_nonzero}
@@ -23,7 +23,7 @@ ends_in_chunk (item ∷ []) = is_chunk item
 ends_in_chunk (item ∷ next ∷ items) = ends_in_chunk (next ∷ items)
 
 -- the place for the next frame, by the bytes of a page, the write pointer and the items below it: the pointer if it is at a
--- page bound or directly after a chunk, or else the next page bound
+-- page boundary or directly after a chunk, or else the next page boundary
 abbrev pub next_place : ℕ → ℕ → List Item → ℕ
 next_place page w items = if (w % page == 0) || ends_in_chunk items then w else (w / page + 1) * page
 
@@ -90,9 +90,9 @@ room_lines g all checked candidates =
 
 -- ---- what is there
 
--- in extent e under the pointer w each item is a chunk or zeros; the place is the pointer, if that is at a page bound or the last
--- item is a chunk, or else the next page bound; each byte from the pointer to it is zero or can't be read; and a frame of no
--- payload, 38 bytes, fits from there on
+-- in extent e under the pointer w each item is a chunk or zeros; the place is the pointer, if that is at a
+-- page boundary or the last item is a chunk, or else the next page boundary; each byte from the pointer to it
+-- is zero or can't be read; and a frame of no payload, 38 bytes, fits from there on
 pub record IsRoom (image : Image) (e w place : ℕ) : Type 0 where
   pub items : List Item
   pub tiled : IsTiling (extent_of image e w) items
@@ -100,5 +100,5 @@ pub record IsRoom (image : Image) (e w place : ℕ) : Type 0 where
   pub at_pointer : (w % image.geometry.page ≡ 0) ⊎ (ends_in_chunk items ≡ true) → place ≡ w
   pub at_bound : w % image.geometry.page ≢ 0 → ends_in_chunk items ≡ false →
       (w < place) × (place < w + image.geometry.page) × (place % image.geometry.page ≡ 0)
-  pub zeros : (p : ℕ) → w ≤ p → p < place → is_nonzero (byte image e p) ≡ false
+  pub zeros : (p : ℕ) → w ≤ p → p < place → is_nonzero (image_byte image e p) ≡ false
   pub fits : place + 38 ≤ extent_bytes image.geometry

@@ -40,12 +40,13 @@ pub enum Doubt {
     SuperblockLost {
         page: usize,
     },
-    /// This page of extent 0 begins like a superblock, and is no part of one.
+    /// This page of extent 0 begins with the four bytes of a kind of record, and no valid record holds the
+    /// first of them.
     SuperblockDamaged {
         page: usize,
     },
-    /// This page of extent 0 has a nonzero byte, doesn't begin like a superblock, and is no part of a
-    /// superblock.
+    /// This page of extent 0 isn't damaged, and has a nonzero byte that no valid record holds. A record may
+    /// begin on it.
     SuperblockStray {
         page: usize,
     },
@@ -64,8 +65,8 @@ pub enum Doubt {
         owner: Owner,
         bytes: u64,
     },
-    /// So many chunks that are asked for aren't found, and one may begin in an extent that may be reclaimed:
-    /// its first torn or noise item is at this offset.
+    /// The chunks of so many named locators aren't found, and one may begin in an extent that may be
+    /// reclaimed: that one's first torn or noise item is at this offset.
     Remains {
         extent: u32,
         offset: u32,

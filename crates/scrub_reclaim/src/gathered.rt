@@ -4,7 +4,7 @@
 ghost use Rattle.std.specs.Prelude.{◌≡◌, IfOk, map};
 ghost use Rattle.std.specs.List.Sorted.{IsPermutation};
 ghost use Rattle.scrub_found.specs.Judged.{IsScan};
-ghost use Rattle.scrub_reclaim.specs.steps.Gathered.{IsGathered};
+ghost use Rattle.scrub_reclaim.specs.steps.Gathered.{IsGatheredOn};
 
 use scrub_check::{Candidate, ExtentSet, LocatorIndex, candidates_by};
 use scrub_disk::{OutOfMemory, PageSource};
@@ -47,7 +47,7 @@ pub(crate) fn gathered_of<'d, R: Threads + Sync, D: PageSource>(
     scan: Scan<'d, D>,
 ) -> Result<Gathered<'d, D>, OutOfMemory>
     requires { IsScan (D.image scan.disk.now) scan }
-    ensures { IfOk result (IsGathered (D.image scan.entry.disk.now)) }
+    ensures { IfOk result (IsGatheredOn (D.image scan.entry.disk.now)) }
 {
     let judged = judged_of(rt, alloc, scan)?;
     let locators = LocatorIndex::by_threads(rt, alloc, &judged.checked)?;

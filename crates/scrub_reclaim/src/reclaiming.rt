@@ -260,8 +260,8 @@ pub fn listed_by_last()
 {}
 
 /// A law: where no line begins with `doubt` or `accepted remains`, a copy of a chunk that isn't found begins
-/// in an extent to reclaim only inside a chunk, after its start. So no reset takes what is left of a chunk
-/// and lies between the chunks.
+/// in an extent to reclaim only inside a chunk, after its start. A copy is a whole frame that ends at or
+/// before the write pointer. So no reset takes such a copy that lies between the chunks.
 pub fn no_remains_are_taken()
     ensures { (image : Image) (accepted : Acceptance) (pages : List SuperblockPage) (found : Scrubbed) →
         IsScrubbed image found → is_clear accepted pages found ≡ true →
@@ -288,7 +288,7 @@ pub fn a_reset_loses_nothing()
 
 /// A law: what a line `room` or `last-room` shows. It has the number of the extent, the place for the next
 /// frame and the bytes from there on. The extent's items are chunks and zeros alone. The place is the write
-/// pointer, if that is at a page bound or directly after a chunk, or else the next page bound. From the
+/// pointer, if that is at a page boundary or directly after a chunk, or else the next page boundary. From the
 /// pointer to the place no byte that can be read is other than zero, and 38 bytes or more fit from there on.
 pub fn a_line_shows_room()
     ensures line { (is_listed : Bool) (geometry : Geometry) (checked : List Checked) (f : Scanned) →

@@ -97,13 +97,14 @@ no_piece t ps size =
     let nothing : 0 * size ≡ 0 = grind arith in
     sym (ap (λ k. t ++ print (extents_tokens (take k ps))) nothing ∙ append-nil t)
 
--- the pieces reach the end, and each of them begins before it
+-- The `c` pieces together reach the end of the list.
 pub pieces_end : (n c size len : ℕ) → 0 < size → c ≡ div_ceil len size → c ≤ n → len ≤ n * size
 pieces_end n c size len some is all =
     let bound = (div_ceil_times len size some).0 in
     let steps : div_ceil len size * size ≤ n * size = mul-le-mul_right size (omega (arith, is, all)) in
     omega (arith, bound, steps)
 
+-- Each of the `c` pieces begins before the end of the list.
 pub piece_begins : (n c size len : ℕ) → 0 < size → c ≡ div_ceil len size → n < c → n * size < len
 piece_begins n c size len some is below =
     let bound = (div_ceil_times len size some).1 in

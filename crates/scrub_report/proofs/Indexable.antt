@@ -29,6 +29,7 @@ indexed_rise (b ∷ bs) rising (suc i) (suc j) d order here =
 abbrev is_kept : Scrubbed → BindingValue → Bool
 is_kept s b = not (is_broken s.checked b.id)
 
+-- The recovered index has the entries of a run: few enough, and by ascending identifier.
 pub index_run : (image : Image) (s : Scrubbed) → IsScrubbed image s → AreEntries (index_entries s.checked s.bindings)
 index_run image s x = record {
   count =

@@ -1,15 +1,17 @@
--- One report, and that each image has one.
+-- Lemmas on the report and on the recovered index.
+
+-- one report, and that each image has one
 pub mod OneReport
 pub mod Existing
--- The bindings fit into one index run.
+-- the bindings fit into one index run
 pub mod Indexable
 pub mod KeptEntries
--- The texts of the report, from values to tokens to pieces.
+-- the texts of the report, from values to tokens to pieces
 pub mod Tokens
 pub mod ExtentTexts
 pub mod LocatorValues
 pub mod RunRows
 pub mod ScannedLive
 pub mod ListedReport
--- Whole output.
+-- whole output
 pub mod Appending

@@ -25,11 +25,13 @@ not_last a false h = refl
 not_last true true h = absurd (false≢true h)
 not_last false true h = absurd (false≢true h)
 
+-- The code's values of hidden locators are those that the report has under `hidden`.
 pub hidden_shown : (cs : List Checked) → map locator_data (hidden cs) ≡ map hidden_data (hidden cs)
 hidden_shown cs =
     same_shown (λ c. is_hidden c.status) locator_data hidden_data
     (λ c h. ap (λ t. cond t (hidden_data c) (dangling_data c)) h) cs
 
+-- The code's values of dangling locators are those that the report has under `dangling`.
 pub dangling_shown : (cs : List Checked) → map locator_data (dangling cs) ≡ map dangling_data (dangling cs)
 dangling_shown cs =
     same_shown (λ c. is_dangling c.status) locator_data dangling_data

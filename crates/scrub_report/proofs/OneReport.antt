@@ -11,6 +11,7 @@ use Rattle.scrub_report.specs.Report.{report_text}
 same_answer : (a b : AnswerValue) → a.report ≡ b.report → a.index ≡ b.index → a.is_clean ≡ b.is_clean → a ≡ b
 same_answer a b hr hi hc = λ i. record { report = hr i; index = hi i; is_clean = hc i }
 
+-- An image has at most one answer.
 pub one_answer : (image : Image) (a b : AnswerValue) → IsScrubAnswer image a → IsScrubAnswer image b → a ≡ b
 one_answer image a b x y =
     let found = one_scrub image x.found y.found x.scrubbed y.scrubbed in

@@ -14,6 +14,7 @@ shown : (rows : List RunRow) → map row_data rows
 shown [] = refl
 shown (r ∷ rs) = ap (λ ds. row_data r ∷ ds) (shown rs)
 
+-- The list of the rows' values is that of `runs`, by their locators, numbers of entries and states.
 pub rows_shown : (rows : List RunRow) →
     list (map row_data rows) ≡ runs_data (map (λ r. r.locator) rows) (map (λ r. r.entries) rows) (run_states rows)
 rows_shown rows = ap list (shown rows)

@@ -9,7 +9,7 @@ use Rattle.json.specs.Tree.{items_tokens, members_tokens as closed_members}
 use Rattle.serde_json.specs.Data.{Data}
 use Rattle.serde_json.specs.View.{items_of}
 use Rattle.serde_json.specs.Written.{items_outline, members_outline}
-use Rattle.scrub_report.specs.Json.{list, members, with_keys}
+use Rattle.scrub_report.specs.Json.{list, object_members, with_keys}
 use Rattle.scrub_run.specs.declared.shard_id.ShardId.{ShardId}
 use Rattle.scrub_report.specs.declared.listed.Listed.{Listed}
 use Rattle.scrub_report.specs.steps.Tokens.{all_keys, extent_keys, first_keys, list_begun, member_tokens, members_tokens, value_tokens}
@@ -42,6 +42,7 @@ module _ {X : Type 0} (show : X → Data) (xs : List X) (old mid new : List Toke
       ∙ append_assoc old (list_begun show xs) (end_array ∷ [])
       ∙ ap (λ ts. old ++ ts) (sym (list_tokens show xs))
 
+  -- Once all elements are written, a closing bracket that is written completes the list's tokens.
   pub list_closed : {E : Type 0} (r : Result (Unit {0}) E) → length xs ≤ i → mid ≡ old ++ list_begun show (take i xs) →
       OnOk r (new ≡ mid ++ end_array ∷ []) →
       OnOk r (new ≡ old ++ value_tokens (list (map show xs)))
@@ -51,12 +52,13 @@ module _ {X : Type 0} (show : X → Data) (xs : List X) (old mid new : List Toke
 -- ---- objects
 
 members_are : (ms : List (List ℕ × Data)) →
-    closed_members (members_outline (members ms)) ≡ members_tokens ms ++ end_object ∷ []
+    closed_members (members_outline (object_members ms)) ≡ members_tokens ms ++ end_object ∷ []
 members_are [] = refl
 members_are (m ∷ ms) =
     ap (λ ts. member_tokens m.0 m.1 ++ ts) (members_are ms)
     ∙ sym (append_assoc (member_tokens m.0 m.1) (members_tokens ms) (end_object ∷ []))
 
+-- The tokens of an object are those of its members, between braces.
 pub object_tokens : (ms : List (List ℕ × Data)) →
     value_tokens (with_keys ms) ≡ begin_object ∷ (members_tokens ms ++ end_object ∷ [])
 object_tokens ms = ap (λ ts. begin_object ∷ ts) (members_are ms)
@@ -88,6 +90,7 @@ object_written ms a b c d begun all closed =
     (chain b c d (members_tokens ms) (end_object ∷ []) all closed)
     ∙ ap (λ ts. a ++ ts) (sym (object_tokens ms))
 
+-- Once all members are written, a closing brace that is written completes the object's tokens.
 pub object_closed : {E : Type 0} (ms : List (List ℕ × Data)) (a b c d : List Token) (r : Result (Unit {0}) E) →
     b ≡ a ++ begin_object ∷ [] → c ≡ b ++ members_tokens ms → OnOk r (d ≡ c ++ end_object ∷ []) →
     OnOk r (d ≡ a ++ value_tokens (with_keys ms))
@@ -97,6 +100,7 @@ object_closed ms a b c d (Err e) begun all closed = tt
 -- ---- the report, whose keys are written before and after its extents
 
 module _ {D : Type 0} (l : Listed D) (broken : List ShardId) (clean : Bool) where
+  -- The keys before `extents` and those from it on, in braces, have the tokens of the whole report.
   pub keys_joined : begin_object ∷ (members_tokens (first_keys l broken clean) ++ (members_tokens (extent_keys l) ++ end_object ∷ []))
       ≡ value_tokens (with_keys (all_keys l broken clean))
   keys_joined =

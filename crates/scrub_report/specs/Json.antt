@@ -17,10 +17,10 @@ abbrev pub list : List Data → Data
 list values = array (items_of values)
 
 -- keys with their values, in their order
-abbrev pub members : List (List ℕ × Data) → Members
-members [] = no_members
-members (m ∷ ms) = member m.0 m.1 (members ms)
+abbrev pub object_members : List (List ℕ × Data) → Members
+object_members [] = no_members
+object_members (m ∷ ms) = member m.0 m.1 (object_members ms)
 
 -- the JSON object with these members
 abbrev pub with_keys : List (List ℕ × Data) → Data
-with_keys ms = object (members ms)
+with_keys ms = object (object_members ms)

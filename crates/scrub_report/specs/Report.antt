@@ -17,7 +17,7 @@ use Rattle.scrub_check.specs.Candidates.{CandidateValue}
 use Rattle.scrub_check.specs.Checked.{dangling, hidden}
 use Rattle.scrub_check.specs.Chunks.{orphans, twins}
 use Rattle.scrub_check.specs.Live.{live_bytes}
-use Rattle.scrub_report.specs.Json.{natural, natural_or_null, list, members, with_keys}
+use Rattle.scrub_report.specs.Json.{natural, natural_or_null, list, object_members, with_keys}
 use Rattle.scrub_found.specs.Scrubbed.{Scrubbed, IsScrubbed, entry_counts, is_clean_disk}
 use Rattle.scrub_found.specs.Texts.{id_text, owner_text, state_text, status_text, uuid_text}
 
@@ -66,7 +66,7 @@ runs_data locators entries states = list (map (λ r. run_data r.0 r.1.0 r.1.1) (
 
 -- a checked locator's extent, length, offset, UUID and owner: all that one of `hidden` has
 abbrev pub locator_members : Checked → Members
-locator_members c = members (
+locator_members c = object_members (
     (codes "extent", natural c.locator.extent) ∷
     (codes "length", natural c.locator.length) ∷
     (codes "offset", natural c.locator.offset) ∷

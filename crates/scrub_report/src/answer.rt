@@ -219,8 +219,9 @@ pub fn one_report()
     ensures { (image : Image) (a b : AnswerValue) → IsScrubAnswer image a → IsScrubAnswer image b → a ≡ b }
 {}
 
-/// A law: each image has a report, an index and a verdict, and a list of planned extents. With `one_report`, it
-/// has exactly one of each.
+/// A law: each image has a report, an index and a verdict, a list of planned extents, and takings for each
+/// number of workers. With `one_report` and `one_list_of_planned_extents`, it has exactly one of all but the
+/// takings.
 pub fn each_image_has_a_report()
     ensures report { (image : Image) → (a : AnswerValue) × IsScrubAnswer image a }
     ensures index { (image : Image) →

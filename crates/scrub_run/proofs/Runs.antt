@@ -39,7 +39,7 @@ one_run_lem payload xs ys hx hy =
     head = same_head (length xs) (length ys) (flat_map entry_bytes xs) (flat_map entry_bytes ys)
         (same_body (run_body xs) (run_body ys) (sym hx.spelled ∙ hy.spelled))
 
--- if a payload isn't something followed by its own digest
+-- Bytes that are a text followed by its digest are cut into these two 32 bytes before their end.
 pub body_cut : (x s a d : List ℕ) → a ≡ take (length x - 32) x → d ≡ drop (length x - 32) x → x ≡ s ++ sha256 s → (a ≡ s) × (d ≡ sha256 s)
 body_cut x s a d ha hd e = (
   ha ∙ ap (take (length x - 32)) e ∙ take_at s (sha256 s) (length x - 32) (sym before),

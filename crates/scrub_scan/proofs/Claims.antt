@@ -32,10 +32,10 @@ bytes_stand at p n whole k below =
     ∙ ap Some (sym (get_or-map-range_with_len (λ i. byte_or_zero (at i)) p n k (p + k) 0 few refl))
 
 -- the frame of a head is there, if its seal and bytes of its payload's length are between its two ends
-pub frame_of : (x : Extent) (p : ℕ) (h : Head) (s b : List ℕ) → IsClaimedAt x p h → h.length ≡ length b →
+pub claimed_frame : (x : Extent) (p : ℕ) (h : Head) (s b : List ℕ) → IsClaimedAt x p h → h.length ≡ length b →
     s ≡ seal h.form b → AreBytesAt x.byte (p + head_size) s → AreBytesAt x.byte (p + payload_start h.form) b →
     FrameAt x p h.form h.uuid b
-frame_of x p h s b claim size is sealed between =
+claimed_frame x p h s b claim size is sealed between =
     let start : AreBytesAt x.byte p (head h.form h.uuid (length b)) =
     subst (λ (m : ℕ). AreBytesAt x.byte p (head h.form h.uuid m)) size claim.head_stands in
     let stop : AreBytesAt x.byte (p + payload_start h.form + h.length) (h.uuid ++ mark h.form) =
@@ -62,7 +62,7 @@ pub plain_frame_of : (x : Extent) (p : ℕ) (h : Head) (b : List ℕ) → IsClai
     h.length ≡ length b → AreBytesAt x.byte (p + head_size) b → FrameAt x p Plain h.uuid b
 plain_frame_of x p h b claim is size between =
     subst (λ (f : Form). FrameAt x p f h.uuid b) is
-    (frame_of x p h [] b claim size (sym (ap (λ (f : Form). seal f b) is)) (λ k below. absurd (omega (arith, below)))
+    (claimed_frame x p h [] b claim size (sym (ap (λ (f : Form). seal f b) is)) (λ k below. absurd (omega (arith, below)))
     (subst (λ (f : Form). AreBytesAt x.byte (p + payload_start f) b) (sym is) between))
 
 -- so a plain frame is there, if all its bytes can be read

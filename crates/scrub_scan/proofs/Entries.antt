@@ -12,7 +12,6 @@ use Rattle.scrub_scan.specs.declared.findings.Findings.{Findings}
 use Rattle.scrub_scan.specs.Findings.{IsFindings}
 use Rattle.scrub_scan.specs.Scanned.{Scanned}
 use Rattle.scrub_scan.specs.AllFindings.{extent_numbers, entry_of, findings_in, AreAllFindings}
-pub use Rattle.list_facts.proofs.Searches.{find_passes}
 
 -- what is kept of the i-th extent is found by its number
 pub entry_at : (all : List Scanned) → IsStrictlyIncreasing (extent_numbers all) → (i : ℕ) (f : Scanned) (e : ℕ) →

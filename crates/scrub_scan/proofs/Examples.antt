@@ -8,7 +8,7 @@ use Rattle.std.proofs.lemmas.List.Elements.{All-cons, All-nil}
 use Rattle.uuid.specs.Text.{by_index}
 use Rattle.sha2.specs.Sha256.{sha256}
 use Rattle.scrub_frame.specs.declared.form.Form.TheVariants.{Plain, Sealed}
-use Rattle.scrub_frame.specs.Frame.{frame, magic, frame_overhead}
+use Rattle.scrub_frame.specs.Frame.{frame_of, magic, frame_overhead}
 use Rattle.scrub_scan.specs.declared.item.Item.TheVariants.{Chunk, Pad, Torn, Noise, Lost}
 use Rattle.scrub_scan.specs.Extent.{Extent, FrameAt, NoFrameAt, IsZero, HasMagic}
 use Rattle.scrub_scan.specs.Item.{IsItem}
@@ -55,14 +55,14 @@ abc = 0x61 ∷ 0x62 ∷ 0x63 ∷ []
 
 -- an extent with pages of 64 bytes, and under this pointer
 abc_under : ℕ → Extent
-abc_under pointer = record { byte = slice_get (frame Plain ones abc); page = 64; pointer = pointer }
+abc_under pointer = record { byte = slice_get (frame_of Plain ones abc); page = 64; pointer = pointer }
 
 stands : (w : ℕ) → 41 ≤ w → FrameAt (abc_under w) 0 Plain ones abc
 unfolding abc_under ones abc
 stands w h = record {
   has_frame = record { sixteen = refl; short = lit< tt };
   fits = omega (arith, h);
-  stands = λ k hk. let e : 0 + k ≡ k = omega arith in rw e (slice_get-get_or (frame Plain ones abc) k 0 hk);
+  stands = λ k hk. let e : 0 + k ≡ k = omega arith in rw e (slice_get-get_or (frame_of Plain ones abc) k 0 hk);
 }
 
 tiling_under_41 : IsTiling (abc_under 41) (Chunk Plain 0 41 ones 3 (sha256 abc) ∷ [])
@@ -103,7 +103,7 @@ begins_with_magic : (w : ℕ) → 2 ≤ w → HasMagic (abc_under w) 0
 unfolding abc_under ones abc
 begins_with_magic w h = (omega (arith, h), (Plain, each))
   where
-    each : (k : ℕ) → k < 2 → slice_get (frame Plain ones abc) (0 + k) ≡ Some (get_or (magic Plain) k 0)
+    each : (k : ℕ) → k < 2 → slice_get (frame_of Plain ones abc) (0 + k) ≡ Some (get_or (magic Plain) k 0)
     each zero hk = refl
     each (suc zero) hk = refl
     each (suc (suc k)) hk = absurd (omega (arith, hk))

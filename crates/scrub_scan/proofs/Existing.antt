@@ -9,7 +9,7 @@ use Rattle.list_facts.proofs.Decisions.{Decided, decided_at_most, decided_below,
 use Rattle.scrub_disk.specs.Image.{Image, AreBytesAt, unreadable_pages}
 use Rattle.scrub_frame.specs.declared.form.Form.{Form}
 use Rattle.scrub_frame.specs.declared.form.Form.TheVariants.{Plain, Sealed}
-use Rattle.scrub_frame.specs.Frame.{frame, head, magic, seal, mark, payload_start, head_size, frame_overhead}
+use Rattle.scrub_frame.specs.Frame.{frame_of, head, magic, seal, mark, payload_start, head_size, frame_overhead}
 use Rattle.scrub_frame.specs.Matching.{form_in, length_in, uuid_in}
 use Rattle.scrub_frame.proofs.Claims.{IsHead, form-in, length-in, uuid-in}
 use Rattle.scrub_super.specs.Plan.{PlanValue, IsPlan, pointer_of}
@@ -17,7 +17,7 @@ use Rattle.scrub_super.proofs.BytesHere.{bytes_here, length-bytes_here, exactly,
 use Rattle.scrub_scan.specs.declared.item.Item.{Item}
 use Rattle.scrub_scan.specs.declared.item.Item.TheVariants.{Chunk, Pad, Torn, Noise, Lost}
 use Rattle.scrub_scan.specs.declared.findings.Findings.{Findings}
-use Rattle.scrub_scan.specs.Extent.{Extent, extent_of, FrameAt, NoFrameAt, bound, IsZero, HasMagic}
+use Rattle.scrub_scan.specs.Extent.{Extent, extent_of, FrameAt, NoFrameAt, bound_above, IsZero, HasMagic}
 use Rattle.scrub_scan.specs.Item.{start_of, stop_of, IsItem}
 use Rattle.scrub_scan.specs.Tiling.{Joins, IsTiling}
 use Rattle.scrub_scan.specs.Findings.{tail, IsFindings}
@@ -32,10 +32,10 @@ decided_this_frame : (x : Extent) (p : ℕ) (f : Form) (u b : List ℕ) → Deci
 decided_this_frame x p f u b =
     let sizes : Decided ((length u ≡ 16) × (length b < 2 ^ 32)) =
     decided_both (decided_number (length u) 16) (decided_less (length b) (2 ^ 32)) in
-    let rest : Decided ((p + length b + frame_overhead f ≤ x.pointer) × AreBytesAt x.byte p (frame f u b)) =
+    let rest : Decided ((p + length b + frame_overhead f ≤ x.pointer) × AreBytesAt x.byte p (frame_of f u b)) =
     decided_both (decided_at_most (p + length b + frame_overhead f) x.pointer)
-    (decided_bytes_at x.byte p (frame f u b)) in
-    let all : Decided (((length u ≡ 16) × (length b < 2 ^ 32)) × ((p + length b + frame_overhead f ≤ x.pointer) × AreBytesAt x.byte p (frame f u b))) =
+    (decided_bytes_at x.byte p (frame_of f u b)) in
+    let all : Decided (((length u ≡ 16) × (length b < 2 ^ 32)) × ((p + length b + frame_overhead f ≤ x.pointer) × AreBytesAt x.byte p (frame_of f u b))) =
     decided_both sizes rest in
     decided_like all
     (λ h. record { has_frame = record { sixteen = h.0.0; short = h.0.1 }; fits = h.1.0; stands = h.1.1 })
@@ -74,6 +74,7 @@ module _ (x : Extent) (p : ℕ) where
   moved : (f g : Form) (u v b c : List ℕ) → f ≡ g → u ≡ v → b ≡ c → FrameAt x p g v c → FrameAt x p f u b
   moved f g u v b c same_form same_uuid same_payload k = rw (same_form, same_uuid, same_payload) k
 
+  -- At each place is a frame, or no frame of either form.
   pub some_frame : ((f : Form) × (u : List ℕ) × (b : List ℕ) × FrameAt x p f u b) ⊎ NoFrameAt x p
   some_frame = by (decided_this_frame x p (form_in head_bytes) (uuid_in head_bytes) payload_bytes)
     where
@@ -88,14 +89,14 @@ module _ (x : Extent) (p : ℕ) where
 
 decided_zero : (x : Extent) (p : ℕ) → Decided (IsZero x p)
 decided_zero x p =
-    decided_like (decided_below (λ k. x.byte (p + k) ≡ Some 0) (λ k. decided_some (x.byte (p + k)) 0) (bound x p - p))
+    decided_like (decided_below (λ k. x.byte (p + k) ≡ Some 0) (λ k. decided_some (x.byte (p + k)) 0) (bound_above x p - p))
     (λ all i low high.
     let e : p + (i - p) ≡ i = omega (arith, low) in
     ap x.byte (sym e) ∙ all (i - p) (omega (arith, low, high)))
     (λ all k here. all (p + k) (omega arith) (omega (arith, here)))
 
 decided_magic : (x : Extent) (p : ℕ) → Decided (HasMagic x p)
-decided_magic x p = decided_both (decided_at_most (p + 2) (bound x p)) (by (decided_bytes_at x.byte p (magic Plain)) (decided_bytes_at x.byte p (magic Sealed)))
+decided_magic x p = decided_both (decided_at_most (p + 2) (bound_above x p)) (by (decided_bytes_at x.byte p (magic Plain)) (decided_bytes_at x.byte p (magic Sealed)))
   where
     by : Decided (AreBytesAt x.byte p (magic Plain)) → Decided (AreBytesAt x.byte p (magic Sealed)) →
         Decided ((f : Form) × AreBytesAt x.byte p (magic f))
@@ -112,7 +113,7 @@ some_item : (x : Extent) (p : ℕ) → p < x.pointer → (item : Item) × (start
 some_item x p below = by_frame (some_frame x p)
   where
     stop : ℕ
-    stop = bound x p
+    stop = bound_above x p
 
     by_frame : ((f : Form) × (u : List ℕ) × (b : List ℕ) × FrameAt x p f u b) ⊎ NoFrameAt x p →
         (item : Item) × (start_of item ≡ p) × IsItem x item

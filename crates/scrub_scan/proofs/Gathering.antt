@@ -183,6 +183,7 @@ pub record SettledMore (items : List Item) (later : List ℕ) (new : Payloads) (
   pub count : length later ≡ length payloads
   pub settled_is : settled (items ++ item ∷ []) later payloads ≡ so_far ++ done ∷ []
 
+-- One more item is settled with its digest, whether its payload was added or the digest was known.
 pub settled_next : (items : List Item) (pending later : List ℕ) (before payloads : List (List ℕ)) (p : Payloads) (batch : Batch)
     (has : Has p (before ++ payloads)) (item : Item) (gathered : Bool) (digest : List ℕ)
     → length pending ≡ length payloads → All (λ i. i < length items) pending

@@ -9,13 +9,13 @@ use Rattle.std.proofs.lemmas.List.{append-nil}
 use Rattle.std.proofs.lemmas.List.Elements.{All-head, All-tail}
 use Rattle.list_facts.proofs.Arithmetic.{div_rises, div_up_to_next_row, place_in_row}
 use Rattle.list_facts.proofs.Filters.{filter_range-none_more, filter_range-yes}
-use Rattle.scrub_disk.specs.Image.{Image, byte, extent_bytes, HasWholePages}
-use Rattle.scrub_frame.specs.Frame.{frame, frame_overhead}
+use Rattle.scrub_disk.specs.Image.{Image, image_byte, extent_bytes, HasWholePages}
+use Rattle.scrub_frame.specs.Frame.{frame_of, frame_overhead}
 use Rattle.scrub_frame.proofs.Frames.{length-frame, overhead}
 use Rattle.scrub_scan.specs.declared.item.Item.{Item}
 use Rattle.scrub_scan.specs.declared.item.Item.TheVariants.{Chunk, Pad, Torn, Noise, Lost}
 use Rattle.scrub_scan.specs.declared.pages.Target.{Target}
-use Rattle.scrub_scan.specs.Extent.{bound}
+use Rattle.scrub_scan.specs.Extent.{bound_above}
 use Rattle.scrub_scan.specs.Item.{start_of, stop_of, IsItem}
 use Rattle.scrub_scan.specs.Findings.{unreadable_below, lost_page}
 use Rattle.scrub_scan.specs.steps.Pages.{IsTarget, target_of}
@@ -25,7 +25,7 @@ use Rattle.scrub_scan.proofs.Passing.{gap_byte}
 use Rattle.scrub_scan.proofs.Tilings.{advances}
 
 -- a page with a readable byte can be read
-readable_page : (image : Image) (e i page : ℕ) → page ≡ image.geometry.page → ¬ (byte image e i ≡ None) →
+readable_page : (image : Image) (e i page : ℕ) → page ≡ image.geometry.page → ¬ (image_byte image e i ≡ None) →
     is_none (image.page e (i / page)) ≡ false
 readable_page image e i page same there = by_page (image.page e (i / page)) refl
   where
@@ -35,7 +35,7 @@ readable_page image e i page same there = by_page (image.page e (i / page)) refl
 
 -- a page of the extent with an unreadable byte can't
 unreadable_page : (image : Image) (e i page : ℕ) → HasWholePages image → page ≡ image.geometry.page →
-    e < image.geometry.extents → i < extent_bytes image.geometry → byte image e i ≡ None →
+    e < image.geometry.extents → i < extent_bytes image.geometry → image_byte image e i ≡ None →
     is_none (image.page e (i / page)) ≡ true
 unreadable_page image e i page whole same disk within gap =
     ap (λ p. is_none (image.page e (i / p))) same
@@ -55,7 +55,7 @@ module _ (image : Image) (t : Target) (whole : HasWholePages image) (is : IsTarg
       ∙ sym (append-nil (unreadable_below image t.extent (a / t.page)))
 
   -- so also if a part up to a bound begins with a readable byte
-  one_readable : (a b : ℕ) → a ≤ b → b ≤ (a / t.page + 1) * t.page → ¬ (byte image t.extent a ≡ None) →
+  one_readable : (a b : ℕ) → a ≤ b → b ≤ (a / t.page + 1) * t.page → ¬ (image_byte image t.extent a ≡ None) →
       unreadable_below image t.extent (b / t.page) ≡ unreadable_below image t.extent (a / t.page) ++ []
   one_readable a b up within there =
       pages_readable a b up (λ q low high.
@@ -63,7 +63,7 @@ module _ (image : Image) (t : Target) (whole : HasWholePages image) (is : IsTarg
       ap (λ k. is_none (image.page t.extent k)) (sym same) ∙ readable_page image t.extent a t.page is.page there)
 
   -- a bound of the extent, in the target's own page size
-  bound_at : (a b : ℕ) → b ≡ bound (target_of image t) a → b ≤ (a / t.page + 1) * t.page
+  bound_at : (a b : ℕ) → b ≡ bound_above (target_of image t) a → b ≤ (a / t.page + 1) * t.page
   bound_at a b h =
       let same : (a / image.geometry.page + 1) * image.geometry.page ≡ (a / t.page + 1) * t.page =
       ap (λ p. (a / p + 1) * p) (sym is.page) in
@@ -73,7 +73,7 @@ module _ (image : Image) (t : Target) (whole : HasWholePages image) (is : IsTarg
   lost_in_item : (item : Item) → IsItem (target_of image t) item →
       unreadable_below image t.extent (stop_of item / t.page) ≡ unreadable_below image t.extent (start_of item / t.page) ++ cons_option (lost_page t.page item) []
   lost_in_item (Chunk f start stop u n digest) h =
-      let size : length (frame f u h.fits.0) ≡ frame_overhead f + length h.fits.0 =
+      let size : length (frame_of f u h.fits.0) ≡ frame_overhead f + length h.fits.0 =
       length-frame f u h.fits.0 h.fits.1.has_frame.sixteen in
       pages_readable start stop (omega (arith, overhead f, h.fits.2)) (λ q low high.
       let last : q ≤ (stop - 1) / t.page = le-div q (stop - 1) t.page t.positive
@@ -83,7 +83,7 @@ module _ (image : Image) (t : Target) (whole : HasWholePages image) (is : IsTarg
       ap (λ r. is_none (image.page t.extent r)) (sym here.3)
       ∙ readable_page image t.extent here.0 t.page is.page (λ none.
       none-some _
-      (sym none ∙ ap (byte image t.extent) (sym j) ∙ h.fits.1.stands (here.0 - start) (omega (arith, here.1, here.2, h.fits.2, size)))))
+      (sym none ∙ ap (image_byte image t.extent) (sym j) ∙ h.fits.1.stands (here.0 - start) (omega (arith, here.1, here.2, h.fits.2, size)))))
   lost_in_item (Pad start stop) h =
       let up = advances (target_of image t) (Pad start stop) (omega (arith, t.positive, is.page)) h in
       one_readable start stop (omega (arith, up.0)) (bound_at start stop h.fits.0)

@@ -72,7 +72,7 @@ pages_before image t is =
     div_below t.pointer t.page (image.geometry.pages + 1) t.positive (omega (arith, size, is.in_extent, t.positive)) in
     omega (arith, below)
 
--- so there were as many calls as there are pages
+-- So there were at least as many calls as pages that were read.
 pub all_read : (p : TwoPages) (n : ℕ) → n ≤ 2 ^ 32 → HasRead p n → n ≤ p.asked
 all_read p n small h = elim (cases_lt p.asked (2 ^ 32)) [
   | inl few ↦

@@ -201,6 +201,7 @@ module _ (x : Extent) (from : Option ℕ) where
     its_digest : digest ≡ sha256 (get_or payloads k [])
     its_digest = digest_at ∙ ap (λ xs. get_or xs k other) all ∙ get_or-map sha256 payloads k [] other low_p
 
+    -- If the k-th digest agrees with the seal of its item, the items tile as before once it is put in.
     pub put_one : AgreesWith item digest
         → TilesIfSealed x place from (slice_set items i (with_digest item digest)) (drop (k + 1) pending) (drop (k + 1) payloads)
     put_one agrees =
@@ -209,6 +210,7 @@ module _ (x : Extent) (from : Option ℕ) where
         (tiles_next place items i item (drop (k + 1) pending) (get_or payloads k []) (drop (k + 1) payloads) its_first (sym there)
         (subst (AgreesWith item) its_digest agrees))
 
+    -- If the k-th digest doesn't agree, the items before its item tile the extent up to that item's start.
     pub put_none : ¬ AgreesWith item digest → TiledTo x (start_of item) (take i items) × IsRightTo place from (start_of item)
     put_none wrong =
         tiles_front place items i item (drop (k + 1) pending) (get_or payloads k []) (drop (k + 1) payloads) its_first (sym there)

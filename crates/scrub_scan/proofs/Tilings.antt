@@ -4,15 +4,14 @@ use Rattle.std.proofs.Math.Nat.{mod-lt}
 use Rattle.std.proofs.lemmas.Bool.{cases_lt}
 use Rattle.std.proofs.lemmas.Nat.{div-add-mod'}
 use Rattle.std.proofs.lemmas.Option.{none-some, same_Some}
-use Rattle.std.proofs.lemmas.List.Elements.{All-push, All-head, All-tail}
+use Rattle.std.proofs.lemmas.List.Elements.{All-head, All-tail}
 use Rattle.scrub_frame.specs.declared.form.Form.{Form}
 use Rattle.scrub_frame.specs.Frame.{frame_overhead}
 use Rattle.scrub_frame.proofs.Frames.{overhead}
 use Rattle.scrub_scan.specs.declared.item.Item.{Item}
 use Rattle.scrub_scan.specs.declared.item.Item.TheVariants.{Chunk, Pad, Torn, Noise, Lost}
 use Rattle.sha2.specs.Sha256.{sha256}
-use Rattle.scrub_scan.specs.Extent.{Extent, bound, IsZero}
-use Rattle.scrub_scan.specs.steps.Gathering.{TiledTo}
+use Rattle.scrub_scan.specs.Extent.{Extent, bound_above, IsZero}
 use Rattle.scrub_scan.specs.Item.{start_of, stop_of, IsItem, Fits}
 use Rattle.scrub_scan.specs.steps.OneFrame.{one_frame_at}
 use Rattle.scrub_scan.specs.Tiling.{Covers, IsInOneItem, IsTiling, Joins}
@@ -24,8 +23,8 @@ Joins-push a [] item h = (sym h, refl)
 Joins-push a (first ∷ items) item h = (h.0, Joins-push (stop_of first) items item h.1)
 
 -- a bound is above its place, and not above the pointer
-pub bound_above : (x : Extent) (p : ℕ) → 0 < x.page → p < x.pointer → (p < bound x p) × (bound x p ≤ x.pointer)
-bound_above x p pos h =
+pub is_below_bound : (x : Extent) (p : ℕ) → 0 < x.page → p < x.pointer → (p < bound_above x p) × (bound_above x p ≤ x.pointer)
+is_below_bound x p pos h =
     let m : p % x.page < x.page = mod-lt p pos in
     let s : p < (p / x.page + 1) * x.page = omega (arith, div-add-mod' p x.page, m) in
     (omega (arith, s, h), omega arith)
@@ -36,25 +35,17 @@ pub advances : (x : Extent) (item : Item) → 0 < x.page → IsItem x item →
 advances x (Chunk f start stop u n digest) pos h =
     (omega (arith, overhead f, h.fits.2), omega (arith, h.fits.2, h.fits.1.fits))
 advances x (Lost start stop) pos h =
-    let b = bound_above x start pos h.below in
+    let b = is_below_bound x start pos h.below in
     (omega (arith, h.fits.0, b.0), omega (arith, h.fits.0, b.1))
 advances x (Pad start stop) pos h =
-    let b = bound_above x start pos h.below in
+    let b = is_below_bound x start pos h.below in
     (omega (arith, h.fits.0, b.0), omega (arith, h.fits.0, b.1))
 advances x (Torn start stop) pos h =
-    let b = bound_above x start pos h.below in
+    let b = is_below_bound x start pos h.below in
     (omega (arith, h.fits.0, b.0), omega (arith, h.fits.0, b.1))
 advances x (Noise start stop) pos h =
-    let b = bound_above x start pos h.below in
+    let b = is_below_bound x start pos h.below in
     (omega (arith, h.fits.0, b.0), omega (arith, h.fits.0, b.1))
-
-pub one_more_item : (x : Extent) (p q : ℕ) (items : List Item) (item : Item) → 0 < x.page → TiledTo x p items →
-    start_of item ≡ p → IsItem x item → q ≡ stop_of item → TiledTo x q (items ++ item ∷ [])
-one_more_item x p q items item pos h starts is stops = record {
-  joined = rw stops (Joins-push 0 items item (rw starts h.joined));
-  each = All-push (IsItem x) items item h.each is;
-  within = omega (arith, stops, (advances x item pos is).1);
-}
 
 -- two chunks of the same frame are the same
 same_chunk : (x : Extent) (p : ℕ) (f : Form) (b : ℕ) (u : List ℕ) (n : ℕ) (d : List ℕ) (g : Form) (b' : ℕ) (v : List ℕ) (m : ℕ) (c : List ℕ) →
@@ -70,7 +61,7 @@ same_chunk x p f b u n d g b' v m c h k =
     ∙ ap (λ z. Chunk g p b' v z d) e ∙ ap (λ z. Chunk g p b' v m z) sha
 
 -- a page with zeros is readable
-zeros_are_readable : (x : Extent) (p : ℕ) → p < bound x p → IsZero x p → x.byte p ≡ None → ⊥
+zeros_are_readable : (x : Extent) (p : ℕ) → p < bound_above x p → IsZero x p → x.byte p ≡ None → ⊥
 zeros_are_readable x p hp z none = some_none 0 (sym (z p (omega arith) hp) ∙ none)
   where
     some_none : (a : ℕ) → Some a ≡ None → ⊥
@@ -92,7 +83,7 @@ put_at_start (Torn a b) = refl
 put_at_start (Noise a b) = refl
 
 -- at most one item fits at a place, since the cases exclude one another
-one_item_fits : (x : Extent) (p : ℕ) (i j : Item) → p < bound x p → Fits x (put_at p i) → Fits x (put_at p j) →
+one_item_fits : (x : Extent) (p : ℕ) (i j : Item) → p < bound_above x p → Fits x (put_at p i) → Fits x (put_at p j) →
     put_at p i ≡ put_at p j
 one_item_fits x p (Chunk f a b u n d) (Chunk g a' b' v m c) hp h k = same_chunk x p f b u n d g b' v m c h k
 one_item_fits x p (Chunk f a b u n d) (Lost a' b') hp h k = absurd (k.1 f u h.0 h.1)
@@ -126,7 +117,7 @@ one_item x i j pos h k e =
     let first : Fits x (put_at (start_of i) i) = subst (Fits x) (sym (put_at_start i)) h.fits in
     let second : Fits x (put_at (start_of j) j) = subst (Fits x) (sym (put_at_start j)) k.fits in
     let moved : Fits x (put_at (start_of i) j) = subst (λ (p : ℕ). Fits x (put_at p j)) (sym e) second in
-    sym (put_at_start i) ∙ one_item_fits x (start_of i) i j (bound_above x (start_of i) pos h.below).0 first moved
+    sym (put_at_start i) ∙ one_item_fits x (start_of i) i j (is_below_bound x (start_of i) pos h.below).0 first moved
     ∙ ap (λ p. put_at p j) e ∙ put_at_start j
 
 -- two tilings of an extent are the same

@@ -23,7 +23,7 @@ pub record IsStandingAt (image : Image) (pointer extent offset : ℕ) (s : Stand
   pub payload : List ℕ
   pub frame : IsFrameOf image pointer s payload
 
--- the frame at its place in the image has this payload, and ends in its extent
+-- the frame at its place in the image has this payload, and ends in its extent, past the write pointer or not
 pub record HasPayload (image : Image) (s : Standing) (payload : List ℕ) : Type 0 where
   pub in_disk : s.extent < image.geometry.extents
   pub frame : IsFrameOf image (extent_bytes image.geometry) s payload

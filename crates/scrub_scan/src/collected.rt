@@ -12,7 +12,7 @@ use crate::counted_source::CountedSource;
 use crate::item::{Item, Items};
 use crate::pages::Target;
 use crate::payloads::Payloads;
-use crate::scanner::{LONGEST_GATHERED, Reached, Scanner};
+use crate::scanner::{LONGEST_GATHERED, ScannedItem, Scanner};
 use scrub_disk::{OutOfMemory, PageSource};
 use scrub_frame::DIGEST_BYTES;
 use sha_lanes::Batch;
@@ -100,7 +100,7 @@ impl Collected {
     }
 
     /// Adds an item, and its number to the pending ones if its payload was gathered.
-    pub fn add(&mut self, reached: Reached) -> Result<(), OutOfMemory>
+    pub fn add(&mut self, reached: ScannedItem) -> Result<(), OutOfMemory>
         ensures items { IfOk result (λ _. self.new.items.items ≡ self.old.items.items ++ reached.item ∷ []) }
         ensures gathered { IfOk result (λ _. reached.is_gathered ≡ true →
             self.new.pending.items ≡ self.old.pending.items ++ length self.old.items.items ∷ []) }

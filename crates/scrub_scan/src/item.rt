@@ -18,12 +18,12 @@ const LINE_BYTES: usize = 76;
 const UUID_TEXT_BYTES: usize = 36;
 
 /// A part of an extent, from byte `start` up to but not including byte `stop`. All items except chunks stop
-/// at the next page bound above their start, or at the write pointer if that comes first.
+/// at the next page boundary above their start, or at the write pointer if that comes first.
 #[derive(Debug, Clone, Copy, PartialEq, Eq)]
 pub enum Item {
     /// A whole frame on readable pages, with its form, its UUID, the length of its payload in bytes (`stop -
-    /// start` is `form.overhead()` more), and the SHA-256 of its payload. The payload may still not be what
-    /// its writer meant.
+    /// start` is 38 more, or 72 if it is sealed), and the SHA-256 of its payload. The payload may still not
+    /// be what its writer meant.
     Chunk {
         form: Form,
         start: u32,

@@ -1,7 +1,7 @@
 //! Reads the bytes at a place of an extent, if all of them are readable. `standing` judges them.
 
 ghost use Rattle.std.specs.Prelude.{◌≡◌, ◌+◌, ◌<◌, ◌≤◌, IfOk, IfSome, IfNone, None, length};
-ghost use Rattle.scrub_disk.specs.Image.{byte, extent_bytes, AreBytesAt};
+ghost use Rattle.scrub_disk.specs.Image.{image_byte, extent_bytes, AreBytesAt};
 ghost use Rattle.scrub_scan.specs.Extent.{HasGap};
 ghost use Rattle.scrub_scan.specs.steps.FrameRead.{AppendsAtMost};
 
@@ -23,8 +23,8 @@ fn append_part<D: PageSource>(
     requires some { 0 < size }
     requires one_page { length buffer.old ≡ (D.image disk.now).geometry.page }
     ensures part { IfOk result (λ part. IfSome part
-        (AppendsAtMost (byte (D.image disk.now) extent) place size bytes.old.items bytes.new.items)) }
-    ensures gap { IfOk result (λ part. IfNone part (byte (D.image disk.now) extent place ≡ None)) }
+        (AppendsAtMost (image_byte (D.image disk.now) extent) place size bytes.old.items bytes.new.items)) }
+    ensures gap { IfOk result (λ part. IfNone part (image_byte (D.image disk.now) extent place ≡ None)) }
 {
     let page = buffer.len();
     if disk
@@ -51,8 +51,9 @@ pub(crate) fn read_bytes<D: PageSource>(
     requires in_extent { start + size ≤ extent_bytes (D.image disk.now).geometry }
     ensures size { IfOk result (λ bytes. IfSome bytes (λ v. length v.items ≡ size)) }
     ensures bytes { IfOk result (λ bytes.
-        IfSome bytes (λ v. AreBytesAt (byte (D.image disk.now) extent) start v.items)) }
-    ensures gap { IfOk result (λ bytes. IfNone bytes (HasGap (byte (D.image disk.now) extent) start size)) }
+        IfSome bytes (λ v. AreBytesAt (image_byte (D.image disk.now) extent) start v.items)) }
+    ensures gap { IfOk result (λ bytes.
+        IfNone bytes (HasGap (image_byte (D.image disk.now) extent) start size)) }
 {
     let mut buffer = vec![in alloc; 0u8; disk.geometry().page() as usize]?;
     let mut bytes = Vec::with_capacity(alloc, size)?;

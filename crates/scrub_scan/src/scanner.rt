@@ -6,19 +6,19 @@ ghost use Rattle.std.specs.Prelude.{true, false, None, Some, IsTrue, IfOk, IfSom
 ghost use Rattle.std.specs.Prelude.{MatchBool, MatchOption, IsSomeAnd};
 ghost use Rattle.std.specs.Prelude.{length, take, slice_index, slice_range, option_map};
 ghost use Rattle.scrub_disk.specs.Limits.{max_extent_bytes};
-ghost use Rattle.scrub_disk.specs.Image.{Image, byte, extent_bytes, AreBytesAt};
+ghost use Rattle.scrub_disk.specs.Image.{Image, image_byte, extent_bytes, AreBytesAt};
 ghost use Rattle.scrub_frame.specs.declared.form.Form.{Form};
 ghost use Rattle.scrub_frame.specs.Frame.{magic, frame_overhead};
 ghost use Rattle.scrub_frame.specs.Matching.{left};
 ghost use Rattle.scrub_scan.specs.declared.item.Item.{Item};
 ghost use Rattle.scrub_scan.specs.declared.pages.Target.{Target};
-ghost use Rattle.scrub_scan.specs.Extent.{Extent, NoFrameAt, HasGap, bound};
+ghost use Rattle.scrub_scan.specs.Extent.{Extent, NoFrameAt, HasGap, bound_above};
 ghost use Rattle.scrub_scan.specs.Item.{start_of, stop_of, IsItem};
 ghost use Rattle.scrub_scan.specs.steps.Pages.{HoldBoth, IsTarget, target_of, Scans, IsFound, Passes};
 ghost use Rattle.scrub_scan.specs.steps.Pages.{IsPassed, HasRead, HasLoaded, IsNear, ReadsFar, ReadsFrame};
 ghost use Rattle.scrub_scan.specs.steps.Pages.{ReadsFrameAt, ReadsItem, KeepsReads, last_page, found_by};
 ghost use Rattle.scrub_scan.specs.Standing.{IsClaimedAt};
-ghost use Rattle.scrub_scan.specs.steps.Gathering.{IsGathered, IsMet, IsReached};
+ghost use Rattle.scrub_scan.specs.steps.Gathering.{IsGathered, IsScannedFrame, IsScannedItem};
 ghost use Rattle.sha_lanes.specs.Gathered.{Gathers};
 
 use crate::counted_source::{CountedSource, PagesAsked};
@@ -39,7 +39,7 @@ pub(crate) const LONGEST_GATHERED: u32 = 1_048_576;
 /// An item that was found, and whether its payload is in the batch: then it has no digest yet, or its seal
 /// for one.
 #[derive(Clone, Copy)]
-pub(crate) struct Reached {
+pub(crate) struct ScannedItem {
     pub item: Item,
     pub is_gathered: bool,
 }
@@ -47,7 +47,7 @@ pub(crate) struct Reached {
 /// A frame that was found, and whether its payload is in the batch: then it has no digest yet, or its seal
 /// for one.
 #[derive(Clone, Copy)]
-pub(crate) struct Met {
+pub(crate) struct ScannedFrame {
     pub found: FoundFrame,
     pub is_gathered: bool,
 }
@@ -79,7 +79,7 @@ fn readable_item(part: &[u8], start: u32, stop: u32) -> Item
     requires whole { start + length part.now ≡ stop }
     ensures start { start_of result ≡ start }
     ensures stop { stop_of result ≡ stop }
-    ensures item { (x : Extent) → start < x.pointer → stop ≡ bound x start → NoFrameAt x start →
+    ensures item { (x : Extent) → start < x.pointer → stop ≡ bound_above x start → NoFrameAt x start →
         AreBytesAt x.byte start part.now → IsItem x result }
 {
     if is_zero(part) {
@@ -172,7 +172,7 @@ impl Scanner {
         start: usize,
         trusts: bool,
         batch: &mut Batch,
-    ) -> Result<Reached, OutOfMemory>
+    ) -> Result<ScannedItem, OutOfMemory>
         requires target { IsTarget (D.image disk.now) target.now }
         requires scans { Scans (D.image disk.now) target.now self.old }
         requires below { start < target.now.pointer }
@@ -181,20 +181,20 @@ impl Scanner {
             (stop_of r.item ≤ target.now.pointer)) }
         ensures item { (messages : List (List ℕ)) → Gathers batch.old messages [] →
             IfOk result (λ r.
-            IsReached (target_of (D.image disk.now) target.now) trusts r messages batch.new) }
+            IsScannedItem (target_of (D.image disk.now) target.now) trusts r messages batch.new) }
         ensures reads { IfOk result (λ r. ReadsItem (D.image disk.now) target.now start (stop_of r.item)
             self.old.pages self.new.pages) }
     {
-        let met = self.meet_frame(disk, target, start, trusts, batch)?;
+        let met = self.scan_frame(disk, target, start, trusts, batch)?;
         match met {
             Some(met) => {
-                Ok(Reached {
+                Ok(ScannedItem {
                     item: self.chunk_of(target, start, met.found),
                     is_gathered: met.is_gathered,
                 })
             }
             None => {
-                Ok(Reached {
+                Ok(ScannedItem {
                     item: self.unframed_at(target, start),
                     is_gathered: false,
                 })
@@ -205,14 +205,14 @@ impl Scanner {
     /// The frame at a place below the pointer, if there is one. The page of the place becomes the near one. A
     /// short payload is added to the batch in place of being hashed, unless it is of a sealed frame and seals
     /// aren't trusted: if one is wrong, there is no frame.
-    fn meet_frame<D: PageSource>(
+    fn scan_frame<D: PageSource>(
         &mut self,
         disk: &CountedSource<'_, D>,
         target: &Target,
         start: usize,
         trusts: bool,
         batch: &mut Batch,
-    ) -> Result<Option<Met>, OutOfMemory>
+    ) -> Result<Option<ScannedFrame>, OutOfMemory>
         requires target { IsTarget (D.image disk.now) target.now }
         requires scans { Scans (D.image disk.now) target.now self.old }
         requires below { start < target.now.pointer }
@@ -220,7 +220,7 @@ impl Scanner {
         ensures found { (messages : List (List ℕ)) → Gathers batch.old messages [] → IfOk result (λ found.
             MatchOption found
             (NoFrameAt (target_of (D.image disk.now) target.now) start × Gathers batch.new messages [])
-            (λ m. IsMet (target_of (D.image disk.now) target.now) start trusts m messages batch.new)) }
+            (λ m. IsScannedFrame (target_of (D.image disk.now) target.now) start trusts m messages batch.new)) }
         ensures fits { IfOk result (λ found. IfSome found (λ m.
             start + m.found.length + frame_overhead m.found.form ≤ target.now.pointer)) }
         ensures reads { IfOk result (λ found. ReadsFrameAt (D.image disk.now) target.now start
@@ -234,7 +234,7 @@ impl Scanner {
         if !gathers(&head, trusts) {
             return match self.match_frame(disk, target, start) {
                 Some(found) => {
-                    Ok(Some(Met {
+                    Ok(Some(ScannedFrame {
                         found,
                         is_gathered: false,
                     }))
@@ -245,7 +245,7 @@ impl Scanner {
         let Some(digest) = self.gather_frame(disk, target, start, &head, batch)? else {
             return Ok(None);
         };
-        Ok(Some(Met {
+        Ok(Some(ScannedFrame {
             found: FoundFrame {
                 form: head.form,
                 uuid: head.uuid,
@@ -303,7 +303,7 @@ impl Scanner {
         requires near { self.now.pages.near.number ≡ Some (start / target.now.page) }
         ensures start { start_of result ≡ start }
         ensures stop { (image : Image) → IsTarget image target.now →
-            stop_of result ≡ bound (target_of image target.now) start }
+            stop_of result ≡ bound_above (target_of image target.now) start }
         ensures item { (image : Image) → IsTarget image target.now →
             HoldBoth image target.now.extent self.now.pages →
             NoFrameAt (target_of image target.now) start → IsItem (target_of image target.now) result }
@@ -490,7 +490,7 @@ impl Scanner {
         ensures answer { (start : ℕ) →
             Passes (target_of (D.image disk.now) target.now) start place self.old.matcher →
             IsPassed (target_of (D.image disk.now) target.now) start
-            (bound (target_of (D.image disk.now) target.now) place) self.new.matcher result }
+            (bound_above (target_of (D.image disk.now) target.now) place) self.new.matcher result }
         ensures reads { ReadsFar 1 (self.old.pages.near.number ≡ Some (place / target.now.page))
             self.old.pages self.new.pages }
         ensures loaded { HasLoaded self.new.pages (place / target.now.page) }

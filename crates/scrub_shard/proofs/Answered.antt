@@ -1,6 +1,6 @@
 -- The answer for a shard, from what its parts give.
-use Rattle.std.proofs.Common.{◌≡◌, ℕ, Bool, List, None, Some, sym, ◌∙◌, subst}
-use Rattle.std.specs.List.{All, position}
+use Rattle.std.proofs.Common.{Bool, List, sym, ◌∙◌}
+use Rattle.std.specs.List.{All}
 use Rattle.scrub_disk.specs.Image.{Image}
 use Rattle.scrub_super.specs.Plan.{PlanValue}
 use Rattle.scrub_scan.specs.declared.standing.Standing.{Standing}
@@ -10,7 +10,7 @@ use Rattle.scrub_merge.specs.Binding.{BindingValue}
 use Rattle.scrub_check.specs.declared.statuses.checked.Checked.{Checked}
 use Rattle.scrub_check.specs.Checked.{AreChecked}
 use Rattle.scrub_check.specs.Named.{named_by_shard}
-use Rattle.scrub_shard.specs.Shard.{IsAnswerBy, IsAnswerIn, IsAnswerOf, IsBoundBy, Mapped}
+use Rattle.scrub_shard.specs.Shard.{IsAnswerBy, IsAnswerIn, IsEntryAnswer, IsBoundBy, Mapped}
 use Rattle.scrub_shard.specs.steps.Payloads.{IsAnswerWith}
 use Rattle.scrub_shard.specs.declared.shard.ShardAnswer.{ShardAnswer}
 use Rattle.scrub_shard.specs.declared.shard.ShardAnswer.TheVariants.{NoSuchShard, PayloadLost, Found}
@@ -28,13 +28,13 @@ answer_by image all found doubtful own (Found bytes) same x =
 -- so it is that of the entry
 pub answer_of : (image : Image) (plan : PlanValue) (all : List Scanned) (found : List Standing) (b : BindingValue) (own : List Checked)
     (a : ShardAnswer) → AreChecked image plan (named_by_shard b) own → All (HasItsSpares all found) own →
-    IsAnswerWith image found b.doubtful own a → IsAnswerOf image plan all b a
+    IsAnswerWith image found b.doubtful own a → IsEntryAnswer image plan all b a
 answer_of image plan all found b own a checked same x =
     record { own = own; checked = checked; answer = answer_by image all found b.doubtful own a same x }
 
 -- the answer for the entry of a shard is that of the shard
 pub answered_in : (image : Image) (m : Mapped) (id : ShardId) (b : BindingValue) (a : ShardAnswer) → IsBoundBy m.bindings id b →
-    IsAnswerOf image m.plan m.all b a → IsAnswerIn image m id a
+    IsEntryAnswer image m.plan m.all b a → IsAnswerIn image m id a
 answered_in image m id b NoSuchShard bound x = absurd x.answer
 answered_in image m id b (PayloadLost number) bound x = (b, bound, x)
 answered_in image m id b (Found found) bound x = (b, bound, x)

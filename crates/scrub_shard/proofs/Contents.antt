@@ -8,6 +8,8 @@ use Rattle.std.proofs.lemmas.Bool.Decides.{nat_tests}
 use Rattle.std.proofs.lemmas.List.Elements.{All-contains, All-head, filter_passes}
 use Rattle.std.proofs.lemmas.Slice.Eq.{bytes_eq-Decides}
 use Rattle.sha2.specs.Sha256.{sha256}
+use Rattle.list_facts.proofs.Bools.{false_from_not}
+use Rattle.list_facts.proofs.Elements.{Contains-filter, nil_has_no_first, same_behind_first, same_first}
 use Rattle.scrub_disk.specs.declared.geometry.Geometry.{Geometry}
 use Rattle.scrub_disk.specs.Image.{Image}
 use Rattle.scrub_frame.specs.declared.locator.Locator.{Locator}
@@ -18,7 +20,6 @@ use Rattle.scrub_scan.specs.Scanned.{Scanned}
 use Rattle.scrub_scan.specs.Standing.{Stands}
 use Rattle.scrub_run.specs.declared.shard_id.ShardId.{ShardId}
 use Rattle.scrub_merge.specs.Binding.{BindingValue}
-use Rattle.scrub_frame.proofs.Elements.{Contains-filter}
 use Rattle.scrub_check.specs.declared.named.Named.{Named}
 use Rattle.scrub_check.specs.declared.named.Owner.TheVariants.{Shard}
 use Rattle.scrub_check.specs.declared.statuses.checked.Checked.{Checked}
@@ -28,9 +29,8 @@ use Rattle.scrub_check.specs.Named.{named_by_shard}
 use Rattle.scrub_check.specs.Spares.{asks_for_spares, copies_of, frames, is_copy_of, spares_of}
 use Rattle.scrub_check.specs.WholeScan.{IsWholeScan}
 use Rattle.scrub_listings.specs.Manifest.{is_without_spare}
-use Rattle.scrub_found.proofs.OneReader.{heads, no_tail, tails}
 use Rattle.scrub_shard.specs.Bytes.{BytesValue}
-use Rattle.scrub_shard.specs.Shard.{HasContentOf, HasFirstPayload, HaveContentsOfEntry, IsBoundBy, IsLostInEntry, IsMapped, IsNowhere, IsPayloadFor, IsShardAnswer, Mapped, asks_for_nothing, first_lost, is_lost}
+use Rattle.scrub_shard.specs.Shard.{HasContentOf, HasFirstPayload, HaveContentsOfEntry, IsBoundBy, IsLostInEntry, IsMapped, IsNowhere, IsPayloadFor, IsShardAnswer, Mapped, asks_for_nothing, first_lost, is_payload_lost}
 use Rattle.scrub_shard.specs.declared.shard.ShardAnswer.TheVariants.{PayloadLost, Found}
 use Rattle.scrub_shard.proofs.Frames.{frames_stand}
 use Rattle.scrub_shard.proofs.Lost.{first_passes}
@@ -96,23 +96,24 @@ named_by id ls = map (λ l. record { owner = Shard id; locator = l }) ls
 contents : (image : Image) (all : List Scanned) (id : ShardId) (own : List Checked) (ls : List Locator) (ps : List (List ℕ)) →
     map named_of own ≡ named_by id ls → AllZip (IsPayloadFor image all) own ps → AllZip HasContentOf ls ps
 contents image all id [] [] ps same each = each
-contents image all id [] (l ∷ ls) ps same each = absurd (no_tail _ _ same)
-contents image all id (c ∷ cs) [] ps same each = absurd (no_tail _ _ (sym same))
+contents image all id [] (l ∷ ls) ps same each = absurd (nil_has_no_first _ _ same)
+contents image all id (c ∷ cs) [] ps same each = absurd (nil_has_no_first _ _ (sym same))
 contents image all id (c ∷ cs) (l ∷ ls) [] same each = each
 contents image all id (c ∷ cs) (l ∷ ls) (p ∷ ps) same each = (
-  subst (λ (m : Locator). HasContentOf m p) (ap (λ (n : Named). n.locator) (heads _ _ _ _ same)) (content image all c p each.0),
-  contents image all id cs ls ps (tails _ _ _ _ same) each.1,
+  subst (λ (m : Locator). HasContentOf m p) (ap (λ (n : Named). n.locator) (same_first _ _ _ _ same)) (content image all c p each.0),
+  contents image all id cs ls ps (same_behind_first _ _ _ _ same) each.1,
 )
 
 named_there : (id : ShardId) (own : List Checked) (ls : List Locator) (n : ℕ) (d : Checked) → map named_of own ≡ named_by id ls → n < length own →
     slice_get ls n ≡ Some (get_or own n d).locator
 named_there id [] ls n d same below = absurd (omega (arith, below))
-named_there id (c ∷ cs) [] n d same below = absurd (no_tail _ _ (sym same))
-named_there id (c ∷ cs) (l ∷ ls) zero d same below = ap (λ (n : Named). Some n.locator) (sym (heads _ _ _ _ same))
-named_there id (c ∷ cs) (l ∷ ls) (suc n) d same below = named_there id cs ls n d (tails _ _ _ _ same) (omega (arith, below))
+named_there id (c ∷ cs) [] n d same below = absurd (nil_has_no_first _ _ (sym same))
+named_there id (c ∷ cs) (l ∷ ls) zero d same below = ap (λ (n : Named). Some n.locator) (sym (same_first _ _ _ _ same))
+named_there id (c ∷ cs) (l ∷ ls) (suc n) d same below = named_there id cs ls n d (same_behind_first _ _ _ _ same) (omega (arith, below))
 
 -- ---- the laws
 
+-- The bytes of a shard have the lengths and digests that its entry in the shard map asks for.
 pub bytes_are_asked_for : (image : Image) (id : ShardId) (found : BytesValue) → IsShardAnswer image id (Found found) →
     HaveContentsOfEntry image id found.bytes
 bytes_are_asked_for image id found x =
@@ -147,12 +148,8 @@ empty_chunk image s stands none = stands.has.frame.digest ∙ ap (λ (p : List �
     empty [] e = refl
     empty (b ∷ bs) e = absurd (omega (arith, e))
 
-flipped : (b : Bool) → not b ≡ true → b ≡ false
-flipped true is = absurd (false≢true is)
-flipped false is = refl
-
 -- a lost payload is nowhere
-nowhere : (image : Image) (all : List Scanned) (c : Checked) → All (Stands image) (frames all) → is_lost all c ≡ true → IsNowhere all c.locator
+nowhere : (image : Image) (all : List Scanned) (c : Checked) → All (Stands image) (frames all) → is_payload_lost all c ≡ true → IsNowhere all c.locator
 nowhere image all c stand e = record {
   asks = asks;
   none = λ s among same. by (nat_lt 0 c.locator.length) refl s among same;
@@ -162,7 +159,7 @@ nowhere image all c stand e = record {
     parts = and_parts (not (asks_for_nothing c.locator)) (is_without_spare all c) e
 
     some : asks_for_nothing c.locator ≡ false
-    some = flipped (asks_for_nothing c.locator) parts.0
+    some = false_from_not (asks_for_nothing c.locator) parts.0
 
     asks : (c.locator.length ≡ 0) × (c.locator.digest ≡ sha256 []) → ⊥
     asks same =
@@ -188,6 +185,7 @@ nowhere image all c stand e = record {
         let size : length (copies_of all c.locator) ≡ 0 = ap (λ (ss : List Standing). length ss) (sym spares_are) ∙ none_left in
         omega (arith, there.1, size)
 
+-- If a payload is reported as lost, no chunk in a tiling has the content that its locator asks for.
 pub lost_is_nowhere : (image : Image) (id : ShardId) (number : ℕ) → IsShardAnswer image id (PayloadLost number) → IsLostInEntry image id number
 lost_is_nowhere image id number x =
     let b = x.answer.0 in
@@ -204,7 +202,7 @@ lost_is_nowhere image id number x =
         none_there : first_lost x.found.all [] ≡ Some number → ⊥
         none_there e = cc
     by b (c ∷ cs) same bound first =
-        let at = first_passes (is_lost x.found.all) (c ∷ cs) number c first in
+        let at = first_passes (is_payload_lost x.found.all) (c ∷ cs) number c first in
         record {
           found = x.found;
           mapped = x.mapped;

@@ -2,8 +2,8 @@
 use Rattle.std.proofs.Common.{◌≡◌, ◌⊎◌, ◌<◌, ◌++◌, ◌∷◌, [], ℕ, suc, Bool, true, false, List, MatchBool, Option, Some, None, Contains, length, map, refl, arith, ap, inl, inr}
 use Rattle.std.specs.List.{All, AllZip, flat_map, position}
 use Rattle.std.proofs.lemmas.List.Elements.{All-cons, All-head, All-nil}
+use Rattle.list_facts.proofs.Decisions.{some_element}
 use Rattle.scrub_disk.specs.Image.{Image}
-use Rattle.scrub_frame.proofs.Decisions.{some_element}
 use Rattle.scrub_scan.specs.declared.standing.Standing.{Standing}
 use Rattle.scrub_scan.specs.Standing.{Stands}
 use Rattle.scrub_run.specs.declared.shard_id.ShardId.{ShardId}
@@ -19,9 +19,9 @@ use Rattle.scrub_check.proofs.StatusThere.{some_checked}
 use Rattle.scrub_found.specs.Scrubbed.{IsScrubbed, Scrubbed}
 use Rattle.scrub_found.proofs.Existing.{some_scrub}
 use Rattle.scrub_found.proofs.ResetPlans.{whole_but}
-use Rattle.scrub_shard.specs.Archive.{Answered, IsArchive, archive_of, members, run_remarks, shard_remarks, superblock_remarks}
-use Rattle.scrub_shard.specs.Shard.{HasFirstPayload, IsAnswerIn, IsAnswerOf, IsBoundBy, IsMapped, IsShardAnswer, Mapped, asks_for_nothing}
-use Rattle.scrub_shard.specs.steps.Payloads.{AreReadable, CanBeRead, HasPayloadLeft, IsAnswerWith, IsPayloadBy, is_lost_by}
+use Rattle.scrub_shard.specs.Archive.{Answered, IsArchive, archive_of, archive_members, run_remarks, shard_remarks, superblock_remarks}
+use Rattle.scrub_shard.specs.Shard.{HasFirstPayload, IsAnswerIn, IsEntryAnswer, IsMapped, IsShardAnswer, Mapped, asks_for_nothing}
+use Rattle.scrub_shard.specs.steps.Payloads.{AreReadable, HasPayloadUnlessLost, HasPayloadLeft, IsAnswerWith, IsPayloadBy, is_lost_by}
 use Rattle.scrub_shard.specs.declared.archiving.Remark.{Remark}
 use Rattle.scrub_shard.specs.declared.shard.ShardAnswer.{ShardAnswer}
 use Rattle.scrub_shard.specs.declared.shard.ShardAnswer.TheVariants.{NoSuchShard, PayloadLost, Found}
@@ -61,7 +61,7 @@ payloads_left image found (c ∷ cs) left =
     (first.0 ∷ rest.0, (first.1, rest.1))
 
 -- the answer by locators that can be read unless they are lost
-some_answer_with : (image : Image) (found : List Standing) (doubtful : Bool) (own : List Checked) → All (CanBeRead image found) own →
+some_answer_with : (image : Image) (found : List Standing) (doubtful : Bool) (own : List Checked) → All (HasPayloadUnlessLost image found) own →
     (a : ShardAnswer) × IsAnswerWith image found doubtful own a
 some_answer_with image found doubtful own readable = by (position (is_lost_by found) own) refl
   where
@@ -87,7 +87,7 @@ module _ (image : Image) (s : Scrubbed) (is : IsScrubbed image s) where
   whole : IsWholeScan image s.plan s.all
   whole = whole_but [] s.choice s.plan image s.all is.choice is.plan is.all
 
-  some_answer_of : (b : BindingValue) → (a : ShardAnswer) × IsAnswerOf image s.plan s.all b a
+  some_answer_of : (b : BindingValue) → (a : ShardAnswer) × IsEntryAnswer image s.plan s.all b a
   some_answer_of b =
       let own = some_checked image s.plan (named_by_shard b) in
       let same : All (HasItsSpares s.all (frames s.all)) own.0 = λ k d here. refl in
@@ -107,6 +107,7 @@ module _ (image : Image) (s : Scrubbed) (is : IsScrubbed image s) where
           (a.0, answered_in image (record { choice = s.choice; plan = s.plan; all = s.all; read = s.read; bindings = s.bindings }) id b a.0 (record { among = among; named = named }) a.1)
       by (inr none) = (NoSuchShard, λ b bound. none b bound.among bound.named)
 
+-- Each image has an answer for each shard.
 pub some_shard_answer : (image : Image) (id : ShardId) → (a : ShardAnswer) × IsShardAnswer image id a
 some_shard_answer image id =
     let s = some_scrub [] image in
@@ -131,13 +132,14 @@ answers_are image (b ∷ bs) =
       All-cons (λ a. IsShardAnswer image a.id a.answer) (record { id = b.id; answer = one.0 }) (answers_for image bs) one.1 rest.1,
     )
 
+-- Each image has an archive of its shards, and what is said beside it.
 pub some_archive : (image : Image) → (tar : List ℕ) × (remarks : List Remark) × IsArchive image tar remarks
 unfolding mapped
 some_archive image =
     let s = some_scrub [] image in
     let answers = answers_for image s.0.bindings in
     let are = answers_are image s.0.bindings in (
-      archive_of (members answers),
+      archive_of (archive_members answers),
       superblock_remarks s.0.plan.has_superblock ++ run_remarks s.0.read.states ++ shard_remarks answers,
       record {
         found = mapped image s.0 s.1;

@@ -1,12 +1,12 @@
 -- The payloads for the locators of a shard, one directly after another, by the spares that were found and by those that they
 -- have.
-use Rattle.std.proofs.Common.{◌≡◌, ◌<◌, ◌≤◌, ◌+◌, ◌++◌, ◌∷◌, [], ℕ, List, length, get_or, take, refl, sym, ◌∙◌, ap, subst}
+use Rattle.std.proofs.Common.{◌≡◌, ◌<◌, ◌+◌, ◌++◌, ◌∷◌, [], ℕ, List, length, get_or, take, refl, sym, ◌∙◌, ap, subst}
 use Rattle.std.specs.List.{All, AllZip, flat_map}
 use Rattle.std.proofs.lemmas.Grind.{flat_map-append}
-use Rattle.std.proofs.lemmas.List.{append-nil, take_all}
+use Rattle.std.proofs.lemmas.List.{append-nil}
 use Rattle.std.proofs.lemmas.List.Elements.{All-head, All-tail}
+use Rattle.list_facts.proofs.Zips.{AllZip-take_more}
 use Rattle.scrub_disk.specs.Image.{Image}
-use Rattle.scrub_disk.proofs.Zips.{AllZip-take_more}
 use Rattle.scrub_scan.specs.declared.standing.Standing.{Standing}
 use Rattle.scrub_scan.specs.Scanned.{Scanned}
 use Rattle.scrub_check.specs.declared.statuses.checked.Checked.{Checked}
@@ -15,10 +15,6 @@ use Rattle.scrub_shard.specs.Shard.{AreBytesFor, IsPayloadFor, IsPayloadOf}
 use Rattle.scrub_shard.specs.steps.Payloads.{AreBytesBy, IsPayloadBy}
 
 module _ (image : Image) (found : List Standing) (own : List Checked) where
-  -- none so far
-  pub none : AreBytesBy image found (take 0 own) []
-  none = record { payloads = []; each = tt; joined = refl }
-
   -- one more
   pub one_more : (i : ℕ) (one : Checked) (bytes more payload : List ℕ) → i < length own → AreBytesBy image found (take i own) bytes →
       one ≡ get_or own i one → IsPayloadBy image found one payload → more ≡ bytes ++ payload →
@@ -34,10 +30,6 @@ module _ (image : Image) (found : List Standing) (own : List Checked) where
         ∙ ap (λ (b : List ℕ). flat_map (λ (p : List ℕ). p) so_far.payloads ++ b) (sym (append-nil payload))
         ∙ sym (flat_map-append (λ (p : List ℕ). p) so_far.payloads (payload ∷ []));
   }
-
-  -- all
-  pub all_of_them : (i : ℕ) (bytes : List ℕ) → length own ≤ i → AreBytesBy image found (take i own) bytes → AreBytesBy image found own bytes
-  all_of_them i bytes end so_far = subst (λ (cs : List Checked). AreBytesBy image found cs bytes) (take_all i own end) so_far
 
 -- the spares that were found are those that the locator has
 abbrev pub HasItsSpares : List Scanned → List Standing → Checked → Type 0

@@ -1,5 +1,5 @@
 -- Which locators have no payload: the first of them, and that all others have one that can be read.
-use Rattle.std.proofs.Common.{◌≡◌, ◌⊎◌, ◌<◌, ◌≤◌, ◌+◌, ◌==◌, ◌&&◌, ◌∷◌, [], ℕ, Bool, true, false, not, List, MatchBool, Option, Some, None, length, get_or, nat_lt, cond, if◌then◌else◌, arith, inl, inr, refl, sym, ◌∙◌, ap, subst}
+use Rattle.std.proofs.Common.{◌≡◌, ◌⊎◌, ◌<◌, ◌≤◌, ◌+◌, ◌==◌, ◌&&◌, ◌∷◌, [], ℕ, Bool, true, false, not, List, MatchBool, Some, None, length, get_or, nat_lt, cond, if◌then◌else◌, arith, inl, inr, refl, sym, ap, subst}
 use Rattle.std.specs.List.{All, position, position_or_len}
 use Rattle.std.proofs.lemmas.Bool.{false≢true}
 use Rattle.std.proofs.lemmas.Bool.Decides.{nat_tests}
@@ -20,8 +20,8 @@ use Rattle.scrub_check.specs.Spares.{AreSpares, asks_for_spares, copies_of, fram
 use Rattle.scrub_check.specs.Status.{HasStatusIn}
 use Rattle.scrub_check.specs.WholeScan.{IsWholeScan}
 use Rattle.scrub_check.proofs.Payloads.{stands_there}
-use Rattle.scrub_shard.specs.Shard.{asks_for_nothing, first_lost, is_lost}
-use Rattle.scrub_shard.specs.steps.Payloads.{AreReadable, CanBeRead, HasPayloadLeft, is_lost_by}
+use Rattle.scrub_shard.specs.Shard.{asks_for_nothing, first_lost, is_payload_lost}
+use Rattle.scrub_shard.specs.steps.Payloads.{AreReadable, HasPayloadUnlessLost, HasPayloadLeft, is_lost_by}
 use Rattle.scrub_shard.proofs.Frames.{frames_stand}
 use Rattle.scrub_shard.proofs.Joined.{HasItsSpares}
 
@@ -69,7 +69,7 @@ module _ (all : List Scanned) (found : List Standing) (own : List Checked) where
   -- so the first lost one is the same by them
   pub same_lost : All (HasItsSpares all found) own → position (is_lost_by found) own ≡ first_lost all own
   same_lost same =
-      firsts_agree (is_lost_by found) (is_lost all) own
+      firsts_agree (is_lost_by found) (is_payload_lost all) own
       (λ k d below.
       ap
       (λ (ss : List Standing). not (asks_for_nothing (get_or own k d).locator) && (is_dangling (get_or own k d).status && (length ss == 0)))
@@ -99,7 +99,7 @@ spares_stand image plan all c whole = by (asks_for_spares c)
 
 -- a locator that isn't lost can be read
 pub can_be_read : (image : Image) (plan : PlanValue) (all : List Scanned) (found : List Standing) (c : Checked) →
-    IsWholeScan image plan all → HasStatusIn image plan c.locator c.status → HasItsSpares all found c → CanBeRead image found c
+    IsWholeScan image plan all → HasStatusIn image plan c.locator c.status → HasItsSpares all found c → HasPayloadUnlessLost image found c
 can_be_read image plan all found c whole status same = asked (asks_for_nothing c.locator)
   where
     some : (ss : List Standing) → (length ss == 0) ≡ false → 0 < length ss
@@ -122,11 +122,11 @@ can_be_read image plan all found c whole status same = asked (asks_for_nothing c
 
 -- so is each of an entry, or of several
 pub all_can_be_read : (image : Image) (plan : PlanValue) (all : List Scanned) (found : List Standing) (own : List Checked) →
-    IsWholeScan image plan all → HaveStatuses image plan own → All (HasItsSpares all found) own → All (CanBeRead image found) own
+    IsWholeScan image plan all → HaveStatuses image plan own → All (HasItsSpares all found) own → All (HasPayloadUnlessLost image found) own
 all_can_be_read image plan all found own whole statuses same k d below =
     can_be_read image plan all found (get_or own k d) whole (statuses k d below) (same k d below)
 
 -- and each has a payload left if none is lost
-pub all_left : (image : Image) (found : List Standing) (own : List Checked) → All (CanBeRead image found) own →
+pub all_left : (image : Image) (found : List Standing) (own : List Checked) → All (HasPayloadUnlessLost image found) own →
     position (is_lost_by found) own ≡ None → All (HasPayloadLeft image found) own
 all_left image found own readable none k d below = readable k d below (none_passes (is_lost_by found) own none k d below)

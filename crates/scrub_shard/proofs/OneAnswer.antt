@@ -11,7 +11,6 @@ use Rattle.scrub_scan.specs.declared.standing.Standing.{Standing}
 use Rattle.scrub_scan.specs.Extent.{extent_of}
 use Rattle.scrub_scan.specs.steps.OneFrame.{one_frame_at}
 use Rattle.scrub_scan.specs.Scanned.{Scanned}
-use Rattle.scrub_scan.specs.Standing.{HasPayload}
 use Rattle.scrub_run.specs.declared.shard_id.ShardId.{ShardId}
 use Rattle.scrub_run.specs.Entry.{IsBelow}
 use Rattle.scrub_merge.specs.Binding.{BindingValue}
@@ -27,7 +26,7 @@ use Rattle.scrub_check.proofs.Payloads.{one_payload}
 use Rattle.scrub_found.proofs.OneIndex.{one_list_of_checked, one_list_of_runs, read_runs_are_runs}
 use Rattle.scrub_found.proofs.OneReader.{one_plan, one_reader}
 use Rattle.scrub_shard.specs.Bytes.{BytesValue}
-use Rattle.scrub_shard.specs.Shard.{AreBytesFor, HasFirstPayload, IsAnswerBy, IsAnswerIn, IsAnswerOf, IsBoundBy, IsMapped, IsPayloadFor, IsShardAnswer, Mapped, asks_for_nothing}
+use Rattle.scrub_shard.specs.Shard.{AreBytesFor, HasFirstPayload, IsAnswerBy, IsAnswerIn, IsEntryAnswer, IsBoundBy, IsMapped, IsPayloadFor, IsShardAnswer, Mapped, asks_for_nothing}
 use Rattle.scrub_shard.specs.declared.shard.ShardAnswer.{ShardAnswer}
 use Rattle.scrub_shard.specs.declared.shard.ShardAnswer.TheVariants.{NoSuchShard, PayloadLost, Found}
 
@@ -139,10 +138,10 @@ one_by image all doubtful own (Found f) (Found g) x y =
     ap (λ (v : BytesValue). Found v) (same_found f g (one_bytes image all own f.bytes g.bytes x.1 y.1) (x.2 ∙ sym y.2))
 
 one_of_entry : (image : Image) (m : Mapped) (id : ShardId) (a b : ShardAnswer) (v w : BindingValue) → IsMapped image m →
-    IsBoundBy m.bindings id v → IsAnswerOf image m.plan m.all v a → IsBoundBy m.bindings id w → IsAnswerOf image m.plan m.all w b → a ≡ b
+    IsBoundBy m.bindings id v → IsEntryAnswer image m.plan m.all v a → IsBoundBy m.bindings id w → IsEntryAnswer image m.plan m.all w b → a ≡ b
 one_of_entry image m id a b v w mapped bound x also y =
     let same : w ≡ v = one_bound m.bindings id w v mapped.bindings.bindings_of_map also bound in
-    let z : IsAnswerOf image m.plan m.all v b = subst (λ (u : BindingValue). IsAnswerOf image m.plan m.all u b) same y in
+    let z : IsEntryAnswer image m.plan m.all v b = subst (λ (u : BindingValue). IsEntryAnswer image m.plan m.all u b) same y in
     let own : z.own ≡ x.own = one_list_of_checked image m.plan (named_by_shard v) z.own x.own z.checked x.checked in
     one_by image m.all v.doubtful x.own a b x.answer
     (subst (λ (cs : List Checked). IsAnswerBy image m.all v.doubtful cs b) own z.answer)
@@ -162,6 +161,7 @@ one_in image m id (Found f) (PayloadLost k) mapped x y =
     one_of_entry image m id (Found f) (PayloadLost k) x.0 y.0 mapped x.1 x.2 y.1 y.2
 one_in image m id (Found f) (Found g) mapped x y = one_of_entry image m id (Found f) (Found g) x.0 y.0 mapped x.1 x.2 y.1 y.2
 
+-- An image has at most one answer for a shard.
 pub one_answer : (image : Image) (id : ShardId) (a b : ShardAnswer) → IsShardAnswer image id a → IsShardAnswer image id b → a ≡ b
 one_answer image id a b x y =
     let same : x.found ≡ y.found = one_mapped image x.found y.found x.mapped y.mapped in

@@ -21,7 +21,6 @@ use Rattle.scrub_check.specs.Named.{named_by_shard}
 use Rattle.scrub_check.specs.Runs.{ReadRunsValue, AreReadRuns}
 use Rattle.scrub_check.specs.Spares.{frames, spares_of}
 use Rattle.scrub_listings.specs.Manifest.{is_without_spare}
-use Rattle.scrub_shard.specs.Bytes.{BytesValue}
 use Rattle.scrub_shard.specs.declared.shard.ShardAnswer.{ShardAnswer}
 use Rattle.scrub_shard.specs.declared.shard.ShardAnswer.TheVariants.{NoSuchShard, PayloadLost, Found}
 
@@ -81,12 +80,12 @@ pub record AreBytesFor (image : Image) (all : List Scanned) (own : List Checked)
   pub joined : bytes ≡ flat_map (λ payload. payload) payloads
 
 -- the payload for a locator is lost: it asks for bytes, dangles and has no spare
-abbrev pub is_lost : List Scanned → Checked → Bool
-is_lost all c = not (asks_for_nothing c.locator) && is_without_spare all c
+abbrev pub is_payload_lost : List Scanned → Checked → Bool
+is_payload_lost all c = not (asks_for_nothing c.locator) && is_without_spare all c
 
 -- the number of the first locator whose payload is lost, from 0
 abbrev pub first_lost : List Scanned → List Checked → Option ℕ
-first_lost all own = position (is_lost all) own
+first_lost all own = position (is_payload_lost all) own
 
 -- ---- the answer
 
@@ -99,7 +98,7 @@ IsAnswerBy image all doubtful own (Found found) =
     (first_lost all own ≡ None) × AreBytesFor image all own found.bytes × (found.is_doubtful ≡ doubtful)
 
 -- the answer by an entry of the shard map, the plan and the scanned extents: that by its locators, with their statuses
-pub record IsAnswerOf (image : Image) (plan : PlanValue) (all : List Scanned) (b : BindingValue) (a : ShardAnswer) : Type 0 where
+pub record IsEntryAnswer (image : Image) (plan : PlanValue) (all : List Scanned) (b : BindingValue) (a : ShardAnswer) : Type 0 where
   pub own : List Checked
   pub checked : AreChecked image plan (named_by_shard b) own
   pub answer : IsAnswerBy image all b.doubtful own a
@@ -108,8 +107,8 @@ pub record IsAnswerOf (image : Image) (plan : PlanValue) (all : List Scanned) (b
 abbrev pub IsAnswerIn : Image → Mapped → ShardId → ShardAnswer → Type 0
 IsAnswerIn image m id NoSuchShard = IsUnbound m.bindings id
 IsAnswerIn image m id (PayloadLost number) =
-    (b : BindingValue) × IsBoundBy m.bindings id b × IsAnswerOf image m.plan m.all b (PayloadLost number)
-IsAnswerIn image m id (Found found) = (b : BindingValue) × IsBoundBy m.bindings id b × IsAnswerOf image m.plan m.all b (Found found)
+    (b : BindingValue) × IsBoundBy m.bindings id b × IsEntryAnswer image m.plan m.all b (PayloadLost number)
+IsAnswerIn image m id (Found found) = (b : BindingValue) × IsBoundBy m.bindings id b × IsEntryAnswer image m.plan m.all b (Found found)
 
 -- the answer for a shard of an image
 pub record IsShardAnswer (image : Image) (id : ShardId) (a : ShardAnswer) : Type 0 where

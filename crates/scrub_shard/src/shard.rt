@@ -8,8 +8,8 @@ ghost use Rattle.scrub_check.specs.WholeScan.{IsWholeScan};
 ghost use Rattle.scrub_found.specs.Takings.{AreTakingsBy};
 ghost use Rattle.scrub_found.specs.Judged.{IsScan};
 ghost use Rattle.scrub_shard.specs.Bytes.{BytesValue};
-ghost use Rattle.scrub_shard.specs.Shard.{HaveContentsOfEntry, IsAnswerOf, IsLostInEntry, IsShardAnswer};
-ghost use Rattle.scrub_shard.specs.steps.Payloads.{CanBeRead, IsAnswerWith};
+ghost use Rattle.scrub_shard.specs.Shard.{HaveContentsOfEntry, IsEntryAnswer, IsLostInEntry, IsShardAnswer};
+ghost use Rattle.scrub_shard.specs.steps.Payloads.{HasPayloadUnlessLost, IsAnswerWith};
 ghost use Rattle.scrub_shard.specs.declared.shard.ShardAnswer.{ShardAnswer};
 ghost use Rattle.scrub_shard.specs.declared.shard.ShardAnswer.TheVariants.{Found, PayloadLost};
 
@@ -94,7 +94,7 @@ pub(crate) fn answer_by<D: PageSource>(
     own: &[Checked],
     is_doubtful: bool,
 ) -> Result<ShardAnswer, OutOfMemory>
-    requires { All (CanBeRead (D.image disk.now) spares.now) own.now }
+    requires { All (HasPayloadUnlessLost (D.image disk.now) spares.now) own.now }
     ensures { IfOk result (IsAnswerWith (D.image disk.now) spares.now is_doubtful own.now) }
 {
     match first_lost(spares, own) {
@@ -116,7 +116,7 @@ fn entry_answer<R: Threads + Sync, D: PageSource>(
     binding: &Binding,
 ) -> Result<ShardAnswer, OutOfMemory>
     requires { IsWholeScan (D.image disk.now) plan.now all.now.extents }
-    ensures { IfOk result (IsAnswerOf (D.image disk.now) plan.now all.now.extents binding.now) }
+    ensures { IfOk result (IsEntryAnswer (D.image disk.now) plan.now all.now.extents binding.now) }
 {
     let names = own_locators(alloc, binding)?;
     let own = check_all(rt, alloc, disk, plan, all, &names)?;

@@ -78,9 +78,11 @@ module _ {read out new : List ℕ} {lost more : List Bool} {len : ℕ} {is_lost 
   length_piece : length (take len out) ≡ len
   length_piece = length-take-le len out (omega (arith, adds.few, adds.full))
 
+  -- There are as many more bytes as were read of the block.
   pub length-next : length new ≡ length read + len
   length-next = omega (arith, ap length adds.bytes, length-append read (take len out), length_piece)
 
+  -- There is one more mark.
   pub length-marks : length more ≡ length lost + 1
   length-marks = omega (arith, ap length adds.marks, length-append lost (is_lost ∷ []))
 
@@ -98,7 +100,7 @@ module _ {read out new : List ℕ} {lost more : List Bool} {len : ℕ} {is_lost 
         inr (last, sym last_mark ∙ (rw last at marked))
   ]
 
-  -- each lost block begins before the last byte that was read
+  -- Each lost block begins before the end of what was read.
   pub begins_next : length read ≡ 512 * length lost → (is_lost ≡ true → 0 < len) →
       ((n : ℕ) → IsMarked lost n → n * 512 < length read) → (n : ℕ) → IsMarked more n → n * 512 < length new
   begins_next size some before n marked = elim (mark_cases n marked) [
@@ -201,6 +203,7 @@ module _ {read out new : List ℕ} {lost more : List Bool} {len : ℕ} {is_lost 
       (place : start ≡ n * 512) (low : first ≤ before) (le : before ≤ after)
       (old : IfSome raw (λ known. AreBlocksRead known places fails (before - first) read lost))
       (block : IfSome was (λ known. IsBlockRead known fails start lacking before after out (record { len = len; is_lost = is_lost }))) where
+    -- With one more block, the bytes and marks so far are still those of the blocks read.
     pub blocks_next : IfSome raw (λ known. AreBlocksRead known places fails (after - first) new more)
     blocks_next = by raw old (rw (same, place_is, ← number) at block)
       where

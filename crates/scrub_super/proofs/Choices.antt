@@ -8,7 +8,7 @@ use Rattle.std.proofs.lemmas.List.Prefix.{front_from_reads}
 use Rattle.std.proofs.lemmas.Nat.{div_below}
 use Rattle.list_facts.proofs.Filters.{filter_range-agree}
 use Rattle.scrub_disk.specs.declared.geometry.Geometry.{Geometry}
-use Rattle.scrub_disk.specs.Image.{Image, byte, extent_bytes}
+use Rattle.scrub_disk.specs.Image.{Image, image_byte, extent_bytes}
 use Rattle.scrub_disk.proofs.HeldBytes.{byte-unreadable}
 use Rattle.scrub_super.specs.declared.choosing.Newest.{Newest}
 use Rattle.scrub_super.specs.declared.choosing.RecordsSeen.{RecordsSeen}
@@ -27,7 +27,7 @@ use Rattle.scrub_super.proofs.Standing.{byte_held, some_bytes}
 
 module _ {image : Image} {bytes : List ℕ} {readable : List Bool} (h : IsBuffered image 0 bytes readable) where
   -- a readable byte is held
-  byte_there : (i : ℕ) {x : ℕ} → byte image 0 i ≡ Some x → (i < extent_bytes image.geometry) × (get_or bytes i 0 ≡ x)
+  byte_there : (i : ℕ) {x : ℕ} → image_byte image 0 i ≡ Some x → (i < extent_bytes image.geometry) × (get_or bytes i 0 ≡ x)
   byte_there i {x} e = elim (cases_lt i (extent_bytes image.geometry)) [
     | inl inside ↦ (inside, by_mark (get_or readable (i / image.geometry.page) false) refl inside)
     | inr outside ↦ absurd (none-some x (rw (le-ltb i (extent_bytes image.geometry) outside) at e))
@@ -99,12 +99,14 @@ rank_found found n rank is = let rs = records_of_pages (pages_found found) in ra
 
 -- nothing was found
 module _ {image : Image} {f : RecordsSeen} (found : AreSeenFrom (StandsFrom image) 0 f) (is : f.newest ≡ None) where
+  -- If nothing was found, no page has a valid record.
   pub nothing_found : {g : ℕ} {c : Contents} → RecordStandsAt image g c → ⊥
   nothing_found {g} {c} s = absent g c.generation (omega arith) (c, s, refl)
     where
       absent : (q n : ℕ) → 0 ≤ q → StandsFrom image q n → ⊥
       absent = rw is at found.newest
 
+  -- If nothing was found, the choice has no superblock, no record and no tie.
   pub choice_without : {bad : List ℕ} → bad ≡ unreadable_pages image 0 →
       IsChoice image (record { geometry = image.geometry; superblock = None; page = None; records = 0; tie = false; bad_pages = bad })
   choice_without hb = from_conditions (record {
@@ -132,6 +134,7 @@ module _ {image : Image} {f : RecordsSeen} {b : Newest} (found : AreSeenFrom (St
   pub greatest_found : {n : ℕ} → b.generation ≤ n → IsGreatest image n
   greatest_found low g d s = omega (arith, newest.greatest g d.generation (omega arith) (d, s, refl))
 
+  -- A generation below that of the newest record isn't the greatest.
   pub newer_found : {n : ℕ} → n < b.generation → IsGreatest image n → ⊥
   newer_found older greatest =
       omega (arith, greatest b.page newest.there.0 newest.there.1, newest.there.2)
@@ -175,6 +178,7 @@ module _ {image : Image} {f : RecordsSeen} {b : Newest} (found : AreSeenFrom (St
 
   -- a record is read there
   module _ {bytes : List ℕ} {readable : List Bool} (h : IsBuffered image 0 bytes readable) where
+    -- The bytes from the newest record's page on begin with a record.
     pub newest_begins : (c : Contents) × BeginsWithRecord image.geometry (drop (b.page * image.geometry.page) bytes) c
     newest_begins = (newest.there.0, front_at h newest.there.1)
 

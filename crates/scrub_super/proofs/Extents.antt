@@ -8,7 +8,6 @@ use Rattle.std.proofs.lemmas.List.FromFn.{filter_of_map_range_with_len_more}
 use Rattle.byteorder.specs.Endian.{big_number}
 use Rattle.scrub_super.specs.Planned.{is_in_use, extents_in_use}
 use Rattle.scrub_super.specs.steps.RecordRead.{number_in, SpellExtents}
-pub use Rattle.list_facts.proofs.Searches.{found_among_rising as found_extent}
 
 -- the first i numbers rise, each among 1 up to E, and the last of them is known
 pub record RiseTo (extents : ℕ) (bytes : List ℕ) (i last : ℕ) : Type 0 where
@@ -64,9 +63,11 @@ module _ (retired : List ℕ) (i j : ℕ) (next : j ≡ i + 1) (low : 1 ≤ i) w
       rw size
       (simp map-id at (filter_of_map_range_with_len_more (is_in_use retired) (λ k. k) 1 (i - 1) i (omega arith)))
 
+  -- An extent that is retired adds none to the extents in use.
   pub one_retired : list_any (λ r. r == i) retired ≡ true → extents_in_use j retired ≡ extents_in_use i retired
   one_retired is = more ∙ rw is (append-nil (extents_in_use i retired))
 
+  -- An extent that isn't retired is added at the end of the extents in use.
   pub one_in_use : list_any (λ r. r == i) retired ≡ false →
       extents_in_use j retired ≡ extents_in_use i retired ++ i ∷ []
   one_in_use is = rw is at more

@@ -25,6 +25,7 @@ front_magic Ssb2 h = ap (take 4) h.spelled
 module _ {g : Geometry} {x : List ℕ} (kind : RecordKind) {k : RecordKind} {generation runs n r : ℕ} (hk : take 4 x ≡ magic_of kind)
     (hn : generation ≡ big_number 8 (take 8 (drop 4 x)))
     (hr : runs ≡ big_number 2 (take 2 (drop 24 x))) (h : IsFront g x k n r) where
+  -- What is read from a front are its kind, its generation and its number of index runs.
   pub front_read : (kind ≡ k) × (generation ≡ n) × (runs ≡ r)
   front_read = (
     one_magic kind k (sym hk ∙ front_magic k h),

@@ -8,7 +8,7 @@ use Rattle.list_facts.proofs.Rising.{one_rising_by}
 use Rattle.scrub_disk.specs.Image.{Image}
 use Rattle.scrub_super.specs.Contents.{Contents}
 use Rattle.scrub_super.specs.Record.{record_bytes}
-use Rattle.scrub_super.specs.Chosen.{AreRecords, Choice, IsChoice, RecordStandsAt, newest}
+use Rattle.scrub_super.specs.Chosen.{AreRecords, Choice, IsChoice, RecordStandsAt, newest_records}
 use Rattle.scrub_super.proofs.OneRecord.{one_record_lem}
 
 -- if one record is as long as the other or longer
@@ -52,13 +52,13 @@ one_choice_lem image a b x y =
     let geometry : a.geometry ≡ b.geometry = x.geometry ∙ sym y.geometry in
     let superblock : a.superblock ≡ b.superblock =
     x.superblock
-    ∙ ap (λ (rs : List (ℕ × Contents)). option_map (λ r. r.1) (slice_get (newest rs) 0)) valid
+    ∙ ap (λ (rs : List (ℕ × Contents)). option_map (λ r. r.1) (slice_get (newest_records rs) 0)) valid
     ∙ sym y.superblock in
     let page : a.page ≡ b.page =
-    x.page ∙ ap (λ (rs : List (ℕ × Contents)). option_map (λ r. r.0) (slice_get (newest rs) 0)) valid ∙ sym y.page in
+    x.page ∙ ap (λ (rs : List (ℕ × Contents)). option_map (λ r. r.0) (slice_get (newest_records rs) 0)) valid ∙ sym y.page in
     let records : a.records ≡ b.records = x.records ∙ ap (λ (rs : List (ℕ × Contents)). length rs) valid ∙ sym y.records in
     let tie : a.tie ≡ b.tie =
-    x.tie ∙ ap (λ (rs : List (ℕ × Contents)). nat_lt 1 (length (newest rs))) valid ∙ sym y.tie in
+    x.tie ∙ ap (λ (rs : List (ℕ × Contents)). nat_lt 1 (length (newest_records rs))) valid ∙ sym y.tie in
     let bad_pages : a.bad_pages ≡ b.bad_pages = x.bad_pages ∙ sym y.bad_pages in
     λ i. record
     { geometry = geometry i; superblock = superblock i; page = page i; records = records i; tie = tie i; bad_pages = bad_pages i }

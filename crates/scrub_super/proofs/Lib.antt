@@ -38,5 +38,3 @@ pub mod RecordsThere
 pub mod PlansFit
 pub mod PagesThere
 pub mod SizesThere
--- what `list_facts` has, for crates that import it from here
-pub mod RisingLists

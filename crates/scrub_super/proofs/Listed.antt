@@ -88,6 +88,7 @@ few_extents {e} {xs} some h =
     below zero d here = omega arith
     below (suc k) d here = h.below k d (omega (arith, here))
 
+-- A record lists fewer retired extents than the disk has extents.
 pub few_listed : (g : Geometry) (o : Option (List ℕ)) → IfSome o (AreRetired g.extents) →
     retired_count (option_map length o) + 1 ≤ g.extents
 few_listed g None h = omega (arith, g.extents_least)

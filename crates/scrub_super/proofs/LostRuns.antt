@@ -26,7 +26,7 @@ pub record AreRunsTo (lost : List Bool) (block : ℕ) (ranges : List LostBytes) 
       (first stop : ℕ) × IsLostRun lost first stop × (stop ≤ block) × (l.from ≡ first * 512) × (l.to ≡ stop * 512)
 
 module _ {lost : List Bool} (block : ℕ) where
-  -- one block more, which isn't lost, or is
+  -- If the block isn't lost, the next run of lost blocks begins after it, if at all.
   pub starts_behind : get_or lost block false ≡ false → RunsFrom lost (block + 1) (block + 1)
   starts_behind kept = record {
     from = omega arith;
@@ -36,6 +36,7 @@ module _ {lost : List Bool} (block : ℕ) where
         false≢true (sym kept ∙ (rw here at marked));
   }
 
+  -- If the block is lost, the run of lost blocks before it goes on with it.
   pub goes_on : {first : ℕ} → get_or lost block false ≡ true → RunsFrom lost first block →
       RunsFrom lost first (block + 1)
   goes_on gone h = record {

@@ -16,7 +16,7 @@ use Rattle.scrub_super.specs.declared.pages.Rank.{Rank}
 use Rattle.scrub_super.specs.declared.pages.Rank.TheVariants.{Tie, Counts, Older}
 use Rattle.scrub_super.specs.Contents.{Contents}
 use Rattle.scrub_super.specs.Record.{AreContents}
-use Rattle.scrub_super.specs.Chosen.{AreRecords, Choice, IsChoice, RecordStandsAt, newest}
+use Rattle.scrub_super.specs.Chosen.{AreRecords, Choice, IsChoice, RecordStandsAt, newest_records}
 use Rattle.scrub_super.specs.Pages.{IsRank}
 use Rattle.scrub_super.specs.steps.ByConditions.{AreRecordPages, IsChoiceByConditions, IsChosen, IsGreatest, IsNewestRecord, IsRankByConditions, IsTie}
 use Rattle.scrub_super.proofs.Laws.{one_record_on_page}
@@ -147,23 +147,23 @@ top_of x (y ∷ ys) =
 
 -- ---- the newest of a list
 
-newest_from : (rs : List (ℕ × Contents)) (r : ℕ × Contents) → Contains (newest rs) r →
+newest_from : (rs : List (ℕ × Contents)) (r : ℕ × Contents) → Contains (newest_records rs) r →
     Contains rs r × (is_older rs r.1.generation ≡ false)
 newest_from rs r there =
     let x = Contains-from_filter (λ (s : ℕ × Contents). not (is_older rs s.1.generation)) rs r there in
     (x.0, not-true (is_older rs r.1.generation) x.1)
 
 among_newest : (rs : List (ℕ × Contents)) (r : ℕ × Contents) → Contains rs r → is_older rs r.1.generation ≡ false →
-    Contains (newest rs) r
+    Contains (newest_records rs) r
 among_newest rs r there top =
     Contains-filter (λ (s : ℕ × Contents). not (is_older rs s.1.generation)) rs r (not_from_false (is_older rs r.1.generation) top) there
 
-some_newest : (rs : List (ℕ × Contents)) (r : ℕ × Contents) → Contains rs r → slice_get (newest rs) 0 ≡ None → ⊥
+some_newest : (rs : List (ℕ × Contents)) (r : ℕ × Contents) → Contains rs r → slice_get (newest_records rs) 0 ≡ None → ⊥
 some_newest [] r there none = omega (arith, there.1)
 some_newest (x ∷ xs) r there none =
     let t = top_of x xs in
     let c = among_newest (x ∷ xs) t.0 t.1 (if_none_newer (x ∷ xs) t.0.1.generation t.2) in
-    none-some (get_or (newest (x ∷ xs)) 0 x) (sym none ∙ slice_get-get_or (newest (x ∷ xs)) 0 x (omega (arith, c.1)))
+    none-some (get_or (newest_records (x ∷ xs)) 0 x) (sym none ∙ slice_get-get_or (newest_records (x ∷ xs)) 0 x (omega (arith, c.1)))
 
 -- ---- from the list of records to conditions on all of them
 
@@ -174,54 +174,54 @@ module _ {image : Image} {records : List (ℕ × Contents)} (are : AreRecords im
   not_older : (n : ℕ) → IsGreatest image n → is_older records n ≡ false
   not_older n greatest = if_none_newer records n (λ r there. greatest r.0 r.1 ((are.exact r.0 r.1).0 there))
 
-  newest_rises : Rises (newest records)
+  newest_rises : Rises (newest_records records)
   newest_rises =
       AllPairs-filter (λ (r s : ℕ × Contents). r.0 < s.0) (λ r. not (is_older records r.1.generation)) records are.rising
 
-  newest_stands : (r : ℕ × Contents) → Contains (newest records) r →
+  newest_stands : (r : ℕ × Contents) → Contains (newest_records records) r →
       RecordStandsAt image r.0 r.1 × IsGreatest image r.1.generation
   newest_stands r there =
       let x = newest_from records r there in ((are.exact r.0 r.1).0 x.0, greatest_by r.1.generation x.1)
 
-  newest_if : (q : ℕ) (c : Contents) → RecordStandsAt image q c → IsGreatest image c.generation → Contains (newest records) (q, c)
+  newest_if : (q : ℕ) (c : Contents) → RecordStandsAt image q c → IsGreatest image c.generation → Contains (newest_records records) (q, c)
   newest_if q c s greatest = among_newest records (q, c) ((are.exact q c).1 s) (not_older c.generation greatest)
 
-  chosen_by_list : (o : Option (ℕ × Contents)) → slice_get (newest records) 0 ≡ o →
+  chosen_by_list : (o : Option (ℕ × Contents)) → slice_get (newest_records records) 0 ≡ o →
       IsChosen image (option_map (λ r. r.1) o) (option_map (λ r. r.0) o)
   chosen_by_list None none = λ q c s. some_newest records (q, c) ((are.exact q c).1 s) none
   chosen_by_list (Some r) is =
-      let x = newest_stands r (first_among (newest records) r is) in
+      let x = newest_stands r (first_among (newest_records records) r is) in
       record {
         stands = x.0;
         greatest = x.1;
         lowest = λ q d s same.
-            first_lowest (newest records) r (q, d) newest_rises is (newest_if q d s (rw same x.1));
+            first_lowest (newest_records records) r (q, d) newest_rises is (newest_if q d s (rw same x.1));
       }
 
-  first_chosen : (q : ℕ) (c : Contents) → IsNewestRecord image q c → slice_get (newest records) 0 ≡ Some (q, c)
+  first_chosen : (q : ℕ) (c : Contents) → IsNewestRecord image q c → slice_get (newest_records records) 0 ≡ Some (q, c)
   first_chosen q c is =
-      first_is (newest records) (q, c) newest_rises (newest_if q c is.stands is.greatest)
+      first_is (newest_records records) (q, c) newest_rises (newest_if q c is.stands is.greatest)
       (λ r there. let x = newest_stands r there in
       is.lowest r.0 r.1 x.0 (omega (arith, x.1 q c is.stands, is.greatest r.0 r.1 x.0)))
 
   chosen_in_list : (o : Option Contents) (p : Option ℕ) → IsChosen image o p →
-      (o ≡ option_map (λ r. r.1) (slice_get (newest records) 0)) × (p ≡ option_map (λ r. r.0) (slice_get (newest records) 0))
+      (o ≡ option_map (λ r. r.1) (slice_get (newest_records records) 0)) × (p ≡ option_map (λ r. r.0) (slice_get (newest_records records) 0))
   chosen_in_list (Some c) (Some q) is = rw (first_chosen q c is) (refl, refl)
   chosen_in_list (Some c) None is = absurd is
   chosen_in_list None (Some q) is = absurd is
-  chosen_in_list None None is = by (slice_get (newest records) 0) refl
+  chosen_in_list None None is = by (slice_get (newest_records records) 0) refl
     where
-      by : (o : Option (ℕ × Contents)) → slice_get (newest records) 0 ≡ o →
+      by : (o : Option (ℕ × Contents)) → slice_get (newest_records records) 0 ≡ o →
           (None ≡ option_map (λ r. r.1) o) × (None ≡ option_map (λ r. r.0) o)
       by None e = (refl, refl)
-      by (Some r) e = absurd (is r.0 r.1 (newest_stands r (first_among (newest records) r e)).0)
+      by (Some r) e = absurd (is r.0 r.1 (newest_stands r (first_among (newest_records records) r e)).0)
 
-  tie_in_list : IsTrue (nat_lt 1 (length (newest records))) ↔ IsTie image
+  tie_in_list : IsTrue (nat_lt 1 (length (newest_records records))) ↔ IsTie image
   tie_in_list = (tied, several)
     where
-      tied : nat_lt 1 (length (newest records)) ≡ true → IsTie image
+      tied : nat_lt 1 (length (newest_records records)) ≡ true → IsTie image
       tied is =
-          let x = two_among (newest records) newest_rises (ltb-true 1 (length (newest records)) is) in
+          let x = two_among (newest_records records) newest_rises (ltb-true 1 (length (newest_records records)) is) in
           let r = newest_stands x.0 x.2 in
           let s = newest_stands x.1 x.3 in
           record {
@@ -236,10 +236,10 @@ module _ {image : Image} {records : List (ℕ × Contents)} (are : AreRecords im
             greatest = r.1;
           }
 
-      several : IsTie image → nat_lt 1 (length (newest records)) ≡ true
+      several : IsTie image → nat_lt 1 (length (newest_records records)) ≡ true
       several t =
-          lt-ltb 1 (length (newest records))
-          (two_if_apart (newest records) (t.one, t.contents) (t.other, t.contents_of_other) t.apart
+          lt-ltb 1 (length (newest_records records))
+          (two_if_apart (newest_records records) (t.one, t.contents) (t.other, t.contents_of_other) t.apart
           (newest_if t.one t.contents t.stands t.greatest)
           (newest_if t.other t.contents_of_other t.other_stands (rw t.same t.greatest)))
 
@@ -274,7 +274,7 @@ module _ {image : Image} {records : List (ℕ × Contents)} (are : AreRecords im
 pub by_conditions : {image : Image} {choice : Choice} → IsChoice image choice → IsChoiceByConditions image choice
 by_conditions {image} {choice} x = record {
   geometry = x.geometry;
-  chosen = rw (x.superblock, x.page) (chosen_by_list x.are (slice_get (newest x.valid) 0) refl);
+  chosen = rw (x.superblock, x.page) (chosen_by_list x.are (slice_get (newest_records x.valid) 0) refl);
   records = (map (λ r. r.0) x.valid, pages_in_list x.are, x.records ∙ sym (length-map x.valid (λ (r : ℕ × Contents). r.0)));
   tie = rw x.tie (tie_in_list x.are);
   bad_pages = x.bad_pages;
@@ -294,6 +294,7 @@ module _ {image : Image} where
         All-cons (λ (r : ℕ × Contents). RecordStandsAt image r.0 r.1) (q, first.0) rest.0 first.1 rest.2,
       )
 
+  -- If these are the pages with a valid record, there is a list of all valid records, with these pages.
   pub records_of_pages : {pages : List ℕ} → AreRecordPages image pages →
       (records : List (ℕ × Contents)) × AreRecords image records × (map (λ r. r.0) records ≡ pages)
   records_of_pages {pages} h = (
@@ -335,7 +336,7 @@ from_conditions {image} {choice} x =
       superblock = chosen.0;
       page = chosen.1;
       records = x.records.2 ∙ ap length (sym rs.2) ∙ length-map rs.0 (λ (r : ℕ × Contents). r.0);
-      tie = same_from_decides choice.tie (nat_lt 1 (length (newest rs.0))) x.tie (tie_in_list rs.1);
+      tie = same_from_decides choice.tie (nat_lt 1 (length (newest_records rs.0))) x.tie (tie_in_list rs.1);
       bad_pages = x.bad_pages;
     }
 
@@ -350,27 +351,27 @@ rank_from_conditions {image} {records} are n rank is = (records, are, by rank is
     among older several = cond older Older (cond several Tie Counts)
 
     by : (rank : Rank) → IsRankByConditions image n rank →
-        rank ≡ among (is_older records n) (nat_lt 1 (length (newest records)))
+        rank ≡ among (is_older records n) (nat_lt 1 (length (newest_records records)))
     by Tie x = sym (
-        ap (λ (b : Bool). among b (nat_lt 1 (length (newest records)))) (not_older are n x.0)
+        ap (λ (b : Bool). among b (nat_lt 1 (length (newest_records records)))) (not_older are n x.0)
         ∙ ap (among false) ((tie_in_list are).1 x.1)
         )
     by Counts x = sym (
-        ap (λ (b : Bool). among b (nat_lt 1 (length (newest records)))) (not_older are n x.0)
+        ap (λ (b : Bool). among b (nat_lt 1 (length (newest_records records)))) (not_older are n x.0)
         ∙ ap (among false)
-        (false_from_ne_true (nat_lt 1 (length (newest records))) (λ several. x.1 ((tie_in_list are).0 several)))
+        (false_from_ne_true (nat_lt 1 (length (newest_records records))) (λ several. x.1 ((tie_in_list are).0 several)))
         )
     by Older x = sym (
-        ap (λ (b : Bool). among b (nat_lt 1 (length (newest records))))
+        ap (λ (b : Bool). among b (nat_lt 1 (length (newest_records records))))
         (true_from_ne_false (is_older records n) (λ top. x (greatest_by are n top)))
         )
 
 -- and the other way round
 pub rank_by_conditions : {image : Image} (n : ℕ) (rank : Rank) → IsRank image n rank → IsRankByConditions image n rank
 rank_by_conditions {image} n rank x =
-    rw x.2 (by (is_older x.0 n) (nat_lt 1 (length (newest x.0))) refl refl)
+    rw x.2 (by (is_older x.0 n) (nat_lt 1 (length (newest_records x.0))) refl refl)
   where
-    by : (older several : Bool) → is_older x.0 n ≡ older → nat_lt 1 (length (newest x.0)) ≡ several →
+    by : (older several : Bool) → is_older x.0 n ≡ older → nat_lt 1 (length (newest_records x.0)) ≡ several →
         IsRankByConditions image n (cond older Older (cond several Tie Counts))
     by true several is tie = λ greatest. false≢true (sym (not_older x.1 n greatest) ∙ is)
     by false true is tie = (greatest_by x.1 n is, (tie_in_list x.1).0 tie)
@@ -382,9 +383,9 @@ rank_by_conditions {image} n rank x =
 -- the contents of the superblock that counts are within the limits of the disk
 pub superblock_fits : {image : Image} {choice : Choice} → IsChoice image choice →
     IfSome choice.superblock (AreContents image.geometry)
-superblock_fits {image} {choice} x = rw x.superblock (by (slice_get (newest x.valid) 0) refl)
+superblock_fits {image} {choice} x = rw x.superblock (by (slice_get (newest_records x.valid) 0) refl)
   where
-    by : (o : Option (ℕ × Contents)) → slice_get (newest x.valid) 0 ≡ o →
+    by : (o : Option (ℕ × Contents)) → slice_get (newest_records x.valid) 0 ≡ o →
         IfSome (option_map (λ r. r.1) o) (AreContents image.geometry)
     by None e = tt
-    by (Some r) e = (newest_stands x.are r (first_among (newest x.valid) r e)).0.contents
+    by (Some r) e = (newest_stands x.are r (first_among (newest_records x.valid) r e)).0.contents

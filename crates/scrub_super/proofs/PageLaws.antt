@@ -5,7 +5,7 @@ use Rattle.std.proofs.lemmas.Bool.{false≢true}
 use Rattle.std.proofs.lemmas.Option.{same_Some, none-some, slice_get-get_or}
 use Rattle.std.proofs.lemmas.List.{same_lists}
 use Rattle.std.proofs.Math.Nat.{mul-div_cancel}
-use Rattle.scrub_disk.specs.Image.{Image, byte}
+use Rattle.scrub_disk.specs.Image.{Image, image_byte}
 use Rattle.scrub_disk.proofs.HeldBytes.{byte-unreadable}
 use Rattle.scrub_super.specs.declared.kind.RecordKind.{RecordKind}
 use Rattle.scrub_super.specs.declared.pages.Rank.{Rank}
@@ -13,7 +13,7 @@ use Rattle.scrub_super.specs.declared.pages.Rank.TheVariants.{Tie, Counts, Older
 use Rattle.scrub_super.specs.declared.pages.SuperblockPage.{SuperblockPage}
 use Rattle.scrub_super.specs.declared.pages.SuperblockPage.TheVariants.{Lost, Record, Damaged, Stray, Held}
 use Rattle.scrub_super.specs.Contents.{Contents}
-use Rattle.scrub_super.specs.Chosen.{RecordStandsAt, newest}
+use Rattle.scrub_super.specs.Chosen.{RecordStandsAt, newest_records}
 use Rattle.scrub_super.specs.Pages.{AreHeldBytes, AreSuperblockPages, HasLooseLetters, HasStrayByte, IsHeldByte, IsRank, IsRecordless, IsSuperblockPage, is_odd, kind_of}
 use Rattle.scrub_super.proofs.Fronts.{one_magic}
 use Rattle.scrub_super.proofs.Laws.{one_list_of_records, one_record_on_page}
@@ -21,7 +21,7 @@ use Rattle.scrub_super.proofs.Standing.{some_bytes}
 
 -- no byte of an unreadable page can be read
 module _ (image : Image) (q : ℕ) (lost : image.page 0 q ≡ None) where
-  no_first_byte : {x : ℕ} → byte image 0 (q * image.geometry.page) ≡ Some x → ⊥
+  no_first_byte : {x : ℕ} → image_byte image 0 (q * image.geometry.page) ≡ Some x → ⊥
   no_first_byte {x} there =
       let here : (q * image.geometry.page) / image.geometry.page ≡ q = mul-div_cancel q positive in
       none-some x (sym (byte-unreadable image 0 (q * image.geometry.page) (rw here lost)) ∙ there)
@@ -57,7 +57,7 @@ one_stray image q false false e x y = refl
 -- how new a record is, by all records and its generation
 abbrev rank_among : List (ℕ × Contents) → ℕ → Rank
 rank_among rs n =
-    if list_any (λ r. nat_lt n r.1.generation) rs then Older else if nat_lt 1 (length (newest rs)) then Tie else Counts
+    if list_any (λ r. nat_lt n r.1.generation) rs then Older else if nat_lt 1 (length (newest_records rs)) then Tie else Counts
 
 one_rank : {image : Image} {n m : ℕ} {a b : Rank} → n ≡ m → IsRank image n a → IsRank image m b → a ≡ b
 one_rank {n = n} same x y =
@@ -154,6 +154,7 @@ page_overlooks_none image q k b Stray bytes x readable is nonzero = inr refl
 page_overlooks_none image q k b Held bytes x readable is nonzero =
     inl (subst (AreHeldBytes image q) (same_bytes image q x.1.readable readable) x.3 k b is nonzero)
 
+-- A byte other than zero on a readable page is held by a valid record, or the page is damaged or stray.
 pub none_overlooked : (image : Image) (pages : List SuperblockPage) (q k b : ℕ) (page : SuperblockPage) (bytes : List ℕ) →
     AreSuperblockPages image pages → slice_get pages q ≡ Some page → image.page 0 q ≡ Some bytes →
     slice_get bytes k ≡ Some b → ¬ (b ≡ 0) → IsHeldByte image (q * image.geometry.page + k) ⊎ IsTrue (is_odd page)

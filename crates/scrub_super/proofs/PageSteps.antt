@@ -82,6 +82,7 @@ module _ {image : Image} {found : List (Option PageRecord)} {p q : ℕ} (hp : p 
   on_page : IsFoundOnPage image q (get_or found q None)
   on_page = are.each q (omega (arith, are.count))
 
+  -- If a record was found on page q, what is seen from q on is that record and what is seen after q.
   pub seen_more : {f : PageRecord} {old new : RecordsSeen} → get_or found q None ≡ Some f →
       AddsRecord old new q f.generation → AreSeenFrom (StandsFrom image) p old → AreSeenFrom (StandsFrom image) q new
   seen_more {f} is adds seen =
@@ -94,6 +95,7 @@ module _ {image : Image} {found : List (Option PageRecord)} {p q : ℕ} (hp : p 
       at : IsFoundOnPage image q (Some f)
       at = rw is at on_page
 
+  -- If no record was found on page q, what is seen from q on is what is seen after q.
   pub seen_none : {seen : RecordsSeen} → get_or found q None ≡ None → AreSeenFrom (StandsFrom image) p seen →
       AreSeenFrom (StandsFrom image) q seen
   seen_none is before = found_none (λ m t. at (t.0, t.1)) (rw hp at before)
@@ -104,6 +106,7 @@ module _ {image : Image} {found : List (Option PageRecord)} {p q : ℕ} (hp : p 
 -- ---- how far records reach
 
 module _ {image : Image} {q reach : ℕ} (h : IsRecordReach image q reach) where
+  -- With a record on page q, records reach to its end, or as far as before if that is more.
   pub reach_more : {new : ℕ} {f : PageRecord} → new ≡ max reach f.to → IsFoundOnPage image q (Some f) →
       IsRecordReach image (q + 1) new
   reach_more {new} {f} is at = record {
@@ -131,6 +134,7 @@ module _ {image : Image} {q reach : ℕ} (h : IsRecordReach image q reach) where
         | inr more ↦ more
       ]
 
+  -- Without a record on page q, records reach as far as before.
   pub reach_kept : IsFoundOnPage image q None → IsRecordReach image (q + 1) reach
   reach_kept none = record {
     ends = λ r c low s. elim (cases_lt r q) [
@@ -276,10 +280,12 @@ each_more image old {new} {q} page hq hn each here r p is = elim (cases_lt r q) 
 
 module _ {image : Image} {g : Geometry} {xs bytes : List ℕ} {ys readable : List Bool} {found : List (Option PageRecord)}
     (hg : g ≡ image.geometry) (hx : xs ≡ bytes) (hy : ys ≡ readable) (h : IsBuffered image 0 bytes readable) where
+  -- If what was found is right in each image that has these bytes in extent 0, it is right in this one.
   pub found_on : ((page : ℕ → ℕ → Option (List ℕ)) → IsBuffered (image_with g page) 0 xs ys → AreFoundOnPages (image_with g page) found) →
       AreFoundOnPages image found
   found_on all = (rw (hg, hx, hy) at all) image.page h
 
+  -- If the list of pages is right in each image that has these bytes in extent 0, it is right in this one.
   pub pages_on : {zs : List (Option PageRecord)} {seen : RecordsSeen} {pages : List SuperblockPage} → zs ≡ found →
       AreFoundOnPages image found → AreSeenFrom (StandsFrom image) 0 seen →
       ((page : ℕ → ℕ → Option (List ℕ)) → IsBuffered (image_with g page) 0 xs ys → AreFoundOnPages (image_with g page) zs → AreSeenFrom (StandsFrom (image_with g page)) 0 seen → AreSuperblockPages (image_with g page) pages) →

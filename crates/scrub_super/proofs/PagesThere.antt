@@ -15,7 +15,7 @@ use Rattle.scrub_super.specs.declared.pages.SuperblockPage.{SuperblockPage}
 use Rattle.scrub_super.specs.declared.pages.SuperblockPage.TheVariants.{Lost, Record, Damaged, Stray, Held}
 use Rattle.scrub_super.specs.Contents.{Contents}
 use Rattle.scrub_super.specs.Record.{record_bytes}
-use Rattle.scrub_super.specs.Chosen.{RecordStandsAt, newest}
+use Rattle.scrub_super.specs.Chosen.{RecordStandsAt, newest_records}
 use Rattle.scrub_super.specs.Pages.{AreSuperblockPages, HasLooseLetters, HasStrayByte, IsHeldByte, IsRank, IsRecordless, IsSuperblockPage, kind_of, magic_of}
 use Rattle.scrub_super.proofs.Laws.{one_record_on_page}
 use Rattle.scrub_super.proofs.RecordsThere.{record_there, some_choice}
@@ -25,7 +25,7 @@ some_rank : (image : Image) (n : ℕ) → (rank : Rank) × IsRank image n rank
 some_rank image n =
     let c = some_choice image in (
       (if list_any (λ r. nat_lt n r.1.generation) c.1.valid then Older
-          else if nat_lt 1 (length (newest c.1.valid)) then Tie else Counts),
+          else if nat_lt 1 (length (newest_records c.1.valid)) then Tie else Counts),
       (c.1.valid, c.1.are, refl),
     )
 

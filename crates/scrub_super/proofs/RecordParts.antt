@@ -54,12 +54,14 @@ AreRecordParts g x n r k c =
 
 -- the parts and the head of a record
 module _ {g : Geometry} {x : List ℕ} {c : Contents} (b : BeginsWithRecord g x c) where
+  -- The bytes have the parts of the record: head, pointers, retired extents, locators and digest.
   pub record_parts : AreRecordParts g x c.generation (length c.runs) (count_in c) c
   record_parts =
       parts_of b.rest (length_head g c.generation (length c.runs) (count_in c)) (length_pointers (pointers_in b.contents))
       (length_retired c.retired) (length-locators c.runs b.contents.each_run)
       (length-sha256 _) (b.spelled ∙ ap (λ bytes. bytes ++ b.rest) (record_is g c))
 
+  -- The bytes begin with the head of the record.
   pub is_head : IsHead g (take (record_head_size (count_in c)) x) c.generation (length c.runs) (count_in c)
   is_head = record {
     fits = b.contents.generation;
@@ -87,6 +89,7 @@ length_record {g} {c} h = ap length (record_is g c) ∙ with_digest (body_behind
     with_digest : (body : List ℕ) {size : ℕ} → length body ≡ size → length (body ++ sha256 body) ≡ size + digest_size
     with_digest body is = omega (arith, is, length-append body (sha256 body), length-sha256 body)
 
+-- Bytes with the parts of a record, of contents within the limits, begin with that record.
 pub record_of_parts : {g : Geometry} {x : List ℕ} {c : Contents} → AreContents g c →
     AreRecordParts g x c.generation (length c.runs) (count_in c) c → BeginsWithRecord g x c
 record_of_parts {g} {x} {c} contents parts = record {
@@ -106,6 +109,7 @@ module _ {g : Geometry} {x : List ℕ} {n r : ℕ} {k : Option ℕ} {c : Content
   pub record_head : (c.generation ≡ n) × (length c.runs ≡ r) × (count_in c ≡ k)
   record_head = one_head x (is_head b) h
 
+  -- The parts of the record are where the numbers in the head place them.
   pub known_parts : AreRecordParts g x n r k c
   known_parts = rw (record_head.0, record_head.1, record_head.2) at (record_parts b)
 

@@ -48,6 +48,7 @@ module _ {stands : ℕ → ℕ → Type 0} {q : ℕ} (none : (n : ℕ) → stand
     );
   }
 
+  -- If page q has no record, what is seen from page q + 1 on is what is seen from q on.
   pub found_none : {f : RecordsSeen} → AreSeenFrom stands (q + 1) f → AreSeenFrom stands q f
   found_none {f} h = record {
     pages = h.pages;
@@ -146,6 +147,7 @@ module _ {stands : ℕ → ℕ → Type 0} {q : ℕ} (n : ℕ) (s : stands q n) 
       );
     }
 
+    -- If page q has a record, it is added to what is seen from page q + 1 on.
     pub found_more : {old new : RecordsSeen} → AreSeenFrom stands (q + 1) old → AddsRecord old new q n →
         AreSeenFrom stands q new
     found_more {old} {new} h adds = record {

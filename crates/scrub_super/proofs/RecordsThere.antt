@@ -10,14 +10,14 @@ use Rattle.list_facts.proofs.Decisions.{AreThoseBelow, Decided, decided_all, dec
 use Rattle.list_facts.proofs.Spelling.{list_again, read_parts}
 use Rattle.scrub_frame.proofs.Bytes.{number-bytes}
 use Rattle.scrub_disk.specs.declared.geometry.Geometry.{Geometry}
-use Rattle.scrub_disk.specs.Image.{Image, byte, AreBytesAt, unreadable_pages}
+use Rattle.scrub_disk.specs.Image.{Image, image_byte, AreBytesAt, unreadable_pages}
 use Rattle.scrub_frame.specs.Locator.{locator_bytes, IsLocator}
 use Rattle.scrub_frame.proofs.Locators.{length-locator_bytes}
 use Rattle.scrub_frame.proofs.ReadAgain.{read_locator, locator_again, decided_locator}
 use Rattle.scrub_super.specs.Contents.{Contents}
 use Rattle.scrub_super.specs.Planned.{AreChunkExtents}
 use Rattle.scrub_super.specs.Record.{record_bytes, AreContents, BeginsWithRecord}
-use Rattle.scrub_super.specs.Chosen.{RecordStandsAt, Choice, IsChoice, newest}
+use Rattle.scrub_super.specs.Chosen.{RecordStandsAt, Choice, IsChoice, newest_records}
 use Rattle.scrub_super.specs.Plan.{PlanValue, plan_of}
 use Rattle.scrub_super.specs.steps.ByConditions.{AreRecordPages}
 use Rattle.scrub_super.specs.steps.RecordRead.{record_head_size, retired_count, kind_by, IsFront, IsHead}
@@ -72,8 +72,8 @@ decided_record : (image : Image) (q : ℕ) (c : Contents) → Decided (RecordSta
 decided_record image q c =
     let place : Decided ((q < image.geometry.pages) × AreContents image.geometry c) =
     decided_both (decided_less q image.geometry.pages) (decided_contents image.geometry c) in
-    let all : Decided (((q < image.geometry.pages) × AreContents image.geometry c) × AreBytesAt (byte image 0) (q * image.geometry.page) (record_bytes image.geometry c)) =
-    decided_both place (decided_bytes_at (byte image 0) (q * image.geometry.page) (record_bytes image.geometry c)) in
+    let all : Decided (((q < image.geometry.pages) × AreContents image.geometry c) × AreBytesAt (image_byte image 0) (q * image.geometry.page) (record_bytes image.geometry c)) =
+    decided_both place (decided_bytes_at (image_byte image 0) (q * image.geometry.page) (record_bytes image.geometry c)) in
     decided_like all
     (λ h. record { within = h.0.0; contents = h.0.1; stands = h.1 })
     (λ h. ((h.within, h.contents), h.stands))
@@ -115,6 +115,7 @@ module _ {g : Geometry} {x : List ℕ} {c : Contents} (b : BeginsWithRecord g x 
   front : IsFront g (take 26 x) (kind_by (count_in c)) c.generation (length c.runs)
   front = front_of_head x (is_head b)
 
+  -- The contents that are read from the bytes are those of the record.
   pub contents_again : contents_in g x (count_in c) ≡ c
   contents_again = λ i. record { generation = generation i; pointers = pointers i; retired = retired i; runs = runs i }
     where
@@ -159,7 +160,7 @@ most_bytes g = 1980 + 8 * g.extents
 
 -- the bytes from a page on
 abbrev bytes_on : Image → ℕ → List ℕ
-bytes_on image q = bytes_here (byte image 0) (q * image.geometry.page) (most_bytes image.geometry)
+bytes_on image q = bytes_here (image_byte image 0) (q * image.geometry.page) (most_bytes image.geometry)
 
 begins_there : (image : Image) (q : ℕ) (c : Contents) → RecordStandsAt image q c →
     BeginsWithRecord image.geometry (bytes_on image q) c
@@ -167,7 +168,7 @@ begins_there image q c s = record {
   contents = s.contents;
   rest = drop (length (record_bytes image.geometry c)) (bytes_on image q);
   spelled =
-      begin_with (byte image 0) (q * image.geometry.page) (most_bytes image.geometry) (record_bytes image.geometry c)
+      begin_with (image_byte image 0) (q * image.geometry.page) (most_bytes image.geometry) (record_bytes image.geometry c)
       s.stands few;
 }
   where
@@ -238,10 +239,10 @@ some_choice image =
     let valid = records_of_pages (record_pages image).1 in (
       record {
         geometry = image.geometry;
-        superblock = option_map (λ r. r.1) (slice_get (newest valid.0) 0);
-        page = option_map (λ r. r.0) (slice_get (newest valid.0) 0);
+        superblock = option_map (λ r. r.1) (slice_get (newest_records valid.0) 0);
+        page = option_map (λ r. r.0) (slice_get (newest_records valid.0) 0);
         records = length valid.0;
-        tie = nat_lt 1 (length (newest valid.0));
+        tie = nat_lt 1 (length (newest_records valid.0));
         bad_pages = unreadable_pages image 0;
       },
       record {

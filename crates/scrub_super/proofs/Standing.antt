@@ -10,7 +10,7 @@ use Rattle.std.proofs.lemmas.Nat.{div-add-mod', div_below, le-div}
 use Rattle.std.proofs.Math.Nat.{mul-le-mul_right, mul-div_cancel, mod-lt}
 use Rattle.sha2.specs.Sha256.{sha256}
 use Rattle.sha2.proofs.Facts256.{length-sha256}
-use Rattle.scrub_disk.specs.Image.{Image, byte, extent_bytes}
+use Rattle.scrub_disk.specs.Image.{Image, image_byte, extent_bytes}
 use Rattle.scrub_disk.proofs.HeldBytes.{byte-page, byte-unreadable}
 use Rattle.scrub_super.specs.Contents.{Contents}
 use Rattle.scrub_super.specs.Record.{record_body, record_bytes, BeginsWithRecord}
@@ -34,7 +34,7 @@ some_bytes image c =
 module _ {image : Image} {bytes : List ℕ} {readable : List Bool} (h : IsBuffered image 0 bytes readable) where
   -- a byte of a readable page is held at its place
   pub byte_held : (i : ℕ) → i < extent_bytes image.geometry → get_or readable (i / image.geometry.page) false ≡ true →
-      byte image 0 i ≡ Some (get_or bytes i 0)
+      image_byte image 0 i ≡ Some (get_or bytes i 0)
   byte_held i here marked =
       rw (get_or-between bytes (q * size) (q * size + size) k 0 (omega (arith, within)), div-add-mod' i size) at
       (byte-page image 0 q k (between (q * size) (q * size + size) bytes) (rw marked at (h.pages q below)) length_page below within)
@@ -65,7 +65,7 @@ module _ {image : Image} {bytes : List ℕ} {readable : List Bool} (h : IsBuffer
 
   -- there is no byte where the readable pages end
   byte_ends : (s : ℕ) → s ≤ length readable → (s < length readable → get_or readable s false ≡ false) →
-      byte image 0 (s * image.geometry.page) ≡ None
+      image_byte image 0 (s * image.geometry.page) ≡ None
   byte_ends s within ends = elim (cases_lt s (length readable)) [
     | inl low ↦
         byte-unreadable image 0 (s * image.geometry.page)
@@ -94,7 +94,7 @@ module _ {image : Image} {bytes : List ℕ} {readable : List Bool} (h : IsBuffer
 
     -- each of them is the image's
     held_at : (k : ℕ) → k < s * image.geometry.page - g * image.geometry.page →
-        byte image 0 (g * image.geometry.page + k) ≡ Some (get_or (readable_bytes image bytes g s) k 0)
+        image_byte image 0 (g * image.geometry.page + k) ≡ Some (get_or (readable_bytes image bytes g s) k 0)
     held_at k hk =
         byte_held i (omega (arith, below, in_extent)) marked
         ∙ ap Some (sym (get_or-between bytes (g * image.geometry.page) (s * image.geometry.page) k 0 below))
@@ -113,6 +113,7 @@ module _ {image : Image} {bytes : List ℕ} {readable : List Bool} (h : IsBuffer
             up.readable_before (i / image.geometry.page) (le-div g i image.geometry.page positive (omega arith))
             (div_below i image.geometry.page s positive (omega (arith, below)))
 
+    -- If the readable bytes from page g on begin with a record, a valid record is on page g.
     pub stands_of_front : {c : Contents} → BeginsWithRecord image.geometry (readable_bytes image bytes g s) c →
         RecordStandsAt image g c
     stands_of_front {c} b = record {
@@ -135,6 +136,7 @@ module _ {image : Image} {bytes : List ℕ} {readable : List Bool} (h : IsBuffer
               (omega (arith, enough, some_bytes image c, mul-le-mul_right {m = s} {n = g} image.geometry.page high))
         ]
 
+    -- If a valid record is on page g, the readable bytes from page g on begin with it.
     pub front_of_stands : {c : Contents} → RecordStandsAt image g c →
         BeginsWithRecord image.geometry (readable_bytes image bytes g s) c
     front_of_stands {c} stands = record {

@@ -79,6 +79,7 @@ module _ {bytes part : List ℕ} {offset room : ℕ} {g : Geometry} (fits : IsRo
       (cut_record room place.begins fits.within
       (fits.all (length (record_bytes g t.0)) (record_fits place.begins) place.page_bound place.within))
 
+  -- If no record begins in the room, none for a disk of these sizes is at the offset.
   pub none_in_room : {r : FoundRecord} → ((c : Contents) → BeginsWithRecord g part c → ⊥) → Some g ≡ Some r.geometry →
       TellsRecord bytes offset r → ⊥
   none_in_room none e t = none t.0 (in_room e t)
@@ -86,6 +87,7 @@ module _ {bytes part : List ℕ} {offset room : ℕ} {g : Geometry} (fits : IsRo
   module _ {generation runs : ℕ} {retired : Option ℕ} {kind : RecordKind}
       (some : BeginsWithSome g part generation runs retired) (kind_is : kind ≡ kind_by retired)
     where
+      -- A record that begins in the room is at the offset, with its kind and generation.
       pub found_in_room : TellsRecord bytes offset (record { offset = offset; kind = kind; generation = generation; geometry = g })
       found_in_room =
           let whole = uncut_record bytes room (rw is at some.begins) fits.within in
@@ -101,6 +103,7 @@ module _ {bytes part : List ℕ} {offset room : ℕ} {g : Geometry} (fits : IsRo
             sym some.generation,
           )
 
+      -- A record that begins in the room is the only one at the offset for a disk of these sizes.
       pub only_in_room : {r : FoundRecord} → Some g ≡ Some r.geometry → TellsRecord bytes offset r →
           Some (record { offset = offset; kind = kind; generation = generation; geometry = g }) ≡ Some r
       only_in_room {r} e t =
@@ -261,6 +264,7 @@ all_slots bytes lost enough h = record {
 module _ {bytes : List ℕ} {lost : List Bool} {offset block : ℕ} (marks : AreBlockMarks bytes lost)
     (within : offset ≤ length bytes)
     (before : (n : ℕ) → offset / 512 ≤ n → n < block → IsMarked lost n → ⊥) where
+  -- Readable bytes end at the first lost block from the offset on, or at the offset if it is in that block.
   pub end_at_block : {end : ℕ} → offset / 512 ≤ block → IsMarked lost block →
       ((end ≡ offset) × (block * 512 ≤ offset)) ⊎ ((end ≡ block * 512) × (offset ≤ block * 512)) →
       IsReadableTo (length bytes) lost offset end
@@ -277,6 +281,7 @@ module _ {bytes : List ℕ} {lost : List Bool} {offset block : ℕ} (marks : Are
     stops = λ h. let q : end / 512 ≡ block = omega (arith, there) in rw q marked;
   }
 
+  -- If no block from the offset on is lost, the readable bytes end where all bytes end.
   pub end_with_bytes : length lost ≤ block → IsReadableTo (length bytes) lost offset (length bytes)
   end_with_bytes all = record {
     from = within;

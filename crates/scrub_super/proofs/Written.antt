@@ -22,6 +22,7 @@ abbrev pub head_for : Contents → Head
 head_for s = record { generation = s.generation; runs = length s.runs; retired = count_in s }
 
 module _ (g : Geometry) (s : Contents) {head : Head} (is : head ≡ head_for s) where
+  -- If the retired extents that are listed are extents of the disk, the head counts fewer than 2^16.
   pub small_head : IfSome s.retired (AreRetired g.extents) → retired_count head.retired < 2 ^ 16
   small_head h = rw is (small_count g s.retired h)
 

@@ -12,7 +12,7 @@ use Rattle.scrub_super.specs.declared.pages.SuperblockPage.{SuperblockPage}
 use Rattle.scrub_super.specs.declared.pages.SuperblockPage.TheVariants.{Lost, Record, Damaged, Stray, Held}
 use Rattle.scrub_super.specs.Contents.{Contents}
 use Rattle.scrub_super.specs.Record.{record_bytes}
-use Rattle.scrub_super.specs.Chosen.{AreRecords, RecordStandsAt, newest}
+use Rattle.scrub_super.specs.Chosen.{AreRecords, RecordStandsAt, newest_records}
 
 -- the four bytes that a record of a kind begins with
 abbrev pub magic_of : RecordKind → List ℕ
@@ -28,7 +28,7 @@ abbrev pub IsRank : Image → ℕ → Rank → Type 0
 IsRank image generation rank =
     (records : List (ℕ × Contents)) × AreRecords image records ×
     (rank ≡ (if list_any (λ r. nat_lt generation r.1.generation) records then Older
-    else if nat_lt 1 (len (newest records)) then Tie else Counts))
+    else if nat_lt 1 (len (newest_records records)) then Tie else Counts))
 
 -- a valid record begins at the page
 abbrev pub HasRecord : Image → ℕ → Type 0
@@ -57,7 +57,7 @@ pub record IsRecordless (image : Image) (q : ℕ) (bytes : List ℕ) : Type 0 wh
   pub readable : image.page 0 q ≡ Some bytes
   pub no_record : ¬ HasRecord image q
 
--- page q begins with the letters of this kind, and no valid record holds its first byte
+-- page q begins with the letters of this kind, its four bytes, and no valid record holds the first of them
 pub record HasLooseLetters (image : Image) (q : ℕ) (bytes : List ℕ) (kind : RecordKind) : Type 0 where
   pub letters : take 4 bytes ≡ magic_of kind
   pub loose : ¬ IsHeldByte image (q * image.geometry.page)

@@ -3,7 +3,7 @@ use Rattle.std.specs.Prelude.{◌<◌, ◌≤◌, ◌-◌, ◌==◌, ℕ, Bool, 
 use Rattle.std.specs.List.{list_any, range_with_len}
 use Rattle.std.specs.List.Sorted.{IsStrictlyIncreasing}
 
--- extents where chunks are written: they are ascending, from 1 up to the number of extents less 1
+-- numbers of extents other than extent 0, strictly ascending, each less than the number of extents
 pub record AreChunkExtents (extents : ℕ) (numbers : List ℕ) : Type 0 where
   pub rising : IsStrictlyIncreasing numbers
   pub from_one : All (λ e. 1 ≤ e) numbers

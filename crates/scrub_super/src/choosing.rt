@@ -175,8 +175,9 @@ pub fn one_choice()
 {}
 
 /// A law: the superblock that counts is the valid record of the greatest generation, and of those the one on
-/// the lowest page; and there is a tie if two pages have a valid record of that generation. `IsChoice` and
-/// `IsRank` say it by the list of the valid records, and the conditions without it.
+/// the lowest page; there is a tie if two pages have a valid record of that generation; and by the same a
+/// record has its rank. The definitions `IsChoice` and `IsRank` say it by the list of the valid records, and
+/// the conditions here without it.
 pub fn choice_by_conditions()
     ensures choice { (image : Image) (choice : Choice) →
         IsChoice image choice ↔ IsChoiceByConditions image choice }

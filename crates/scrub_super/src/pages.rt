@@ -13,7 +13,7 @@ use crate::kind::RecordKind;
 #[derive(Debug, Clone, Copy, PartialEq, Eq)]
 pub enum Rank {
     /// Its generation is the greatest, and another page has a record of the same generation. Of these records
-    /// the one on the lowest page is used.
+    /// the one on the lowest page is the superblock that counts.
     Tie,
     /// Its generation is the greatest, and no other page has a record of that generation: this record counts.
     Counts,
@@ -35,9 +35,9 @@ pub enum SuperblockPage {
         /// Whether a byte of the page is stray.
         is_stray: bool,
     },
-    /// The page begins with the four bytes of a kind, but with no valid record, and none holds them. The
-    /// digest is wrong, the record has other sizes or a field out of range, or an unreadable page or the end
-    /// of the extent cuts it off.
+    /// The page begins with the four bytes of a kind, but no valid record begins there or holds the first of
+    /// them. The digest is wrong, the record has other sizes or a field out of range, or an unreadable page
+    /// or the end of the extent cuts it off.
     Damaged {
         kind: RecordKind,
     },

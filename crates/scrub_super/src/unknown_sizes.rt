@@ -12,6 +12,7 @@ mod ranges;
 mod search;
 
 use crate::kind::RecordKind;
+pub use blocks::{BLOCK_BYTES, MOST_BLOCKS};
 use scrub_disk::{Geometry, OutOfMemory, RawImage};
 use std::alloc::Global;
 
@@ -46,8 +47,8 @@ pub struct FoundSuperblocks {
 }
 
 /// Finds each superblock record that begins at a multiple of 64 below 67,108,864. Such a record is valid for
-/// its own sizes, begins at one of its page bounds, ends in its extent 0, and has no byte in a lost block.
-/// The image is read once, in blocks of 512 bytes, up to byte 67,108,864 or its end.
+/// its own sizes, begins at one of its page boundaries, ends in its extent 0, and has no byte in a lost
+/// block. The image is read once, in blocks of 512 bytes, up to byte 67,108,864 or its end.
 ///
 /// A block is lost if a read for it failed, or if it lacks a byte before the end. `lacking` has for each of
 /// the first blocks the place of the first byte that it lacks, counted from the block's start: 512 or more
@@ -73,15 +74,15 @@ pub fn find_superblocks<R: RawImage>(
     Ok(FoundSuperblocks { records, lost })
 }
 
-/// A law: the bytes and the lost blocks determine the answer.
+/// A law: for given bytes and lost blocks there is at most one list of records and one of lost bytes.
 pub fn one_answer_for_lost_blocks()
     ensures { (bytes : List ℕ) (lost : List Bool) (a b : List FoundRecord) (r s : List LostBytes) →
         AreFoundByOwnSizes bytes lost a r → AreFoundByOwnSizes bytes lost b s → (a ≡ b) × (r ≡ s) }
 {}
 
-/// A law: raw bytes with some lost blocks have all their records and all their lost bytes; so there is an
-/// answer whatever bytes lack and whichever reads fail. With `one_answer_for_lost_blocks`, lost blocks have
-/// exactly one list of each.
+/// A law: for given bytes and lost blocks there is a list of all records and one of all lost bytes; so there
+/// is an answer whatever bytes lack and whichever reads fail. With `one_answer_for_lost_blocks`, there is
+/// exactly one list of each for given lost blocks.
 pub fn each_front_has_an_answer()
     ensures blocks { (bytes : List ℕ) (lost : List Bool) →
         (records : List FoundRecord) × (ranges : List LostBytes) ×

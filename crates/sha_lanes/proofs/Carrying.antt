@@ -22,6 +22,7 @@ pub record IsStepped (bytes : List ℕ) (old new : Lanes) (l : ℕ) : Type 0 whe
       × (lane l new.state ≡ compress (lane l old.state) (block_at bytes (slice_index old.place l)))
   pub none : slice_index old.left l ≡ 0 → (slice_index new.place l ≡ slice_index old.place l) × (lane l new.state ≡ lane l old.state)
 
+-- After a step a lane still carries its span, with one block more hashed if it had one left.
 pub Carries_step : {bytes : List ℕ} {old new : Lanes} {l : ℕ} {span : Span} → IsStepped bytes old new l
     → Carries bytes old l span → Carries bytes new l span
 Carries_step {bytes} {old} {new} {l} {span} s c =

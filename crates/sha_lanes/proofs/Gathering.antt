@@ -79,6 +79,7 @@ cut bytes begun (span ∷ spans) (message ∷ messages) within are = (
   cut bytes begun spans messages (All_rest (λ s. s.start + 64 * s.blocks ≤ begun) span spans within) are.1,
 )
 
+-- There are as many spans as messages.
 pub same_count : (bytes : List ℕ) (spans : List Span) (messages : List (List ℕ)) → AreMessages bytes spans messages
     → length spans ≡ length messages
 same_count bytes [] [] are = refl

@@ -49,6 +49,7 @@ splat {n} {l} x lt = record { long = length-replicate n x; word = get_or-replica
 pub column_at : (l i : ℕ) (rows : List (List ℕ)) → i < length rows → slice_index (column l rows) i ≡ word_in l rows i
 column_at l i rows lt = get_or-map (λ row. slice_index row l) rows i [] 0 lt
 
+-- A column has one word for each vector.
 pub length-column : (l : ℕ) (rows : List (List ℕ)) → length (column l rows) ≡ length rows
 length-column l rows = length-map rows (λ row. slice_index row l)
 

@@ -2,7 +2,7 @@
 
 ghost use Rattle.std.specs.Prelude.{◌≡◌, ◌<◌, ◌≤◌, ◌+◌, ◌↔◌, ℕ, Some, IsTrue, Contains};
 ghost use Rattle.std.specs.List.Sorted.{IsStrictlyIncreasing};
-ghost use Rattle.scrub_disk.specs.Image.{byte, extent_bytes, unreadable_pages};
+ghost use Rattle.scrub_disk.specs.Image.{image_byte, extent_bytes, unreadable_pages};
 ghost use Rattle.scrub_scan.specs.AllFindings.{extent_numbers, findings_in};
 ghost use Rattle.scrub_scan.specs.Extent.{HasGap};
 
@@ -40,7 +40,7 @@ pub(crate) fn has_gap<D: PageSource>(disk: &D, bad_pages: &[u32], start: u32, si
     requires rising { IsStrictlyIncreasing bad_pages.now }
     ensures { (e : ℕ) → e < (D.image disk.now).geometry.extents →
         bad_pages.now ≡ unreadable_pages (D.image disk.now) e →
-        (IsTrue result ↔ HasGap (byte (D.image disk.now) e) start size) }
+        (IsTrue result ↔ HasGap (image_byte (D.image disk.now) e) start size) }
 {
     let page = disk.geometry().page();
     let first = start / page;

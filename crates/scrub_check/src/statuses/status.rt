@@ -31,7 +31,7 @@ use uuid::Uuid;
 /// The status of a locator: the first of these that applies.
 #[derive(Debug, Clone, Copy, PartialEq, Eq)]
 pub enum Status {
-    /// It names extent 0 or none of the disk, or the least frame of its payload would end past the extent.
+    /// Its extent is 0 or isn't in the disk, or the least frame of its payload would end past the extent.
     OutOfRange,
     /// Its extent is retired, whatever is there.
     Retired,
@@ -228,8 +228,8 @@ pub fn status_of<D: PageSource>(
     }
 }
 
-/// A law: exactly one status applies to a locator, under a write pointer and by a plan. So only the image and
-/// the pointer of its extent decide the status.
+/// A law: at most one status applies to a locator, under a write pointer and by a plan, and it can't be that
+/// none does. So only the image and the pointer of its extent decide the status.
 pub fn one_status()
     ensures under_pointer { (image : Image) (w : ℕ) (locator : Locator) →
         ExactlyOne (HasStatus image w locator) }

@@ -4,7 +4,7 @@ ghost use Rattle.std.specs.Prelude.{◌≡◌, ◌≤◌, ◌∷◌, [], IfOk, N
 ghost use Rattle.scrub_disk.specs.Faults.{HasSizes};
 ghost use Rattle.scrub_disk.specs.Memory.{image_of};
 ghost use Rattle.scrub_frame.specs.declared.form.Form.{Form};
-ghost use Rattle.scrub_frame.specs.Frame.{frame, longest_payload};
+ghost use Rattle.scrub_frame.specs.Frame.{frame_of, longest_payload};
 ghost use Rattle.scrub_run.specs.Run.{run_bytes};
 ghost use Rattle.scrub_super.specs.Record.{record_bytes};
 ghost use Rattle.scrub_cli.specs.Demo.{demo_shard, demo_pointers, IsDemoDisk, IsDemoAnswer};
@@ -35,7 +35,7 @@ const WORKERS: u32 = 2;
 /// The plain frame of a UUID and a payload.
 fn frame_of(alloc: Global, uuid: Uuid, payload: &[u8]) -> Result<Vec<u8>, OutOfMemory>
     requires { length payload.now ≤ longest_payload Form.Plain }
-    ensures { IfOk result (λ bytes. bytes.items ≡ frame Form.Plain uuid payload.now) }
+    ensures { IfOk result (λ bytes. bytes.items ≡ frame_of Form.Plain uuid payload.now) }
 {
     let mut bytes = Vec::new(alloc);
     match write_frame(&mut bytes, uuid, payload) {

@@ -9,7 +9,7 @@ ghost use Rattle.scrub_map.specs.declared.block.MapBlock.{MapBlock};
 ghost use Rattle.scrub_map.specs.MissingBytes.{KeepsBlocks};
 ghost use Rattle.scrub_cli.specs.DiskExtent.{IsExtentLoaded, IsExtentLoadedBy};
 ghost use Rattle.scrub_cli.specs.DiskExtent.{LosesByMapIn, LosesMarkedIn, LosesPagesIn};
-ghost use Rattle.scrub_cli.specs.DiskGeometry.{AreFoundBy};
+ghost use Rattle.scrub_cli.specs.DiskGeometry.{AreSizesFoundBy};
 ghost use Rattle.scrub_cli.specs.DiskImage.{IsDiskFault, IsRawFault};
 ghost use Rattle.scrub_cli.specs.KnownFiles.{IsKnownAs, KnownRaw};
 ghost use Rattle.scrub_cli.specs.Rescue.{IsMapNamed, KeepsMap};
@@ -39,7 +39,7 @@ pub fn load_disk_extent<'a, I: Images>(
         IsKnownAs I.Image.bytes I.Image.fails I.Image.most_failures I.Image.reads
         (I.known images.old args.now.name.now) o.raw) }
     requires found { MatchOption opened (¬ (args.now.sizes ≡ None))
-        (λ o. AreFoundBy (I.known images.old args.now.name.now) o.map geometry) }
+        (λ o. AreSizesFoundBy (I.known images.old args.now.name.now) o.map geometry) }
     ensures { MatchResult result
         (λ disk. IsExtentLoaded (I.known images.old args.now.name.now) (I.known_map images.old) args.now
         geometry extent (image_of disk))

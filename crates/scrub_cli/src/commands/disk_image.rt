@@ -7,7 +7,7 @@ ghost use Rattle.scrub_disk.specs.Parted.{image_of};
 ghost use Rattle.scrub_map.specs.declared.block.MapBlock.{MapBlock};
 ghost use Rattle.scrub_cli.specs.KnownFiles.{IsKnownAs, KnownRaw};
 ghost use Rattle.scrub_cli.specs.Rescue.{IsMapNamed, KeepsMap};
-ghost use Rattle.scrub_cli.specs.DiskGeometry.{AreFoundBy};
+ghost use Rattle.scrub_cli.specs.DiskGeometry.{AreSizesFoundBy};
 ghost use Rattle.scrub_cli.specs.DiskImage.{NamesPage, NamePages, IsBadPageFault, IsLoadedDisk, IsDiskFault};
 ghost use Rattle.scrub_cli.specs.DiskImage.{AreLossesKept, IsLoadedBy, IsLossesFault, IsRawFault};
 
@@ -99,7 +99,7 @@ pub fn losses_of<'a, I: Images>(
         IsKnownAs I.Image.bytes I.Image.fails I.Image.most_failures I.Image.reads
         (I.known images.old args.now.name.now) o.raw) }
     requires found { MatchOption opened (¬ (args.now.sizes ≡ None))
-        (λ o. AreFoundBy (I.known images.old args.now.name.now) o.map geometry) }
+        (λ o. AreSizesFoundBy (I.known images.old args.now.name.now) o.map geometry) }
     ensures losses { MatchResult result
         (λ r. AreLossesKept (I.known_map images.old) args.now geometry r.0)
         (IsLossesFault (I.known_map images.old) args.now geometry) }
@@ -107,7 +107,7 @@ pub fn losses_of<'a, I: Images>(
         IsKnownAs I.Image.bytes I.Image.fails I.Image.most_failures I.Image.reads
         (I.known images.old args.now.name.now) r.1) }
     ensures found { IfOk result (λ r. args.now.sizes ≡ None →
-        AreFoundBy (I.known images.old args.now.name.now) r.0.map geometry) }
+        AreSizesFoundBy (I.known images.old args.now.name.now) r.0.map geometry) }
     ensures same_images { I.known images.new ≡ I.known images.old }
     ensures same_maps { I.known_map images.new ≡ I.known_map images.old }
 {
@@ -134,7 +134,7 @@ pub fn load_disk<'a, R: Threads + Sync, I: Images>(
         IsKnownAs I.Image.bytes I.Image.fails I.Image.most_failures I.Image.reads
         (I.known images.old args.now.name.now) o.raw) }
     requires found { MatchOption opened (¬ (args.now.sizes ≡ None))
-        (λ o. AreFoundBy (I.known images.old args.now.name.now) o.map geometry) }
+        (λ o. AreSizesFoundBy (I.known images.old args.now.name.now) o.map geometry) }
     ensures { MatchResult result
         (λ disk. IsLoadedDisk (I.known images.old args.now.name.now) (I.known_map images.old) args.now
         geometry (image_of disk))

@@ -4,7 +4,7 @@ ghost use Rattle.std.specs.Prelude.{◌≡◌, ◌+◌, ◌<◌, ◌≤◌, ◌^
 ghost use Rattle.std.specs.Prelude.{None, Some};
 ghost use Rattle.scrub_disk.specs.Limits.{max_extent_bytes};
 ghost use Rattle.scrub_cli.specs.DiskGeometry.{AreSizesFound, AreSizesRead, IsFoundFault, IsGeometryFault};
-ghost use Rattle.scrub_cli.specs.DiskGeometry.{AreFoundBy, IsGeometryOf};
+ghost use Rattle.scrub_cli.specs.DiskGeometry.{AreSizesFoundBy, IsGeometryOf};
 ghost use Rattle.scrub_cli.specs.KnownFiles.{IsKnownAs};
 ghost use Rattle.scrub_cli.specs.Rescue.{IsMapNamed};
 
@@ -52,7 +52,7 @@ fn found_geometry<'a, I: Images>(
     ensures raw { IfOk result (λ r.
         IsKnownAs I.Image.bytes I.Image.fails I.Image.most_failures I.Image.reads
         (I.known images.new name.entry.now) r.1.raw) }
-    ensures found { IfOk result (λ r. AreFoundBy (I.known images.new name.entry.now) r.1.map r.0) }
+    ensures found { IfOk result (λ r. AreSizesFoundBy (I.known images.new name.entry.now) r.1.map r.0) }
     ensures same_images { I.known images.new ≡ I.known images.old }
     ensures same_maps { I.known_map images.new ≡ I.known_map images.old }
 {
@@ -80,7 +80,7 @@ pub fn geometry_of<'a, I: Images>(
         IsKnownAs I.Image.bytes I.Image.fails I.Image.most_failures I.Image.reads
         (I.known images.new args.now.name.now) o.raw)) }
     ensures found { IfOk result (λ r. MatchOption r.1 (¬ (args.now.sizes ≡ None))
-        (λ o. AreFoundBy (I.known images.new args.now.name.now) o.map r.0)) }
+        (λ o. AreSizesFoundBy (I.known images.new args.now.name.now) o.map r.0)) }
     ensures same_images { I.known images.new ≡ I.known images.old }
     ensures same_maps { I.known_map images.new ≡ I.known_map images.old }
 {

@@ -13,6 +13,7 @@ use crate::process::fault::Fault;
 use crate::process::images::{Images, MapReadFault};
 use scrub_disk::{OutOfMemory, PageSource, PartedDisk};
 use scrub_map::{RescueMap, read_map};
+use scrub_super::{BLOCK_BYTES, MOST_BLOCKS};
 use std::alloc::Global;
 
 /// The map of this name, if one is given. Faults, in this order: it can't be opened, and its first line that
@@ -39,12 +40,6 @@ pub fn rescue_map<'a, I: Images>(
     Ok(Some(read_map(alloc, &text)?))
 }
 
-/// How many blocks of `BLOCK` bytes begin in the first 67,108,864 bytes.
-const BLOCKS: usize = 1 << 17;
-
-/// Bytes of a block, which is lost as a whole if the sizes of the disk aren't known.
-const BLOCK: u32 = 512;
-
 /// The place of the first byte that the map lacks in each of the first blocks of 512 bytes, counted from the
 /// block's start; empty without a map.
 pub fn first_lacking(alloc: Global, map: &Option<RescueMap>) -> Result<Vec<u32>, OutOfMemory>
@@ -52,7 +47,7 @@ pub fn first_lacking(alloc: Global, map: &Option<RescueMap>) -> Result<Vec<u32>,
         AreLackingBy blocks places.items) }
 {
     match map {
-        Some(map) => map.first_lacking(alloc, BLOCK, BLOCKS),
+        Some(map) => map.first_lacking(alloc, BLOCK_BYTES as u32, MOST_BLOCKS),
         None => Ok(Vec::new(alloc)),
     }
 }

@@ -3,7 +3,7 @@
 
 ghost use Rattle.std.specs.Prelude.{◌≡◌, ◌↔◌, ◌⊎◌, ◌*◌, ◌≤◌, ◌^◌, IfSome, IsTrue, None, length, true};
 ghost use Rattle.scrub_cli.specs.FileKind.{IsBlockDevice, IsRegularFile};
-ghost use Rattle.scrub_cli.specs.KnownFiles.{file, map_file};
+ghost use Rattle.scrub_cli.specs.KnownFiles.{image_file, map_file};
 
 use crate::process::images::{Images, MapReadFault};
 use scrub_disk::{OutOfMemory, RawFault, RawImage};
@@ -133,7 +133,7 @@ pub struct NamedFiles<'a, R> {
 impl<R: Files<File = File>> Images for NamedFiles<'_, R> {
     type Image = FileImage;
 
-    ghost known = { λ _ _. file };
+    ghost known = { λ _ _. image_file };
 
     ghost known_map = { λ _. map_file };
 

@@ -4,7 +4,7 @@ use Rattle.std.specs.Prelude.{length as len}
 use Rattle.std.specs.Option.{option_map_or}
 use Rattle.scrub_disk.specs.declared.buffered_extent.BufferedExtent.{BufferedExtent}
 use Rattle.scrub_disk.specs.declared.geometry.Geometry.{Geometry}
-use Rattle.scrub_disk.specs.Image.{Image, byte}
+use Rattle.scrub_disk.specs.Image.{Image, image_byte}
 use Rattle.scrub_super.specs.declared.pages.SuperblockPage.{SuperblockPage}
 use Rattle.scrub_super.specs.declared.pages.SuperblockPage.TheVariants.{Record}
 use Rattle.scrub_super.specs.Contents.{Contents}
@@ -39,7 +39,7 @@ is_refused_at old new room to page place = is_refused room to place (byte_at old
 
 -- the byte of place p of an extent is refused
 abbrev pub is_refused_in : Image → Image → Option ℕ → ℕ → ℕ → ℕ → Bool
-is_refused_in before after room to x p = is_refused room to p (byte before x p) (byte after x p)
+is_refused_in before after room to x p = is_refused room to p (image_byte before x p) (image_byte after x p)
 
 -- the first place from `low` on and below `high` that passes a test, if there is one
 abbrev pub IsFirstWithin : ℕ → ℕ → (ℕ → Bool) → Option ℕ → Type 0

@@ -8,7 +8,7 @@ use Rattle.scrub_found.specs.Judged.{Beside, IsLivenessOf}
 use Rattle.scrub_listings.specs.declared.summary.Lists.{Lists}
 
 -- the lists follow from the judged locators
-pub record AreListsOf {D : Type 0} (j : Judged D) (l : Lists) : Type 0 where
+pub record AreSummaryLists {D : Type 0} (j : Judged D) (l : Lists) : Type 0 where
   pub liveness_is : IsLivenessOf j l.liveness
   pub twins_are : l.twins.items ≡ twins j.scan.all.extents
   pub broken_are : AreBrokenShards j.checked.items l.broken.items

@@ -19,7 +19,7 @@ module _ {D : Type 0} where
     pub listed : IsPermutation (map (λ a. a.extent) g.candidates.items) g.listed
 
   -- the locators are judged as they are in the image, the lists are made of them, and the candidates follow from them
-  pub record IsGathered (image : Image) (g : Gathered D) : Type 0 where
+  pub record IsGatheredOn (image : Image) (g : Gathered D) : Type 0 where
     pub judged : AreJudgedBut [] image g.judged
     pub lists : AreLists g
     pub candidates : AreCandidates g.judged.scan.plan g.judged.scan.all.extents g.judged.checked.items g.judged.in_doubt g.candidates.items

@@ -14,8 +14,8 @@ use Rattle.scrub_scan.specs.declared.collected.Collected.{Collected}
 use Rattle.scrub_scan.specs.declared.pages.Target.{Target}
 use Rattle.scrub_scan.specs.declared.payloads.Payloads.{Payloads}
 use Rattle.scrub_scan.specs.declared.pages.TwoPages.{TwoPages}
-use Rattle.scrub_scan.specs.declared.scanner.Met.{Met}
-use Rattle.scrub_scan.specs.declared.scanner.Reached.{Reached}
+use Rattle.scrub_scan.specs.declared.scanner.ScannedFrame.{ScannedFrame}
+use Rattle.scrub_scan.specs.declared.scanner.ScannedItem.{ScannedItem}
 use Rattle.scrub_scan.specs.Extent.{Extent, FrameAt}
 use Rattle.scrub_scan.specs.Item.{IsItem, start_of, stop_of}
 use Rattle.scrub_scan.specs.steps.Pages.{IsFound, AskedBy, HasRead}
@@ -61,7 +61,7 @@ pub record IsGathered (x : Extent) (p : ℕ) (h : Head) (seal : List ℕ) (messa
   pub gathers : Gathers batch (messages ++ payload ∷ []) []
 
 -- the digest of what was met, and that its frame is at p if its seal is that digest, as it is where seals aren't trusted
-pub record IsMet (x : Extent) (p : ℕ) (trusts : Bool) (m : Met) (messages : List (List ℕ)) (batch : Batch) : Type 0 where
+pub record IsScannedFrame (x : Extent) (p : ℕ) (trusts : Bool) (m : ScannedFrame) (messages : List (List ℕ)) (batch : Batch) : Type 0 where
   pub digest : List ℕ
   pub found : seal_in m.found.form digest ≡ seal_in m.found.form m.found.digest →
       IsFound x p (record { form = m.found.form; uuid = m.found.uuid; length = m.found.length; digest = digest })
@@ -70,7 +70,7 @@ pub record IsMet (x : Extent) (p : ℕ) (trusts : Bool) (m : Met) (messages : Li
 
 -- the digest of the item that was reached, and that the item with it is one of the extent if it agrees with the item's seal,
 -- as it does where seals aren't trusted
-pub record IsReached (x : Extent) (trusts : Bool) (r : Reached) (messages : List (List ℕ)) (batch : Batch) : Type 0 where
+pub record IsScannedItem (x : Extent) (trusts : Bool) (r : ScannedItem) (messages : List (List ℕ)) (batch : Batch) : Type 0 where
   pub digest : List ℕ
   pub item : AgreesWith r.item digest → IsItem x (with_digest r.item digest)
   pub compared : trusts ≡ false → AgreesWith r.item digest

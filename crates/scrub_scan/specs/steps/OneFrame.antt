@@ -6,7 +6,7 @@ use Rattle.std.proofs.lemmas.List.{append-nil}
 use Rattle.std.proofs.lemmas.List.Prefix.{front_from_reads}
 use Rattle.scrub_frame.specs.declared.form.Form.{Form}
 use Rattle.scrub_frame.specs.declared.form.Form.TheVariants.{Plain, Sealed}
-use Rattle.scrub_frame.specs.Frame.{magic, frame, frame_overhead}
+use Rattle.scrub_frame.specs.Frame.{magic, frame_of, frame_overhead}
 use Rattle.scrub_frame.proofs.Frames.{one_frame_lem, length-frame}
 use Rattle.scrub_disk.specs.Image.{Image, AreBytesAt}
 use Rattle.scrub_scan.specs.Extent.{Extent, extent_of, FrameAt}
@@ -14,16 +14,16 @@ use Rattle.scrub_scan.specs.Extent.{Extent, extent_of, FrameAt}
 -- lemma: two frames at a place are one, if the second is at least as long as the first
 shorter_frame : (x : Extent) (p : ℕ) (f : Form) (u b : List ℕ) (g : Form) (v c : List ℕ) → frame_overhead f + length b ≤ frame_overhead g + length c → FrameAt x p f u b → FrameAt x p g v c → (f ≡ g) × (u ≡ v) × (b ≡ c)
 shorter_frame x p f u b g v c le h k =
-    let lu : length (frame f u b) ≡ frame_overhead f + length b = length-frame f u b h.has_frame.sixteen in
-    let lv : length (frame g v c) ≡ frame_overhead g + length c = length-frame g v c k.has_frame.sixteen in
-    one_frame_lem (frame g v c) f u b g v c
+    let lu : length (frame_of f u b) ≡ frame_overhead f + length b = length-frame f u b h.has_frame.sixteen in
+    let lv : length (frame_of g v c) ≡ frame_overhead g + length c = length-frame g v c k.has_frame.sixteen in
+    one_frame_lem (frame_of g v c) f u b g v c
     (record {
       has_frame = h.has_frame;
-      rest = drop (length (frame f u b)) (frame g v c);
-      spelled = front_from_reads 0 (frame g v c) (frame f u b) (omega (arith, lu, lv, le))
-          (λ i hi. same_Some (get_or (frame g v c) i 0) (get_or (frame f u b) i 0) (sym (k.stands i (omega (arith, hi, lu, lv, le))) ∙ h.stands i hi));
+      rest = drop (length (frame_of f u b)) (frame_of g v c);
+      spelled = front_from_reads 0 (frame_of g v c) (frame_of f u b) (omega (arith, lu, lv, le))
+          (λ i hi. same_Some (get_or (frame_of g v c) i 0) (get_or (frame_of f u b) i 0) (sym (k.stands i (omega (arith, hi, lu, lv, le))) ∙ h.stands i hi));
     })
-    (record { has_frame = k.has_frame; rest = []; spelled = sym (append-nil (frame g v c)) })
+    (record { has_frame = k.has_frame; rest = []; spelled = sym (append-nil (frame_of g v c)) })
 
 -- lemma: two frames at a place are one
 pub one_frame_at : (x : Extent) (p : ℕ) (f : Form) (u b : List ℕ) (g : Form) (v c : List ℕ) → FrameAt x p f u b → FrameAt x p g v c → (f ≡ g) × (u ≡ v) × (b ≡ c)

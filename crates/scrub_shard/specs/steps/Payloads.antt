@@ -28,8 +28,8 @@ HasPayloadLeft image found c =
     (MatchBool (is_dangling c.status) (AreReadable image (spares_by found c)) (StandsThere image c.locator))
 
 -- a payload is left for the locator unless it is lost
-abbrev pub CanBeRead : Image → List Standing → Checked → Type 0
-CanBeRead image found c = is_lost_by found c ≡ false → HasPayloadLeft image found c
+abbrev pub HasPayloadUnlessLost : Image → List Standing → Checked → Type 0
+HasPayloadUnlessLost image found c = is_lost_by found c ≡ false → HasPayloadLeft image found c
 
 -- the payload for a locator, by the spares among these chunks
 abbrev pub IsPayloadBy : Image → List Standing → Checked → List ℕ → Type 0

@@ -1,5 +1,5 @@
 -- Steps of reading a raw image in blocks, and of the search for records in them.
-use Rattle.std.specs.Prelude.{◌≡◌, ◌<◌, ◌≤◌, ◌+◌, ◌*◌, ◌/◌, ◌^◌, ◌%◌, ℕ, List, Bool, true, false, Option, Some, ◌⊎◌, Contains, slice_get, slice_index, slice_index_or, take, [], ◌∷◌, ◌&&◌, not, if◌then◌else◌, All}
+use Rattle.std.specs.Prelude.{◌≡◌, ◌<◌, ◌≤◌, ◌+◌, ◌*◌, ◌/◌, ◌^◌, ◌%◌, ℕ, List, Bool, true, false, Some, ◌⊎◌, Contains, slice_get, slice_index, slice_index_or, take, [], ◌∷◌, ◌&&◌, not, if◌then◌else◌, All}
 use Rattle.std.specs.Prelude.{length as len}
 use Rattle.scrub_disk.specs.Limits.{max_extent_bytes}
 use Rattle.scrub_disk.specs.declared.geometry.Geometry.{Geometry}

@@ -12,10 +12,10 @@ use scrub_disk::{OutOfMemory, RawImage, fill};
 use std::alloc::Global;
 
 /// The size of a block, in bytes.
-pub(crate) const BLOCK_BYTES: usize = 512;
+pub const BLOCK_BYTES: usize = 512;
 
 /// The most blocks that are read: 67,108,864 bytes, the size of the largest extent.
-pub(crate) const MOST_BLOCKS: usize = 131072;
+pub const MOST_BLOCKS: usize = 131072;
 
 /// The front of a raw image.
 #[derive(Drop)]

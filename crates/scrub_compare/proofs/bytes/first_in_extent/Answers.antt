@@ -1,5 +1,5 @@
 -- One more page, and at the end all.
-use Rattle.std.proofs.Common.{◌≡◌, ◌<◌, ◌≤◌, ◌+◌, ◌*◌, ◌/◌, ℕ, true, arith, refl, sym, ◌∙◌}
+use Rattle.std.proofs.Common.{◌≡◌, ◌+◌, ◌*◌, ◌/◌, ℕ, true, arith, refl, sym, ◌∙◌}
 use Rattle.scrub_disk.proofs.PagesRead.{page_fits}
 use Rattle.scrub_compare.specs.steps.Changes.{is_refused_at}
 use Rattle.scrub_compare.proofs.ChangedBytes.{page_least}

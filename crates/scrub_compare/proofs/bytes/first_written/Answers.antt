@@ -1,5 +1,5 @@
 -- A byte that is refused changed and may not.
-use Rattle.std.proofs.Common.{◌≡◌, ℕ, Option, true}
+use Rattle.std.proofs.Common.{◌≡◌, true}
 use Rattle.scrub_disk.specs.Image.{extent_bytes}
 use Rattle.scrub_compare.specs.Written.{IsLeastNumber, IsWrittenIn}
 use Rattle.scrub_compare.specs.steps.Changes.{IsLeastWithin, is_refused_in}

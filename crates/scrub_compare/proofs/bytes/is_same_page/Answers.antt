@@ -1,5 +1,5 @@
 -- Slices that are the same have the same bytes.
-use Rattle.std.proofs.Common.{◌≡◌, Bool, true, false, not, get_or, refl, rules, sym, ◌∙◌}
+use Rattle.std.proofs.Common.{◌≡◌, Bool, true, false, not, get_or, refl, sym, ◌∙◌}
 use Rattle.std.specs.Bool.{beq}
 use Rattle.std.proofs.lemmas.Bool.{false≢true}
 use Rattle.scrub_compare.proofs.ChangedBytes.{same_marks, same_part}

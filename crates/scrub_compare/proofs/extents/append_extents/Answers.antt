@@ -1,5 +1,5 @@
 -- One more extent, and at the end all.
-use Rattle.std.proofs.Common.{◌≡◌, ◌≤◌, ℕ, arith, ap, ◌∙◌}
+use Rattle.std.proofs.Common.{◌≡◌, ◌≤◌, arith, ap, ◌∙◌}
 use Rattle.std.specs.Prelude.{string_bytes}
 use Rattle.scrub_check.specs.steps.LocatorIndex.{AreBarredExtents}
 use Rattle.scrub_found.specs.Judged.{found_in}

@@ -1,6 +1,5 @@
 -- The locators after those of the runs are those of shards, in the order of these.
-use Rattle.std.proofs.Common.{◌≡◌, List, drop, length, sym, subst, ◌∙◌}
-use Rattle.scrub_check.specs.declared.statuses.checked.Checked.{Checked}
+use Rattle.std.proofs.Common.{drop, length, sym, subst, ◌∙◌}
 use Rattle.scrub_listings.proofs.ShardLines.{along_runs, runs_fit, shards_part}
 use Rattle.scrub_compare.specs.steps.Rows.{AreByOwner}
 use Rattle.scrub_compare.proofs.OwnedBy.{by_owner}

@@ -1,9 +1,9 @@
 -- One more page, and at the end all.
-use Rattle.std.proofs.Common.{◌≡◌, ◌<◌, ◌≤◌, ◌+◌, ◌*◌, ℕ, Option, arith, get_or, inl, inr, sym, ap, ◌∙◌}
+use Rattle.std.proofs.Common.{◌≡◌, ◌<◌, ◌+◌, ◌*◌, ℕ, arith, get_or, inl, inr, sym, ap, ◌∙◌}
 use Rattle.std.proofs.lemmas.Bool.{cases_lt}
 use Rattle.std.proofs.lemmas.Option.{slice_get-get_or}
 use Rattle.scrub_disk.specs.declared.geometry.Geometry.{Geometry}
-use Rattle.scrub_disk.specs.Image.{Image, extent_bytes}
+use Rattle.scrub_disk.specs.Image.{extent_bytes}
 use Rattle.scrub_disk.proofs.PagesRead.{page_fits}
 use Rattle.scrub_super.specs.declared.pages.SuperblockPage.TheVariants.{Lost}
 use Rattle.scrub_compare.specs.Written.{IsWrittenInRecords}

@@ -1,5 +1,5 @@
 -- The record that is there is read.
-use Rattle.std.proofs.Common.{◌≡◌, ◌-◌, ◌+◌, ℕ, length, length-drop, take, drop, arith, ap, ◌∙◌}
+use Rattle.std.proofs.Common.{◌≡◌, ◌-◌, ◌+◌, ℕ, length, length-drop, take, drop, arith, ap}
 use Rattle.std.proofs.lemmas.List.{take_all}
 use Rattle.scrub_super.specs.Record.{BeginsWithRecord}
 use Rattle.scrub_compare.proofs.records.record_end.Goals as goal

@@ -1,6 +1,4 @@
 -- The index is of the judged locators.
-use Rattle.std.proofs.Common.{IfOk}
-use Rattle.std.proofs.lemmas.Result.{IfOk-weaker}
 use Rattle.scrub_found.proofs.judging.liveness_and_twins.Goals as goal
 
 pub returns-clause-liveness : goal.returns-clause-liveness

@@ -1,10 +1,8 @@
 -- Each group of numbers comes after those before it, and what the code keeps is what was found.
-use Rattle.std.proofs.Common.{◌≡◌, ◌++◌, ℕ, List, OnOk, arith, is_none, length, sym, ap, ◌∙◌, subst}
+use Rattle.std.proofs.Common.{◌≡◌, ◌++◌, List, OnOk, arith, is_none, length, ap, ◌∙◌, subst}
 use Rattle.std.specs.Prelude.{string_bytes}
-use Rattle.std.specs.List.{count_by, sum}
-use Rattle.std.proofs.lemmas.List.Sums.{sum-map}
+use Rattle.std.specs.List.{count_by}
 use Rattle.scrub_check.specs.Chunks.{orphans}
-use Rattle.scrub_check.specs.Live.{live_bytes}
 use Rattle.scrub_found.specs.declared.runs.RunRow.{RunRow}
 use Rattle.scrub_found.specs.Judged.{found_in}
 use Rattle.scrub_listings.specs.Summary.{NamedNumber, candidate_numbers, chunk_numbers, disk_numbers, has_spare, has_spare_by, item_numbers, number_lines, numbers_by, reading_numbers, shard_numbers, superblock_numbers}

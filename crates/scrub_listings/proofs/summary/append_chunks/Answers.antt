@@ -1,11 +1,11 @@
 -- The chunks are parted into live ones and orphans.
-use Rattle.std.proofs.Common.{◌≡◌, ◌-◌, ◌++◌, ◌∷◌, [], ℕ, List, OnOk, codes, length, sym, ap, ◌∙◌, subst}
+use Rattle.std.proofs.Common.{◌≡◌, ◌-◌, ◌++◌, ◌∷◌, [], ℕ, List, OnOk, codes, length, ap, ◌∙◌, subst}
 use Rattle.std.specs.Prelude.{string_bytes}
 use Rattle.std.specs.List.{sum, sum_by}
 use Rattle.std.proofs.lemmas.List.Sums.{sum-map}
-use Rattle.scrub_check.specs.Chunks.{chunks, orphans, twins}
+use Rattle.scrub_check.specs.Chunks.{chunks}
 use Rattle.scrub_check.specs.Live.{live_bytes}
-use Rattle.scrub_listings.specs.Summary.{NamedNumber, chunk_bytes, chunk_numbers, live_count, number_lines, orphan_bytes}
+use Rattle.scrub_listings.specs.Summary.{NamedNumber, chunk_numbers, live_count, number_lines, orphan_bytes}
 use Rattle.scrub_listings.proofs.SummaryChunks.{chunks_counted, live_counted, orphan_bytes_left}
 use Rattle.scrub_listings.proofs.summary.append_chunks.Goals as goal
 

@@ -1,5 +1,4 @@
 -- The numbers are those of the choice, the plan and the extents.
-use Rattle.std.proofs.Common.{arith}
 use Rattle.scrub_listings.proofs.summary.append_reading.Goals as goal
 
 pub returns : goal.returns

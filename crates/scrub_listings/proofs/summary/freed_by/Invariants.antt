@@ -1,5 +1,5 @@
 -- The sum over the first candidates, each number below 2^64.
-use Rattle.std.proofs.Common.{◌≡◌, ◌≤◌, ◌*◌, ◌^◌, length, take}
+use Rattle.std.proofs.Common.{◌≡◌, ◌≤◌, ◌*◌, ◌^◌, take}
 use Rattle.std.specs.List.{sum_by}
 use Rattle.scrub_listings.proofs.summary.freed_by.Given as goal
 

@@ -1,7 +1,7 @@
 -- The locators of a place are between the first that isn't below it and the first that is above it.
 use Rattle.std.proofs.Common.{is_lt, is_le, rules}
 use Rattle.std.proofs.lemmas.List.Sorted.{IsPartitionPoint-from_clause}
-use Rattle.scrub_check.proofs.Counts.{BelowAt, ThroughAt, parted_below, parted_through, below_through}
+use Rattle.list_facts.proofs.Sorted.{BelowAt, ThroughAt, below_through, parted_below, parted_through}
 use Rattle.scrub_reclaim.proofs.ByPlace.{part_there, probe, shown_cmp, shown_total}
 use Rattle.scrub_reclaim.proofs.moves.pointing_to.Goals as goal
 

@@ -1,11 +1,11 @@
 -- A chunk at risk doesn't stay.
 use Rattle.std.proofs.Common.{◌≡◌, ◌++◌, ◌∷◌, [], rules}
-use Rattle.scrub_reclaim.proofs.SpareDoubts.{goes, stays_too}
+use Rattle.scrub_reclaim.proofs.SpareDoubts.{at_risk_not_kept, stays_too}
 use Rattle.scrub_reclaim.proofs.spare_doubts.add_staying.Goals as goal
 
 pub returns-then-is_at_risk : goal.returns-then-is_at_risk
 returns-then-is_at_risk c checked same =
-    goes checked c.args.extents.now c.args.spare.now c.is_at_risk.result c.args.stay.now.items (c.is_at_risk.ensures checked same) c.if-is_at_risk.true
+    at_risk_not_kept checked c.args.extents.now c.args.spare.now c.is_at_risk.result c.args.stay.now.items (c.is_at_risk.ensures checked same) c.if-is_at_risk.true
 
 pub returns : goal.returns
 returns c checked same =

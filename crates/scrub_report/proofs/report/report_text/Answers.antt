@@ -1,5 +1,5 @@
 -- The three parts are the text.
-use Rattle.std.proofs.Common.{rules, ◌≡◌, ◌++◌, ◌∷◌, [], length, ap, ap₂, ◌∙◌, append_assoc}
+use Rattle.std.proofs.Common.{◌++◌, ◌∷◌, [], ap, ap₂, ◌∙◌, append_assoc}
 use Rattle.json.specs.Print.{print}
 use Rattle.scrub_report.specs.steps.Tokens.{begun_tokens, ended_tokens, extent_pairs, extents_tokens}
 use Rattle.scrub_report.proofs.ExtentTexts.{report_printed}

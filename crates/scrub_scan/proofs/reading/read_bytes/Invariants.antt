@@ -1,5 +1,5 @@
 use Rattle.std.proofs.Common.{◌≡◌, ◌≤◌, ◌+◌, ◌-◌, length}
-use Rattle.scrub_disk.specs.Image.{byte, AreBytesAt}
+use Rattle.scrub_disk.specs.Image.{image_byte, AreBytesAt}
 use Rattle.scrub_scan.proofs.reading.read_bytes.Given as goal
 
 abbrev pub invariant-loop-place : goal.invariant-loop-place
@@ -8,7 +8,7 @@ invariant-loop-place g l = record {
   high : l.place ≤ l.start + l.size;
   buffer : length l.buffer.items ≡ (g.D.PageSource.image l.disk).geometry.page;
   so_far : l.start + length l.bytes.items ≡ l.place;
-  bytes : AreBytesAt (byte (g.D.PageSource.image l.disk) l.extent) l.start l.bytes.items;
+  bytes : AreBytesAt (image_byte (g.D.PageSource.image l.disk) l.extent) l.start l.bytes.items;
 }
 
 abbrev pub decreases-loop-place : goal.decreases-loop-place

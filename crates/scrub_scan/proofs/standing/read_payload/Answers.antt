@@ -1,5 +1,5 @@
 use Rattle.std.proofs.Common.{arith, ◌≡◌, ◌+◌, length, ◌∙◌}
-use Rattle.scrub_disk.specs.Image.{byte, extent_bytes, AreBytesAt}
+use Rattle.scrub_disk.specs.Image.{image_byte, extent_bytes, AreBytesAt}
 use Rattle.scrub_frame.specs.Frame.{payload_start, frame_overhead}
 use Rattle.scrub_frame.proofs.Frames.{overhead}
 use Rattle.scrub_scan.specs.Extent.{extent_of}
@@ -27,7 +27,7 @@ returns g c =
     let image = g.D.PageSource.image c.args.disk.now in
     let size : length c.in-Some.payload.items ≡ s.length = rw c.in-Some.is at c.in_ok-payload.ensures.size in
     let read = rw c.in-Some.is at c.in_ok-payload.ensures.bytes in
-    let bytes : AreBytesAt (byte image s.extent) (s.offset + payload_start s.form) c.in-Some.payload.items =
+    let bytes : AreBytesAt (image_byte image s.extent) (s.offset + payload_start s.form) c.in-Some.payload.items =
     rw c.payload_start.ensures.value at read in
     rw
     (payload_read (extent_of image s.extent (extent_bytes image.geometry)) s.offset s.form s.uuid c.requires.payload c.in-Some.payload.items

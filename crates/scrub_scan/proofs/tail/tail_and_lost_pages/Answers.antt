@@ -2,7 +2,7 @@
 use Rattle.std.proofs.Common.{arith, sym, ap, ◌∙◌, ◌≡◌, ◌≤◌, ◌+◌, ◌*◌, ◌/◌, ◌++◌, ◌∷◌, [], max, not, is_none, inl}
 use Rattle.std.proofs.Math.Nat.{mul-le-mul_left, div-mul-le_self}
 use Rattle.list_facts.proofs.Filters.{filter_range-no, filter_range-yes}
-use Rattle.scrub_disk.specs.Image.{byte, extent_bytes}
+use Rattle.scrub_disk.specs.Image.{image_byte, extent_bytes}
 use Rattle.scrub_scan.specs.Findings.{unreadable_below}
 use Rattle.scrub_scan.proofs.LostItems.{lost_pages_listed}
 use Rattle.scrub_scan.proofs.ReadPages.{read_next, all_read, pages_before}
@@ -14,7 +14,7 @@ pub loop-page-init : goal.loop-page-init
 loop-page-init g c =
     let image = g.D.PageSource.image c.args.disk.now in
     let t = c.args.target.now in
-    let at = byte image t.extent in
+    let at = image_byte image t.extent in
     let size = extent_bytes image.geometry in
     record {
       held = c.requires.held;

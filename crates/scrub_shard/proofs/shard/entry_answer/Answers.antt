@@ -1,9 +1,9 @@
 -- The locators of the entry have the spares that were found for them.
-use Rattle.std.proofs.Common.{◌≡◌, ◌∙◌, List, subst}
+use Rattle.std.proofs.Common.{◌∙◌, List, subst}
 use Rattle.std.proofs.lemmas.Result.{IfOk-weaker}
 use Rattle.scrub_check.specs.declared.named.Named.{Named}
 use Rattle.scrub_check.specs.Checked.{AreChecked}
-use Rattle.scrub_shard.specs.Shard.{IsAnswerOf}
+use Rattle.scrub_shard.specs.Shard.{IsEntryAnswer}
 use Rattle.scrub_shard.specs.steps.Payloads.{IsAnswerWith}
 use Rattle.scrub_shard.proofs.Answered.{answer_of}
 use Rattle.scrub_shard.proofs.Lost.{all_can_be_read, have_spares}
@@ -27,6 +27,6 @@ returns g c =
     let b = c.args.binding.now in
     let checked = subst (λ (ns : List Named). AreChecked image plan ns own) (c.deref.ensures.value ∙ c.in_ok-names.ensures) c.in_ok-own.ensures in
     let same = have_spares all found own (rw c.deref-2.ensures.value at c.in_ok-spares.ensures) in
-    IfOk-weaker c.answer_by.result (IsAnswerWith image found b.doubtful own) (IsAnswerOf image plan all b)
+    IfOk-weaker c.answer_by.result (IsAnswerWith image found b.doubtful own) (IsEntryAnswer image plan all b)
     (λ a x. answer_of image plan all found b own a checked same x)
     (rw (c.deref-3.ensures.value, c.doubtful.ensures) at c.answer_by.ensures)

@@ -1,6 +1,6 @@
 -- The shard map has an entry of the shard, or none.
 use Rattle.std.proofs.lemmas.Result.{IfOk-weaker}
-use Rattle.scrub_shard.specs.Shard.{IsAnswerOf, IsMapped, IsShardAnswer, Mapped}
+use Rattle.scrub_shard.specs.Shard.{IsEntryAnswer, IsMapped, IsShardAnswer, Mapped}
 use Rattle.scrub_shard.proofs.Answered.{answered_in}
 use Rattle.scrub_shard.proofs.shard.shard_of.Goals as goal
 
@@ -21,7 +21,7 @@ returns-in-Some g c =
       read = c.in_ok-read.ensures.runs;
       bindings = rw (c.deref.ensures.value, c.into_parts-runs.ensures.runs) at c.in_ok-map.ensures;
     } in
-    IfOk-weaker c.entry_answer.result (IsAnswerOf image c.args.scan.plan c.args.scan.all.extents c.in-Some.binding.now)
+    IfOk-weaker c.entry_answer.result (IsEntryAnswer image c.args.scan.plan c.args.scan.all.extents c.in-Some.binding.now)
     (IsShardAnswer image c.args.id)
     (λ a of_entry. record {
       found = found;

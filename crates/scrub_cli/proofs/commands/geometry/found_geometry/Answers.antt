@@ -1,8 +1,5 @@
 -- Something wasn't opened, or the sizes of the records are found, or none.
-use Rattle.std.proofs.Common.{◌∙◌, ap, subst, List, ℕ, None}
 use Rattle.std.proofs.lemmas.Result.{err_from_is_err_and}
-use Rattle.scrub_cli.specs.DiskGeometry.{AreSizesRead}
-use Rattle.scrub_cli.proofs.GeometryAnswers.{read_as_known}
 use Rattle.scrub_cli.proofs.OpenedAnswers.{opening_fault_found}
 use Rattle.scrub_cli.proofs.commands.geometry.found_geometry.Goals as goal
 

@@ -1,5 +1,5 @@
 -- The text is the archive, and the outcome has the lines of what is said beside it.
-use Rattle.std.proofs.Common.{◌≡◌, ◌++◌, ◌∙◌, ap, subst, List, ℕ, Vec, Global}
+use Rattle.std.proofs.Common.{◌++◌, ◌∙◌, ap, subst, List, ℕ, Vec, Global}
 use Rattle.scrub_cli.specs.Outcome.{IsOutcomeWith}
 use Rattle.scrub_cli.specs.Remarks.{remark_lines}
 use Rattle.scrub_cli.proofs.commands.shards.shards.Goals as goal

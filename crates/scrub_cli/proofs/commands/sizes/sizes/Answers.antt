@@ -1,5 +1,5 @@
 -- Something wasn't opened, or the records of the image are listed.
-use Rattle.std.proofs.Common.{subst, List, ℕ}
+use Rattle.std.proofs.Common.{subst}
 use Rattle.std.proofs.lemmas.Result.{err_from_is_err_and}
 use Rattle.scrub_cli.specs.SizesListed.{AreSizesListed}
 use Rattle.scrub_cli.proofs.SizesAnswers.{listed_as_known}

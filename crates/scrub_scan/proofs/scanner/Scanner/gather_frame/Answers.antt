@@ -10,7 +10,7 @@ use Rattle.scrub_scan.proofs.Asked.{one_more}
 use Rattle.scrub_scan.proofs.ReadPages.{read_fewer, read_next}
 use Rattle.scrub_scan.proofs.Passing.{gap_byte}
 use Rattle.scrub_scan.proofs.FrameBytes.{no_gap}
-use Rattle.scrub_scan.proofs.Claims.{only_frame, frame_of}
+use Rattle.scrub_scan.proofs.Claims.{only_frame, claimed_frame}
 use Rattle.scrub_scan.proofs.Gathering.{payload_more, seal_read}
 use Rattle.scrub_scan.proofs.scanner.Scanner.gather_frame.Goals as goal
 
@@ -58,7 +58,7 @@ returns-then-end-stop-clause-found g c = λ messages held.
       payload = payload;
       size = size;
       frame = λ agrees.
-          frame_of x c.args.start h (take (seal_size h.form) c.put_between.new.out) payload c.requires.claimed size
+          claimed_frame x c.args.start h (take (seal_size h.form) c.put_between.new.out) payload c.requires.claimed size
           (seal_read h.form payload c.put_between.new.out (omega arith) agrees)
           (rw whole at (c.put_between.ensures.put x.byte stand inv.sealed))
           (subst (λ (q : ℕ). AreBytesAt x.byte (c.args.start + q) payload) c.payload_start.ensures.value more.1);

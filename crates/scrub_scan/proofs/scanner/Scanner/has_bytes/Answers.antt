@@ -3,7 +3,7 @@ use Rattle.std.proofs.Common.{arith, sym, ◌∙◌, subst, [], ◌∷◌, ℕ, 
 use Rattle.std.proofs.lemmas.Bool.{false≢true}
 use Rattle.std.proofs.lemmas.List.{length-take-le}
 use Rattle.std.proofs.lemmas.Slice.Eq.{bytes_eq-Decides}
-use Rattle.scrub_disk.specs.Image.{byte, AreBytesAt}
+use Rattle.scrub_disk.specs.Image.{image_byte, AreBytesAt}
 use Rattle.scrub_scan.specs.Extent.{HasGap}
 use Rattle.scrub_scan.proofs.FrameBytes.{no_gap_in, same_bytes}
 use Rattle.scrub_scan.proofs.ReadPages.{reads_fewer}
@@ -11,7 +11,7 @@ use Rattle.scrub_scan.proofs.scanner.Scanner.has_bytes.Goals as goal
 
 pub returns-then-not-fill-clause-found : goal.returns-then-not-fill-clause-found
 returns-then-not-fill-clause-found g c =
-    let at = byte (g.D.PageSource.image c.args.disk.now) c.args.target.now.extent in (
+    let at = image_byte (g.D.PageSource.image c.args.disk.now) c.args.target.now.extent in (
       λ yes. absurd (false≢true yes),
       λ stands.
           absurd
@@ -21,7 +21,7 @@ returns-then-not-fill-clause-found g c =
 
 pub returns-clause-found : goal.returns-clause-found
 returns-clause-found g c =
-    let at = byte (g.D.PageSource.image c.args.disk.now) c.args.target.now.extent in
+    let at = image_byte (g.D.PageSource.image c.args.disk.now) c.args.target.now.extent in
     let filled : AreBytesAt at c.args.place c.fill.new.out = rw c.if-not-fill.false at c.fill.ensures.filled in (
       λ equal.
           let same : c.fill.new.out ≡ c.args.wanted.now =

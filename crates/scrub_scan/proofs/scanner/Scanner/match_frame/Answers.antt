@@ -3,7 +3,7 @@ use Rattle.std.proofs.Common.{arith, sym, ap, ◌∙◌, ◌≡◌, ◌<◌, ◌
 use Rattle.std.proofs.lemmas.Nat.{div_below}
 use Rattle.list_facts.proofs.Arithmetic.{div_of_next_row, div_rises, div_up_to_next_row}
 use Rattle.scrub_frame.specs.Frame.{frame_overhead}
-use Rattle.scrub_scan.specs.Extent.{bound}
+use Rattle.scrub_scan.specs.Extent.{bound_above}
 use Rattle.scrub_scan.specs.steps.Pages.{target_of, last_page}
 use Rattle.scrub_scan.proofs.Asked.{one_more, ends_later}
 use Rattle.scrub_scan.proofs.ReadPages.{read_fewer, read_next}
@@ -14,7 +14,7 @@ loop-place-preserved g c =
     let x = target_of (g.D.PageSource.image c.args.disk.now) c.args.target.now in
     let t = c.args.target.now in
     let inv = c.loop-place.invariant in
-    let stop : c.bound-place.result ≡ bound x c.loop-place.place =
+    let stop : c.bound-place.result ≡ bound_above x c.loop-place.place =
     c.bound-place.ensures.bound (g.D.PageSource.image c.args.disk.now) c.requires.target in
     let more = c.in-More.ensures.answer c.args.start inv.passes in
     let below : c.bound-place.result < t.pointer = omega (arith, stop, more.1) in
@@ -68,7 +68,7 @@ returns-in-Whole-clause-reads g c = record {
       let r = c.loop-place.place / t.page in
       let inv = c.loop-place.invariant in
       let ends = (c.in-Whole.ensures.answer c.args.start inv.passes).1 in
-      let stop : bound (target_of image t) c.loop-place.place ≡ min t.pointer ((r + 1) * t.page) =
+      let stop : bound_above (target_of image t) c.loop-place.place ≡ min t.pointer ((r + 1) * t.page) =
       ap (λ p. min t.pointer ((c.loop-place.place / p + 1) * p)) (sym c.requires.target.page) in
       let behind = c.args.start + c.in-Whole.length + frame_overhead c.in-Whole.form in
       read_fewer c.feed_page.new.self.pages (r + 1) (behind / t.page)

@@ -6,7 +6,7 @@ use Rattle.scrub_scan.specs.steps.Gathering.{seal_in}
 use Rattle.scrub_scan.specs.steps.Pages.{target_of, last_page}
 use Rattle.scrub_scan.proofs.Asked.{costs}
 use Rattle.scrub_scan.proofs.Claims.{only_frame}
-use Rattle.scrub_scan.proofs.scanner.Scanner.meet_frame.Goals as goal
+use Rattle.scrub_scan.proofs.scanner.Scanner.scan_frame.Goals as goal
 
 pub returns-in_default-clause-reads : goal.returns-in_default-clause-reads
 returns-in_default-clause-reads g c =
