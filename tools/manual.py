@@ -22,7 +22,9 @@ DESCRIPTION = r"""
 It writes nothing to an image or a disk: make copies, new index runs, superblocks and resets with the node's own tools.
 Take the node off the disk before the image is made, and leave it off until you are done.
 Before any reset go through the checklist in docs/RECLAIMING.md, box by box.
-The same image, sizes and unreadable pages always give the same answer, byte for byte.
+The same image, sizes and unreadable pages (for
+.BR sizes ,
+lost blocks) always give the same answer, byte for byte.
 """
 
 REST = r"""
@@ -211,7 +213,7 @@ def faults_text():
     order = next(line for line in REPORT.read_text(encoding="utf-8").splitlines() if line.startswith(ORDER))
     order = re.sub(r"`([^`]*)`", r"\\fB\1\\fP", order.replace("-", "\\-"))
     return ["A fault has a line on the error stream.", "It begins with", ".B shardscrub:", "and these words, here after their status.",
-            "If the arguments have a form that no command takes, it begins with", ".BR error: ,", "and the status is 2.", ".PP", ".nf", ".RS", *map(roff, out), ".RE", ".fi",
+            "Each other fault of the arguments begins with", ".BR error: ,", "and the status is 2.", ".PP", ".nf", ".RS", *map(roff, out), ".RE", ".fi",
             ".PP", *order.split("\n")]
 
 
