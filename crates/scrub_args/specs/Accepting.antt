@@ -7,8 +7,9 @@ use Rattle.clap.specs.Words.{Text}
 abbrev pub is_acceptable : Text → Bool
 is_acceptable text =
     starts_with nat_eq text (codes "superblock-damaged ") || (starts_with nat_eq text (codes "superblock-stray ")
-    || (starts_with nat_eq text (codes "spare ") || (starts_with nat_eq text (codes "remains ")
-    || (starts_with nat_eq text (codes "tail ") || starts_with nat_eq text (codes "tail-lost ")))))
+    || (starts_with nat_eq text (codes "spare ") || (starts_with nat_eq text (codes "loose ")
+    || (starts_with nat_eq text (codes "crowded ") || (starts_with nat_eq text (codes "tail ")
+    || starts_with nat_eq text (codes "tail-lost "))))))
 
 -- the first of some texts that can't be accepted
 abbrev pub first_unacceptable : List Text → Option Text

@@ -43,7 +43,8 @@ fn is_acceptable(text: &str) -> bool
     begins(text, b"superblock-damaged ")
         || begins(text, b"superblock-stray ")
         || begins(text, b"spare ")
-        || begins(text, b"remains ")
+        || begins(text, b"loose ")
+        || begins(text, b"crowded ")
         || begins(text, b"tail ")
         || begins(text, b"tail-lost ")
 }

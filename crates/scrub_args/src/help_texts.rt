@@ -75,21 +75,30 @@ pub(crate) const SHARD_ABOUT: &str =
 pub(crate) const SHARD_AFTER_HELP: &str =
     "The chunks are those of the shard's newest entry in the index runs that can be read, in the order of
 the entry. A chunk whose locator is sound or hidden is read at its place. If the locator dangles, its
-first spare is read, as the command locators prints it.
+first spare is read, or if it has none its first loose copy, as the command locators prints them.
 
 Nothing is written unless there is a payload for each locator. Then the error stream has one of these
 lines, and the status is 1:
   no such shard           the shard was deleted, or no index run that can be read has it
-  payload lost: NUMBER    the first locator that dangles without a spare, numbered as the command
-                          manifest does
+  payload lost: NUMBER    the first locator that dangles without a spare or a loose copy, numbered as the
+                          command manifest does: no frame of the extents in use has its payload, but
+                          maybe one of a crowded extent
 
-A lost index run may have a newer entry of the shard, as the report says under doubtful. Then the bytes
-are written, the error stream has the line a newer entry may be lost, and the status is 1. Status 0
-doesn't say that the superblock is the last one: if a newer one is lost, the bytes may be older ones.
+Beside the bytes the error stream has these lines, in this order, and the status is 1. The bytes may be
+older ones then:
+  superblock lost: PAGE        a page of extent 0 can't be read, or begins like a superblock but isn't
+                               one: it may have held a newer superblock
+  tie                          two superblocks or more have the greatest generation
+  a newer entry may be lost    a lost index run may have a newer entry of the shard, as the report says
+                               under doubtful
+
+Status 0 doesn't say that the superblock is the last one: a newer one whose page now reads as zeros
+leaves no line.
 
 Exit status:
   0  all bytes are written, whatever else is wrong with the disk
-  1  a newer entry may be lost; or nothing is written, as there is no such shard or a payload is lost
+  1  a newer superblock or entry may be lost, or there is a tie; or nothing is written, as there is no
+     such shard or a payload is lost
   2  the arguments or the map are invalid, or no sizes are found
   3  the image or the map cannot be opened, the image is too long, or the output failed: it may have
      a part of the bytes
@@ -106,15 +115,19 @@ ascending identifier. The identifier, in 32 hexadecimal digits, is its name.
 
 The error stream has these lines, in this order. The archive is written whole all the same:
   no superblock                   no superblock is valid, so no shard is known
+  superblock lost: PAGE           a page of extent 0 can't be read, or begins like a superblock but isn't
+                                  one: it may have held a newer superblock, with newer bytes and shards
+  tie                             two superblocks or more have the greatest generation
   run lost: NUMBER STATE          an index run is lost, as the command reclaimable prints it; shards
                                   that are recorded only there aren't known
-  payload lost: ID NUMBER         the shard ID isn't in the archive: the first locator of its entry
-                                  that dangles without a spare, numbered as by the command shard
+  payload lost: ID NUMBER         the shard ID isn't in the archive: the first locator of its entry that
+                                  dangles without a spare or a loose copy, numbered as by the command
+                                  shard
   a newer entry may be lost: ID   the shard ID is in the archive; a lost index run may have a newer entry
 
 The last two come by ascending identifier, one for a shard. The whole archive is made in memory before its
-first byte is written. Status 0 doesn't say that the superblock is the last one: if a newer one is lost,
-the bytes may be older ones, and shards may be missing.
+first byte is written. Status 0 doesn't say that the superblock is the last one: a newer one whose page
+now reads as zeros leaves no line, and then the bytes may be older ones, and shards may be missing.
 
 Exit status:
   0  the archive has each shard, and the error stream has no line
@@ -172,11 +185,20 @@ it is sound or not:
           unreadable, no_frame, wrong_uuid, wrong_length or wrong_digest
 
 A spare of a locator that dangles is a chunk with the length and the digest that the locator has, in
-any extent that is in use and under any UUID. A locator of LENGTH 0 has none. If a locator has spares,
-one more line comes directly after its own:
+any extent that is in use and under any UUID. A locator of LENGTH 0 has none. A locator without a spare
+may have loose copies: frames with such a payload at any byte of an extent that is in use, wherever its
+write pointer is, each byte of them readable. If a locator has spares or loose copies, one more line
+comes directly after its own:
 
   spare EXTENT OFFSET LENGTH UUID COUNT
           the place, length and UUID of the first spare by extent and offset, and how many there are
+  loose EXTENT OFFSET LENGTH UUID COUNT
+          the same of the first loose copy and of all of them
+
+A spare can be named by an entry. A loose copy can't, as no item begins there, and a node writes over what
+is past a write pointer: let it write the shard anew. An extent is crowded if the payloads of the frames
+at all its bytes are together more than four times as many bytes as it has; none of its frames is a loose
+copy.
 
 The index runs come first, in the order of the superblock. The known shards follow, by ascending
 identifier, each with its locators in their order. Locators recorded only in a lost run aren't listed.
@@ -208,7 +230,7 @@ pub(crate) const MANIFEST_AFTER_HELP: &str =
   runs lost L hidden H    L index runs are lost, and H are read although their locator is hidden: the
                           node's own scan steps over these
   shard ID NUMBER LENGTH DIGEST sound FORM
-  shard ID NUMBER LENGTH DIGEST STATUS EXTENT OFFSET UUID SPARE
+  shard ID NUMBER LENGTH DIGEST STATUS EXTENT OFFSET UUID COPY
                           each locator of each shard, by ascending identifier and then in order: the
                           first form if the locator is sound, else the second
   total S N               how many shards there are, and how many of these lines
@@ -221,20 +243,30 @@ pub(crate) const MANIFEST_AFTER_HELP: &str =
   STATUS  that of the locator, as the command locators prints it
   EXTENT OFFSET UUID
           the place and the UUID that the locator has
-  SPARE   if the locator dangles: spare if it has one, as locators lists them, else none
+  COPY    if the locator dangles: spare if it has one, else loose if it has a loose copy, as locators
+          lists them, else none
 
 Only sound and hidden mean that LENGTH and DIGEST were checked. Without a superblock the text is the one
 line no-superblock. A text without a total line is no manifest. Locators recorded only in a lost run
 aren't listed.
 
-With --reset the text is what it would be if the write pointers of these extents were 0; retired extents
-stay retired. So it shows before a reset which named chunks the reset would take away. A sound chunk has
-no place in the text: when it is moved with its frame and is sound there, its line stays the same, and
-in lines of other locators none may become spare. With --reset for an extent that reclaimable names
-without a move line the text stays the same, if no line there begins with accepted spare.
+With --reset the text is what it would be if the write pointers of these extents were 0, and nothing in
+them were a loose copy; retired extents stay retired. So it shows before a reset which named chunks the
+reset would take away. A sound chunk has no place in the text: when it is moved with its frame and is
+sound there, its line stays the same, and in lines of other locators the last word may rise, from none
+over loose to spare. With --reset for an extent that reclaimable names without a move line the text stays
+the same, if no line there begins with accepted spare or accepted loose.
 
-Exit status, which follows from the text:
-  0  there is a superblock, no run is lost or hidden, and each locator is sound
+Beside the text the error stream has these lines, in this order. They change nothing in the text, but say
+that it may be of an older state of the disk:
+
+  superblock lost: PAGE   a page of extent 0 can't be read, or begins like a superblock but isn't one: it
+                          may have held a newer superblock
+  tie                     two superblocks or more have the greatest generation
+
+Exit status:
+  0  there is a superblock, no run is lost or hidden, each locator is sound, and the error stream has no
+     line
   1  else; the text is whole all the same
   2  the arguments or the map are invalid
   3  the image or the map cannot be opened, the image is too long, or the output failed
@@ -264,6 +296,7 @@ this order. So diff compares two summaries.
   locators locators_hidden locators_dangling
                          named locators, as locators lists them
   spares                 locators that dangle and have a spare
+  loose_copies           locators that dangle, and have loose copies in the place of a spare
   chunks chunk_bytes live_chunks live_bytes orphans orphan_bytes twins shared_places
                          chunks and the bytes of their frames; a sound locator names live ones, and
                          none names orphans
@@ -309,10 +342,13 @@ pub(crate) const RECLAIMABLE_AFTER_HELP: &str = "First comes a line for each dou
                                    a locator of OWNER dangles, and all its spares are in extents that
                                    can be reclaimed, without a sound locator that points to one; this
                                    is the first, as locators lists it, with a frame of BYTES bytes
-  doubt remains EXTENT OFFSET COUNT
-                                   COUNT locators of shards dangle and have no spare (those of length 0
-                                   aren't counted), and this extent, which can be reclaimed, has items
-                                   torn or noise, the first at OFFSET: a whole copy may begin in them
+  doubt loose EXTENT OFFSET LENGTH UUID OWNER BYTES
+                                   a locator of OWNER dangles without a spare, and all its loose copies
+                                   are in extents that can be reclaimed; this is the first, as locators
+                                   lists it, with a frame of BYTES bytes
+  doubt crowded EXTENT             a locator whose length isn't 0 dangles without a spare, and this
+                                   extent, which can be reclaimed, is crowded: so full of frames over
+                                   frames that no loose copy is looked for in it
   doubt tail EXTENT OFFSET BYTES   this many bytes at or past the write pointer of an extent aren't
                                    zero; the first is at OFFSET
   doubt tail-lost EXTENT FIRST LAST
@@ -321,12 +357,16 @@ pub(crate) const RECLAIMABLE_AFTER_HELP: &str = "First comes a line for each dou
 Whoever gives --last G says: the last superblock that was written to this disk has generation G, and
 nothing was written to the disk after it. Take G from the node's log, or from your own if you wrote
 superblocks since, and never from the disk. If the superblock that counts has generation G, each line
-superblock-damaged, superblock-stray, tail and tail-lost is accepted. Else there is the line last.
+superblock-damaged, superblock-stray, tail and tail-lost is accepted. Else there is the line last. A tail
+may hold the last whole copy of a lost payload: that is looked for by itself, as a loose copy, and never
+accepted by --last.
 
-A doubt of one of these four kinds, a spare or remains can be accepted by its line without the word doubt,
-as in --accept 'tail 2 0 1092': to the byte, that line alone, with no effect if it isn't printed. Accept a
-spare if you copy it or give it up, and remains if you looked for the chunks or give them up. Other doubts
-can't be accepted. An accepted line begins with accepted in place of doubt.
+A doubt of one of these four kinds, a spare, a loose copy or a crowded extent can be accepted by its line
+without the word doubt, as in --accept 'tail 2 0 1092': to the byte, that line alone, with no effect if it
+isn't printed. Accept a spare or a loose copy if you copy its BYTES bytes, as they are, or give it up, and
+a crowded extent if you give up whatever copy it has. Or let the node write the shard anew, with the bytes
+of the command shard, or delete it: then there is no such line. Other doubts can't be accepted. An
+accepted line begins with accepted in place of doubt.
 
 An extent that was reset has a tail until the pointer passes the last old byte.
 
@@ -344,6 +384,9 @@ of the extent. A chunk copied to OFFSET is found once the write pointer is at th
 
   room EXTENT OFFSET BYTES             in an extent without a reclaim line
   last-room EXTENT OFFSET BYTES        in an extent with a reclaim line
+
+An extent with a loose copy isn't among them, nor is a crowded one while a locator whose length isn't 0
+dangles without a spare.
 
 Before you reset an extent, copy the chunks on its move lines: each place once, however many lines it
 has, and BYTES bytes as they are, to the OFFSET of a room line or directly after the last copy there.
@@ -387,7 +430,9 @@ map and the pages hold for both. Each reason why it isn't safe has a line, in th
   lost LINE, new LINE             a line of the manifest of BEFORE that differs in that of AFTER with
                                   --reset, and what it is there. Lines of one shard and number belong
                                   together; one of both may be missing
-  spare LINE                      a line of the manifest of BEFORE that would end in none, not spare
+  spare LINE                      a line of the manifest of BEFORE that ends in spare, and would end in
+                                  loose or none
+  loose LINE                      such a line that ends in loose, and would end in none
 
 The last line is unsafe, or if there is no other line:
 
@@ -398,10 +443,11 @@ lost by it. It doesn't say that the pointer is 0 by then: without --reset each p
 line. Compare the last line with the generations that were written: safe 7 8 says, too, that superblock 8
 counts.
 
-These are no reasons: none that became spare, fewer hidden runs, and zeros that were written over bytes
-behind the OFFSET of a room. Nothing can be accepted here: a spare has to be copied, or the node has to
-delete its shard. What was written before BEFORE or after AFTER isn't seen. docs/RECLAIMING.md has all
-steps.
+These are no reasons: a last word that rises, from none over loose to spare; fewer hidden runs; and zeros
+that were written over bytes behind the OFFSET of a room. A line loose says that the last whole copy of a
+lost payload would go or was written over, or that its extent became crowded. Nothing can be accepted
+here: a spare or a loose copy has to be copied, or the node has to delete its shard. What was written
+before BEFORE or after AFTER isn't seen. docs/RECLAIMING.md has all steps.
 
 Exit status:
   0  the last line is safe

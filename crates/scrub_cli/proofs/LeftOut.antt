@@ -250,7 +250,14 @@ answer_left_out known maps (Compare args) text outcome x out = absurd out
 answer_left_out known maps (Shard args) text outcome x out = (
   given x.is_read.geometry,
   found_for known maps args.scan.image x.is_read.geometry out x.is_read.named.sizes,
-  record { image = x.image; answer = x.answer; is_read = read_with known maps args out x.is_read; written = x.written },
+  record {
+    image = x.image;
+    answer = x.answer;
+    is_read = read_with known maps args out x.is_read;
+    remarks = x.remarks;
+    are_remarks = x.are_remarks;
+    written = x.written;
+  },
 )
 answer_left_out known maps (Superblocks args) text outcome x out = (
   given x.disk.geometry,

@@ -1,16 +1,17 @@
--- Why `shard` gives no bytes, from what its parts give.
-use Rattle.std.proofs.Common.{inl, inr, refl, sym, subst}
+-- What `shard` answers, and why it gives no bytes, from what its parts give.
+use Rattle.std.proofs.Common.{◌≡◌, List, ℕ, inl, inr, refl, sym, subst}
 use Rattle.scrub_disk.specs.declared.geometry.Geometry.{Geometry as Sizes}
 use Rattle.scrub_disk.specs.Image.{Image}
 use Rattle.scrub_run.specs.declared.shard_id.ShardId.{ShardId}
 use Rattle.scrub_shard.specs.declared.shard.ShardAnswer.{ShardAnswer}
 use Rattle.scrub_shard.specs.declared.shard.ShardAnswer.TheVariants.{NoSuchShard, PayloadLost as payload_is_lost, Found}
 use Rattle.scrub_cli.specs.declared.process.fault.Fault.{Fault}
+use Rattle.scrub_cli.specs.declared.process.outcome.Outcome.{Outcome}
 use Rattle.scrub_args.specs.declared.args.ShardArgs.{ShardArgs}
 use Rattle.scrub_cli.specs.DiskImage.{IsDiskFault}
 use Rattle.scrub_cli.specs.DiskGeometry.{IsGeometryFault}
 use Rattle.scrub_cli.specs.KnownFiles.{KnownMaps, KnownRaw}
-use Rattle.scrub_cli.specs.Shard.{IsFaultFor, IsNamed, IsShardFault, IsShardRead}
+use Rattle.scrub_cli.specs.Shard.{IsFaultFor, IsNamed, IsShardFault, IsShardRead, IsWrittenFor}
 use Rattle.scrub_cli.proofs.DiskAnswers.{of_disk_fault}
 use Rattle.scrub_cli.proofs.ScanAnswers.{of_geometry_fault}
 
@@ -40,3 +41,8 @@ lost_fault known maps args image (payload_is_lost number) fault is_read why =
     subst (IsShardFault known maps args) (sym why)
     (record { image = image; answer = payload_is_lost number; is_read = is_read; why = refl })
 lost_fault known maps args image (Found found) fault is_read why = absurd why
+
+-- what is written for some lines is written for the same lines
+pub written_with : (answer : ShardAnswer) (lines others text : List ℕ) (outcome : Outcome) → lines ≡ others →
+    IsWrittenFor answer lines text outcome → IsWrittenFor answer others text outcome
+written_with answer lines others text outcome same = subst (λ (ls : List ℕ). IsWrittenFor answer ls text outcome) same

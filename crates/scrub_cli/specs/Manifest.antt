@@ -5,7 +5,8 @@ use Rattle.scrub_disk.specs.declared.geometry.Geometry.{Geometry as Sizes}
 use Rattle.scrub_disk.specs.Image.{Image}
 use Rattle.scrub_pool.specs.Takings.{TakingsValue}
 use Rattle.scrub_found.specs.Takings.{AreTakingsBy}
-use Rattle.scrub_listings.specs.Manifest.{IsManifestBut}
+use Rattle.scrub_listings.specs.declared.remarks.SuperblockRemark.{SuperblockRemark}
+use Rattle.scrub_listings.specs.Manifest.{IsRemarkedManifest}
 use Rattle.scrub_cli.specs.declared.process.fault.Fault.{Fault}
 use Rattle.scrub_cli.specs.declared.process.fault.Fault.TheVariants.{Geometry, NoSizes, Extent, NoMap, MapLine, NoImage, OutOfMemory}
 use Rattle.scrub_cli.specs.declared.process.outcome.Outcome.{Outcome}
@@ -13,13 +14,16 @@ use Rattle.scrub_args.specs.declared.args.ManifestArgs.{ManifestArgs}
 use Rattle.scrub_cli.specs.DiskImage.{IsLoadedDisk, IsDiskFault}
 use Rattle.scrub_cli.specs.DiskGeometry.{IsGeometryFault, IsGeometryOf}
 use Rattle.scrub_cli.specs.KnownFiles.{KnownMaps, KnownRaw}
-use Rattle.scrub_cli.specs.Outcome.{outcome_of}
+use Rattle.scrub_cli.specs.Outcome.{IsWarnedOutcome}
+use Rattle.scrub_cli.specs.Remarks.{superblock_lines}
 
--- the manifest of an image, as if these extents had been reset, and the outcome says whether nothing is missing
+-- the manifest of an image, as if these extents had been reset; the outcome says whether it is clean, and has the lines of what is
+-- said of the superblocks
 pub record IsManifestListed (resets : List ℕ) (image : Image) (text : List ℕ) (outcome : Outcome) : Type 0 where
-  pub whole : Bool
-  pub manifest : IsManifestBut resets image text whole
-  pub ended : outcome ≡ outcome_of whole
+  pub remarks : List SuperblockRemark
+  pub clean : Bool
+  pub manifest : IsRemarkedManifest resets image text remarks clean
+  pub ended : IsWarnedOutcome clean (superblock_lines remarks) outcome
 
 -- an extent that can be reset: any but extent 0, which has the superblocks
 abbrev pub may_be_reset : Sizes → ℕ → Bool

@@ -1,11 +1,11 @@
 -- How a run ends that wrote a whole answer: its exit status, and what it reports on the error stream.
-use Rattle.std.specs.Prelude.{◌≡◌, ◌<◌, ◌++◌, [], Bool, true, false, ℕ, List, codes, length}
+use Rattle.std.specs.Prelude.{◌≡◌, ◌<◌, ◌++◌, [], Bool, true, false, ℕ, List, length}
 use Rattle.std.specs.Io.KnownBytes.{Appends, Keeps}
 use Rattle.scrub_report.specs.Output.{AppendsFront}
 use Rattle.scrub_cli.specs.declared.process.outcome.Outcome.{Outcome}
-use Rattle.scrub_cli.specs.declared.process.outcome.Outcome.TheVariants.{Clean, Findings, Doubtful, Remarked}
+use Rattle.scrub_cli.specs.declared.process.outcome.Outcome.TheVariants.{Clean, Findings, Warned, Remarked}
 use Rattle.scrub_cli.specs.declared.process.fault.Fault.TheVariants.{Output}
-use Rattle.scrub_cli.specs.Fault.{line, status_of, text_of}
+use Rattle.scrub_cli.specs.Fault.{status_of, text_of}
 use Rattle.scrub_cli.specs.Streams.{Held}
 
 -- the outcome of what is clean, or has findings
@@ -13,10 +13,11 @@ abbrev pub outcome_of : Bool → Outcome
 outcome_of true = Clean
 outcome_of false = Findings
 
--- the outcome of the bytes of a shard, whose entry is doubtful or isn't
-abbrev pub outcome_of_shard : Bool → Outcome
-outcome_of_shard true = Doubtful
-outcome_of_shard false = Clean
+-- the outcome of what is clean, or has findings, with these lines for the error stream after the answer, if there are any
+abbrev pub IsWarnedOutcome : Bool → List ℕ → Outcome → Type 0
+IsWarnedOutcome clean lines (Warned own) = (own.items ≡ lines) × (0 < length lines)
+IsWarnedOutcome clean lines (Remarked own) = ⊥
+IsWarnedOutcome clean lines outcome = (lines ≡ []) × (outcome ≡ outcome_of clean)
 
 -- the outcome of all shards with these lines for the error stream: it is clean if there are none
 abbrev pub IsOutcomeWith : List ℕ → Outcome → Type 0
@@ -28,26 +29,21 @@ IsOutcomeWith lines outcome = ⊥
 abbrev pub status_of_outcome : Outcome → ℕ
 status_of_outcome Clean = 0
 status_of_outcome Findings = 1
-status_of_outcome Doubtful = 1
+status_of_outcome (Warned lines) = 1
 status_of_outcome (Remarked lines) = 1
 
--- the line on the error stream after the bytes of a shard whose entry is doubtful
-abbrev pub warning : List ℕ
-warning = line (codes "a newer entry may be lost")
-
--- after its answer a run reports that a newer entry may be lost, or its lines, or the beginning of that if the error stream failed; or
--- it leaves that stream as it was
+-- after its answer a run reports its lines, or the beginning of them if the error stream failed; or it leaves that stream as it was
 abbrev pub Warns : Outcome → Held → Type 0
 Warns Clean err = Keeps err.0 err.1
 Warns Findings err = Keeps err.0 err.1
-Warns Doubtful err = AppendsFront err.0 err.1 warning
+Warns (Warned lines) err = AppendsFront err.0 err.1 lines.items
 Warns (Remarked lines) err = AppendsFront err.0 err.1 lines.items
 
 -- it reports the whole of that
 abbrev pub WarnsWhole : Outcome → Held → Type 0
 WarnsWhole Clean err = Keeps err.0 err.1
 WarnsWhole Findings err = Keeps err.0 err.1
-WarnsWhole Doubtful err = Appends err.0 err.1 warning
+WarnsWhole (Warned lines) err = Appends err.0 err.1 lines.items
 WarnsWhole (Remarked lines) err = Appends err.0 err.1 lines.items
 
 -- the lines that a run reports even if its output fails, before that

@@ -1,10 +1,12 @@
 -- What the command `shard` answers for an image file, and why it doesn't.
-use Rattle.std.specs.Prelude.{◌≡◌, ◌⊎◌, ℕ, List}
+use Rattle.std.specs.Prelude.{◌≡◌, ◌⊎◌, ℕ, true, List}
 use Rattle.scrub_disk.specs.declared.geometry.Geometry.{Geometry as Sizes}
 use Rattle.scrub_disk.specs.Image.{Image}
 use Rattle.scrub_pool.specs.Takings.{TakingsValue}
 use Rattle.scrub_found.specs.Takings.{AreTakingsBy}
 use Rattle.scrub_run.specs.declared.shard_id.ShardId.{ShardId}
+use Rattle.scrub_listings.specs.declared.remarks.SuperblockRemark.{SuperblockRemark}
+use Rattle.scrub_listings.specs.Remarks.{AreSuperblockRemarks}
 use Rattle.scrub_shard.specs.Shard.{IsShardAnswer}
 use Rattle.scrub_shard.specs.declared.shard.ShardAnswer.{ShardAnswer}
 use Rattle.scrub_shard.specs.declared.shard.ShardAnswer.TheVariants.{NoSuchShard, PayloadLost as payload_is_lost, Found}
@@ -15,13 +17,14 @@ use Rattle.scrub_args.specs.declared.args.ShardArgs.{ShardArgs}
 use Rattle.scrub_cli.specs.DiskImage.{IsLoadedDisk, IsDiskFault}
 use Rattle.scrub_cli.specs.DiskGeometry.{IsGeometryFault, IsGeometryOf}
 use Rattle.scrub_cli.specs.KnownFiles.{KnownMaps, KnownRaw}
-use Rattle.scrub_cli.specs.Outcome.{outcome_of_shard}
+use Rattle.scrub_cli.specs.Outcome.{IsWarnedOutcome}
+use Rattle.scrub_cli.specs.Remarks.{shard_lines}
 use Rattle.scrub_args.specs.ShardId.{IsIdText, IsNoIdText}
 
--- the text is the bytes that were found, and the outcome says whether the entry is doubtful
-abbrev pub IsWrittenFor : ShardAnswer → List ℕ → Outcome → Type 0
-IsWrittenFor (Found found) text outcome = (text ≡ found.bytes) × (outcome ≡ outcome_of_shard found.is_doubtful)
-IsWrittenFor answer text outcome = ⊥
+-- the text is the bytes that were found, and the outcome has these lines for the error stream
+abbrev pub IsWrittenFor : ShardAnswer → List ℕ → List ℕ → Outcome → Type 0
+IsWrittenFor (Found found) lines text outcome = (text ≡ found.bytes) × IsWarnedOutcome true lines outcome
+IsWrittenFor answer lines text outcome = ⊥
 
 -- the fault for a shard that isn't there, or that has a lost payload
 abbrev pub IsFaultFor : ShardAnswer → Fault → Type 0
@@ -42,12 +45,14 @@ pub record IsShardRead (known : KnownRaw) (maps : KnownMaps) (args : ShardArgs) 
   pub loaded : IsLoadedDisk known maps args.scan.image geometry image
   pub answered : IsShardAnswer image id answer
 
--- the answer of `shard`: the bytes of the shard that is named
+-- the answer of `shard`: the bytes of the shard that is named, and the lines for the error stream
 pub record IsShardWritten (known : KnownRaw) (maps : KnownMaps) (args : ShardArgs) (text : List ℕ) (outcome : Outcome) : Type 0 where
   pub image : Image
   pub answer : ShardAnswer
   pub is_read : IsShardRead known maps args image answer
-  pub written : IsWrittenFor answer text outcome
+  pub remarks : List SuperblockRemark
+  pub are_remarks : AreSuperblockRemarks image remarks
+  pub written : IsWrittenFor answer (shard_lines remarks answer) text outcome
 
 -- that answer, and what the workers that were asked for took of the image
 pub record AreShardTakings (known : KnownRaw) (maps : KnownMaps) (args : ShardArgs) (text : List ℕ) (outcome : Outcome)
@@ -55,7 +60,9 @@ pub record AreShardTakings (known : KnownRaw) (maps : KnownMaps) (args : ShardAr
   pub image : Image
   pub answer : ShardAnswer
   pub is_read : IsShardRead known maps args image answer
-  pub written : IsWrittenFor answer text outcome
+  pub remarks : List SuperblockRemark
+  pub are_remarks : AreSuperblockRemarks image remarks
+  pub written : IsWrittenFor answer (shard_lines remarks answer) text outcome
   pub taken : AreTakingsBy image args.scan.workers takings
 
 -- the shard that is named isn't there, or has a lost payload, and this is the fault for that

@@ -64,10 +64,10 @@ fn write_answer<O: Write, E: Write>(answer: &Answer, out: &mut O, err: &mut E) -
 }
 
 /// Runs the command that the arguments name; the program's name isn't one of them. The answer is written to
-/// `out` once all of it is in memory. Help, faults, the warning of `shard` and the lines of `shards` are
+/// `out` once all of it is in memory. Help, faults, and the lines of `shard`, `shards` and `manifest` are
 /// written to `err`, whose own failures are ignored.
 ///
-/// The statuses: 0 clean, help or version; 1 findings, a shard that can't be had, or lines of `shards`; 2
+/// The statuses: 0 clean, help or version; 1 findings, a shard that can't be had, or such lines; 2
 /// invalid arguments or map; 3 the map or the image can't be opened, the image is too long, or the output
 /// failed; 4 out of memory.
 pub fn run<R: Threads + Wait + Sync, I: Images, O: Write, E: Write>(

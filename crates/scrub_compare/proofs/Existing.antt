@@ -13,7 +13,8 @@ use Rattle.scrub_run.specs.declared.shard_id.ShardId.{ShardId}
 use Rattle.scrub_merge.specs.Binding.{BindingValue}
 use Rattle.scrub_merge.proofs.Identifiers.{id_cmp_exact, id_cmp_total}
 use Rattle.scrub_found.specs.Scrubbed.{Scrubbed}
-use Rattle.scrub_found.proofs.Existing.{some_scrub}
+use Rattle.scrub_loose.proofs.LooseThere.{some_loose}
+use Rattle.scrub_found.proofs.Existing.{plan_but_fits, some_scrub}
 use Rattle.scrub_compare.specs.Compare.{AreBoundIds, AreCompared, Compared, IsComparison, comparison_text, is_safe}
 use Rattle.scrub_compare.specs.Written.{AreFirstWritten, IsChanged, IsLeastNumber, IsWrittenIn, IsWrittenInRecords, IsZeroNow, MayChangeInRoom, pointer_in, room_at}
 use Rattle.scrub_compare.proofs.BoundIds.{bound_found}
@@ -116,6 +117,10 @@ some_compared resets before after =
     let found = some_scrub [] before in
     let rest = some_scrub [] after in
     let kept = some_scrub resets after in
+    let loose =
+    some_loose [] before found.0.plan (plan_but_fits [] before found.0.choice found.0.plan found.1.choice found.1.plan) in
+    let loose_now =
+    some_loose resets after kept.0.plan (plan_but_fits resets after kept.0.choice kept.0.plan kept.1.choice kept.1.plan) in
     let pages = some_pages before in
     let pages_now = some_pages after in
     let first =
@@ -127,6 +132,8 @@ some_compared resets before after =
         found = found.0;
         rest = rest.0;
         kept = kept.0;
+        loose = loose.0;
+        loose_now = loose_now.0;
         pages = pages.0;
         pages_now = pages_now.0;
         first = first.0;
@@ -137,6 +144,8 @@ some_compared resets before after =
         found = found.1;
         rest = rest.1;
         kept = kept.1;
+        loose = loose.1;
+        loose_now = loose_now.1;
         pages = pages.1;
         pages_now = pages_now.1;
         first = first.1;

@@ -1,5 +1,5 @@
--- What is safe keeps the manifest, but that fewer runs may be hidden, and `none` may be `spare`.
-use Rattle.std.proofs.Common.{◌≡◌, ◌⊎◌, ◌<◌, ◌≤◌, ◌+◌, ◌==◌, ◌++◌, ◌∷◌, [], ℕ, suc, Bool, true, false, not, List, Option, Some, None, codes, length, get_or, map, max, arith, refl, sym, ◌∙◌, ap, subst, inl, inr, if◌then◌else◌, option_map, append-nil, append_assoc}
+-- What is safe keeps the manifest, but that fewer runs may be hidden, and last words may rise.
+use Rattle.std.proofs.Common.{◌≡◌, ◌⊎◌, ◌<◌, ◌≤◌, ◌+◌, ◌++◌, ◌∷◌, [], ℕ, suc, Bool, true, false, List, Option, Some, None, codes, length, get_or, map, max, arith, refl, sym, ◌∙◌, ap, subst, inl, inr, if◌then◌else◌, option_map, append-nil, append_assoc}
 use Rattle.std.specs.List.{AllZip, enumerate_from, range_with_len, slice_get}
 use Rattle.std.specs.Str.{bytes_eq}
 use Rattle.std.proofs.Math.Nat.{le-max_left, le-max_right}
@@ -12,15 +12,27 @@ use Rattle.scrub_check.specs.declared.statuses.status.Status.{Status}
 use Rattle.scrub_check.specs.declared.statuses.status.Status.TheVariants.{OutOfRange, Retired, PastPointer, Unreadable, NoFrame, WrongUuid, WrongLength, WrongDigest, Hidden, Sound}
 use Rattle.scrub_check.specs.Checked.{is_dangling, is_sound}
 use Rattle.scrub_check.specs.ChunkForms.{form_at}
-use Rattle.scrub_check.specs.Spares.{spares_of}
+use Rattle.scrub_scan.specs.declared.standing.Standing.{Standing}
+use Rattle.scrub_loose.specs.declared.copies.BestCopy.{BestCopy}
+use Rattle.scrub_loose.specs.declared.copies.BestCopy.TheVariants.{Nowhere, Loose, Spare}
+use Rattle.scrub_loose.specs.Loose.{best_of}
 use Rattle.scrub_listings.specs.Manifest.{after_status_in, form_text, looked_for, numbered_line, numbered_text, spare_text}
-use Rattle.scrub_reclaim.specs.Copy.{IsSameOrSpared}
+use Rattle.scrub_reclaim.specs.Copy.{IsSameOrRisen, rank}
+use Rattle.scrub_reclaim.proofs.BestCopies.{one_of_rank}
 use Rattle.scrub_found.specs.Scrubbed.{Scrubbed}
-use Rattle.scrub_compare.specs.Compare.{RowValue, are_alike, change, has_lost_spares, has_no_less, lost_line, new_line, numbered, row_in, row_line, shard_change, spare_word}
+use Rattle.scrub_compare.specs.Compare.{RowValue, are_alike, change, fallen_word, has_fallen, has_no_less, last_word, lost_line, new_line, numbered, row_in, row_line, shard_change}
+use Rattle.scrub_compare.proofs.LastWords.{no_lower}
 use Rattle.scrub_compare.proofs.OwnedBy.{some_checked}
 use Rattle.scrub_compare.proofs.Safe.{all_none, some_text}
 
 -- ---- one line
+
+-- what the line of a last word that falls begins with isn't nothing
+some_word : (o : Option BestCopy) → 0 < length (fallen_word o)
+some_word None = omega arith
+some_word (Some Nowhere) = omega arith
+some_word (Some Loose) = omega arith
+some_word (Some Spare) = omega arith
 
 -- nothing is said of two lines that are both missing, or alike
 nothing_said : (o p : Option RowValue) → change o p ≡ [] →
@@ -28,11 +40,11 @@ nothing_said : (o p : Option RowValue) → change o p ≡ [] →
 nothing_said None None none = inl (refl, refl)
 nothing_said (Some x) None none = absurd (some_text (codes "lost ") (row_line x) (omega arith) none)
 nothing_said None (Some y) none = absurd (some_text (codes "new ") (row_line y) (omega arith) none)
-nothing_said (Some x) (Some y) none = inr (x, y, refl, refl, by (are_alike x y) (has_lost_spares x y) none)
+nothing_said (Some x) (Some y) none = inr (x, y, refl, refl, by (are_alike x y) (has_fallen x y) none)
   where
-    by : (a b : Bool) → (if a then [] else (if b then codes "spare " ++ row_line x else lost_line (row_line x) ++ new_line (row_line y))) ≡ [] → a ≡ true
+    by : (a b : Bool) → (if a then [] else (if b then fallen_word x.best ++ row_line x else lost_line (row_line x) ++ new_line (row_line y))) ≡ [] → a ≡ true
     by true b e = refl
-    by false true e = absurd (some_text (codes "spare ") (row_line x) (omega arith) e)
+    by false true e = absurd (some_text (fallen_word x.best) (row_line x) (some_word x.best) e)
     by false false e = absurd (some_text (codes "lost ") (row_line x ++ new_line (row_line y)) (omega arith) (sym (append_assoc (codes "lost ") (row_line x) (new_line (row_line y))) ∙ e))
 
 -- ---- the lines of one shard
@@ -94,76 +106,82 @@ module _ (f g : ℕ → Checked → RowValue) (own now : List Checked) (none : s
 -- ---- a line as a manifest has it
 
 -- the line of a locator in its two parts is that of a manifest
-row_is_line : (s : Scrubbed) (n : ℕ) (c : Checked) → row_line (row_in s n c) ≡ numbered_line (after_status_in s.all) n c
-row_is_line s n c = ap (λ (u : List ℕ). u ++ 10 ∷ []) (by c.status refl)
+row_is_line : (s : Scrubbed) (loose : List Standing) (n : ℕ) (c : Checked) →
+    row_line (row_in s loose n c) ≡ numbered_line (after_status_in s.all loose) n c
+row_is_line s loose n c = ap (λ (u : List ℕ). u ++ 10 ∷ []) (by c.status refl)
   where
     nt : List ℕ
     nt = numbered_text n c
-
-    worded : (u : List ℕ) (b : Bool) → (nt ++ u) ++ spare_word (Some (not b)) ≡ nt ++ (u ++ (if b then codes " none" else codes " spare"))
-    worded u true = append_assoc nt u (codes " none")
-    worded u false = append_assoc nt u (codes " spare")
 
     -- by the status
     lines : Status → Type 0
     lines t =
         (nt ++ (if is_sound t then form_text (form_at s.all c.locator) else looked_for c.locator))
-        ++ spare_word (if is_dangling t then Some (not (length (spares_of s.all c) == 0)) else None)
-        ≡ nt ++ (if is_sound t then form_text (form_at s.all c.locator) else looked_for c.locator ++ spare_text t (spares_of s.all c))
+        ++ last_word (if is_dangling t then Some (best_of s.all loose c) else None)
+        ≡ nt ++ (if is_sound t then form_text (form_at s.all c.locator) else looked_for c.locator ++ spare_text t (best_of s.all loose c))
+
+    worded : (nt ++ looked_for c.locator) ++ last_word (Some (best_of s.all loose c)) ≡ nt ++ (looked_for c.locator ++ last_word (Some (best_of s.all loose c)))
+    worded = append_assoc nt (looked_for c.locator) (last_word (Some (best_of s.all loose c)))
 
     by : (t : Status) → c.status ≡ t → lines c.status
     by Sound is = subst lines (sym is) (append-nil (nt ++ form_text (form_at s.all c.locator)))
     by Hidden is = subst lines (sym is) (append_assoc nt (looked_for c.locator) [])
-    by OutOfRange is = subst lines (sym is) (worded (looked_for c.locator) (length (spares_of s.all c) == 0))
-    by Retired is = subst lines (sym is) (worded (looked_for c.locator) (length (spares_of s.all c) == 0))
-    by PastPointer is = subst lines (sym is) (worded (looked_for c.locator) (length (spares_of s.all c) == 0))
-    by Unreadable is = subst lines (sym is) (worded (looked_for c.locator) (length (spares_of s.all c) == 0))
-    by NoFrame is = subst lines (sym is) (worded (looked_for c.locator) (length (spares_of s.all c) == 0))
-    by WrongUuid is = subst lines (sym is) (worded (looked_for c.locator) (length (spares_of s.all c) == 0))
-    by WrongLength is = subst lines (sym is) (worded (looked_for c.locator) (length (spares_of s.all c) == 0))
-    by WrongDigest is = subst lines (sym is) (worded (looked_for c.locator) (length (spares_of s.all c) == 0))
+    by OutOfRange is = subst lines (sym is) worded
+    by Retired is = subst lines (sym is) worded
+    by PastPointer is = subst lines (sym is) worded
+    by Unreadable is = subst lines (sym is) worded
+    by NoFrame is = subst lines (sym is) worded
+    by WrongUuid is = subst lines (sym is) worded
+    by WrongLength is = subst lines (sym is) worded
+    by WrongDigest is = subst lines (sym is) worded
 
--- two lines that are alike are the same, or `none` became `spare`
-alike_lines : (x y : RowValue) → are_alike x y ≡ true → IsSameOrSpared (row_line x) (row_line y)
-alike_lines x y alike = by x.has_spares y.has_spares refl refl parts.1
+-- two lines that are alike are the same, or the last word rose
+alike_lines : (x y : RowValue) → are_alike x y ≡ true → IsSameOrRisen (row_line x) (row_line y)
+alike_lines x y alike = by x.best y.best refl refl parts.1
   where
-    parts : (bytes_eq x.stem y.stem ≡ true) × (has_no_less x.has_spares y.has_spares ≡ true)
-    parts = and_parts (bytes_eq x.stem y.stem) (has_no_less x.has_spares y.has_spares) alike
+    parts : (bytes_eq x.stem y.stem ≡ true) × (has_no_less x.best y.best ≡ true)
+    parts = and_parts (bytes_eq x.stem y.stem) (has_no_less x.best y.best) alike
 
     stem : x.stem ≡ y.stem
     stem = (bytes_eq-Decides x.stem y.stem).0 parts.0
 
-    same : (o : Option Bool) → x.has_spares ≡ o → y.has_spares ≡ o → IsSameOrSpared (row_line x) (row_line y)
-    same o old new = inl (λ i. sym stem i ++ spare_word ((new ∙ sym old) i) ++ 10 ∷ [])
+    same : (o : Option BestCopy) → x.best ≡ o → y.best ≡ o → IsSameOrRisen (row_line x) (row_line y)
+    same o old new = inl (λ i. sym stem i ++ last_word ((new ∙ sym old) i) ++ 10 ∷ [])
 
-    by : (o p : Option Bool) → x.has_spares ≡ o → y.has_spares ≡ p → has_no_less o p ≡ true → IsSameOrSpared (row_line x) (row_line y)
+    by : (o p : Option BestCopy) → x.best ≡ o → y.best ≡ p → has_no_less o p ≡ true → IsSameOrRisen (row_line x) (row_line y)
     by None None old new is = same None old new
     by None (Some b) old new is = absurd (false≢true is)
-    by (Some true) None old new is = absurd (false≢true is)
-    by (Some false) None old new is = absurd (false≢true is)
-    by (Some true) (Some true) old new is = same (Some true) old new
-    by (Some true) (Some false) old new is = absurd (false≢true is)
-    by (Some false) (Some false) old new is = same (Some false) old new
-    by (Some false) (Some true) old new is =
-        inr (x.stem, ap (λ (o : Option Bool). x.stem ++ spare_word o ++ 10 ∷ []) old, λ i. sym stem i ++ spare_word (new i) ++ 10 ∷ [])
+    by (Some b) None old new is = absurd (false≢true is)
+    by (Some b) (Some d) old new is = elim (cases_lt (rank b) (rank d)) [
+      | inl less ↦
+          inr (
+            x.stem,
+            b,
+            d,
+            less,
+            ap (λ (o : Option BestCopy). x.stem ++ last_word o ++ 10 ∷ []) old,
+            λ i. sym stem i ++ last_word (new i) ++ 10 ∷ [],
+          )
+      | inr more ↦ same (Some b) old (new ∙ ap Some (sym (one_of_rank b d (no_lower b d is) more)))
+    ]
 
 -- the lines of a shard, one by one
-abbrev pub lines_of : Scrubbed → ℕ → List Checked → List (List ℕ)
-lines_of s n cs = map (λ p. numbered_line (after_status_in s.all) p.0 p.1) (enumerate_from n cs)
+abbrev pub lines_of : Scrubbed → List Standing → ℕ → List Checked → List (List ℕ)
+lines_of s loose n cs = map (λ p. numbered_line (after_status_in s.all loose) p.0 p.1) (enumerate_from n cs)
 
--- Lines that are alike at each number are the same in both manifests, or `none` became `spare`.
-pub zip_lines : (s t : Scrubbed) (n : ℕ) (cs ds : List Checked) → length cs ≡ length ds →
-    ((k : ℕ) (c d : Checked) → slice_get cs k ≡ Some c → slice_get ds k ≡ Some d → are_alike (row_in s (n + k) c) (row_in t (n + k) d) ≡ true) →
-    AllZip IsSameOrSpared (lines_of s n cs) (lines_of t n ds)
-zip_lines s t n [] [] long alike = tt
-zip_lines s t n [] (d ∷ ds) long alike = absurd (omega (arith, long))
-zip_lines s t n (c ∷ cs) [] long alike = absurd (omega (arith, long))
-zip_lines s t n (c ∷ cs) (d ∷ ds) long alike = (
-  subst (λ (u : List ℕ). IsSameOrSpared u (numbered_line (after_status_in t.all) n d)) (row_is_line s n c)
-      (subst (λ (u : List ℕ). IsSameOrSpared (row_line (row_in s n c)) u) (row_is_line t n d) (alike_lines (row_in s n c) (row_in t n d) (first (alike 0 c d refl refl)))),
-  zip_lines s t (n + 1) cs ds (omega (arith, long))
-      (λ k x y was is. subst (λ (m : ℕ). are_alike (row_in s m x) (row_in t m y) ≡ true) (let e : n + suc k ≡ n + 1 + k = omega arith in e) (alike (suc k) x y was is)),
+-- Lines that are alike at each number are the same in both manifests, or their last words rose.
+pub zip_lines : (s t : Scrubbed) (loose others : List Standing) (n : ℕ) (cs ds : List Checked) → length cs ≡ length ds →
+    ((k : ℕ) (c d : Checked) → slice_get cs k ≡ Some c → slice_get ds k ≡ Some d → are_alike (row_in s loose (n + k) c) (row_in t others (n + k) d) ≡ true) →
+    AllZip IsSameOrRisen (lines_of s loose n cs) (lines_of t others n ds)
+zip_lines s t loose others n [] [] long alike = tt
+zip_lines s t loose others n [] (d ∷ ds) long alike = absurd (omega (arith, long))
+zip_lines s t loose others n (c ∷ cs) [] long alike = absurd (omega (arith, long))
+zip_lines s t loose others n (c ∷ cs) (d ∷ ds) long alike = (
+  subst (λ (u : List ℕ). IsSameOrRisen u (numbered_line (after_status_in t.all others) n d)) (row_is_line s loose n c)
+      (subst (λ (u : List ℕ). IsSameOrRisen (row_line (row_in s loose n c)) u) (row_is_line t others n d) (alike_lines (row_in s loose n c) (row_in t others n d) (first (alike 0 c d refl refl)))),
+  zip_lines s t loose others (n + 1) cs ds (omega (arith, long))
+      (λ k x y was is. subst (λ (m : ℕ). are_alike (row_in s loose m x) (row_in t others m y) ≡ true) (let e : n + suc k ≡ n + 1 + k = omega arith in e) (alike (suc k) x y was is)),
 )
   where
-    first : are_alike (row_in s (n + 0) c) (row_in t (n + 0) d) ≡ true → are_alike (row_in s n c) (row_in t n d) ≡ true
-    first is = subst (λ (m : ℕ). are_alike (row_in s m c) (row_in t m d) ≡ true) (let e : n + 0 ≡ n = omega arith in e) is
+    first : are_alike (row_in s loose (n + 0) c) (row_in t others (n + 0) d) ≡ true → are_alike (row_in s loose n c) (row_in t others n d) ≡ true
+    first is = subst (λ (m : ℕ). are_alike (row_in s loose m c) (row_in t others m d) ≡ true) (let e : n + 0 ≡ n = omega arith in e) is

@@ -1,5 +1,5 @@
--- The manifest that a reset leaves is that of the earlier image, but that fewer runs may be hidden and `none` may be `spare`.
-use Rattle.std.proofs.Common.{◌≡◌, ◌<◌, ◌≤◌, ◌+◌, ◌==◌, ◌&&◌, ◌++◌, ◌∷◌, [], ℕ, suc, Bool, true, false, not, nat_lt, List, Option, Some, None, MatchOption, codes, length, get_or, map, arith, refl, sym, ◌∙◌, ap, subst, inl, inr, option_map}
+-- The manifest that a reset leaves is that of the earlier image, but that fewer runs may be hidden and last words may rise.
+use Rattle.std.proofs.Common.{◌≡◌, ◌<◌, ◌≤◌, ◌+◌, ◌==◌, ◌&&◌, ◌++◌, ◌∷◌, [], ℕ, suc, Bool, true, false, not, nat_lt, List, Option, Some, None, MatchOption, codes, length, get_or, map, append-nil, append_assoc, arith, refl, sym, ◌∙◌, ap, subst, inl, inr, option_map}
 use Rattle.std.specs.List.{All, AllPairs, AllZip, Contains, enumerate_from, filter, flat_map, slice_get}
 use Rattle.std.proofs.lemmas.Bool.{and_parts, eqb-true, false≢true, ltb-false}
 use Rattle.std.proofs.lemmas.Grind.{flat_map-append}
@@ -12,6 +12,7 @@ use Rattle.list_facts.proofs.Elements.{Contains-behind, Contains-cases, both_nil
 use Rattle.list_facts.proofs.Zips.{AllZip-append}
 use Rattle.scrub_disk.specs.Image.{Image}
 use Rattle.scrub_super.specs.Chosen.{Choice}
+use Rattle.scrub_scan.specs.declared.standing.Standing.{Standing}
 use Rattle.scrub_super.specs.Contents.{Contents}
 use Rattle.scrub_super.specs.Plan.{PlanValue, plan_of}
 use Rattle.scrub_super.specs.steps.PlanParts.{IsPlanBy, IsPlanWithout}
@@ -25,19 +26,16 @@ use Rattle.scrub_check.specs.Checked.{named_of}
 use Rattle.scrub_check.specs.Named.{named_by_shard}
 use Rattle.scrub_found.specs.Resets.{IsScrubbedBut}
 use Rattle.scrub_found.specs.Scrubbed.{Scrubbed}
-use Rattle.scrub_found.proofs.OneScrub.{one_scrub}
 use Rattle.scrub_found.proofs.ResetPlans.{plan_before}
-use Rattle.scrub_listings.specs.Manifest.{IsManifest, after_status_in, hidden_runs, is_whole, lost_runs, manifest_text, numbered_line, of_shards, retired_line, runs_line, shard_lines, text_by, total_line}
+use Rattle.scrub_listings.specs.Manifest.{after_status_in, hidden_runs, lost_runs, manifest_text, numbered_line, of_shards, retired_line, runs_line, shard_lines, text_by, total_line}
 use Rattle.scrub_listings.proofs.ShardLines.{along_runs, shards_part}
-use Rattle.scrub_reclaim.specs.Copy.{IsSameOrSpared}
-use Rattle.scrub_reclaim.specs.Reset.{IsForeseen}
-use Rattle.scrub_reclaim.proofs.Reset.{as_foreseen}
+use Rattle.scrub_reclaim.specs.Copy.{IsSameButRisen, IsSameOrRisen}
 use Rattle.scrub_compare.specs.Compare.{AreCompared, Compared, HasBinding, are_alike, both_of, generation_of, lost_line, new_line, owned_by, retired_change, row_in, runs_change, shard_change, shard_changes}
-use Rattle.scrub_compare.specs.Laws.{IsSafe, IsSameButMore}
+use Rattle.scrub_compare.specs.Laws.{IsSameButMore}
 use Rattle.scrub_compare.proofs.BoundIds.{one_rising}
 use Rattle.scrub_compare.proofs.Kept.{alike_at, lines_of, same_length, zip_lines}
 use Rattle.scrub_compare.proofs.RunsRead.{no_run_lost}
-use Rattle.scrub_compare.proofs.Safe.{HasNoLine, all_none, no_line, passed, same_retired}
+use Rattle.scrub_compare.proofs.Safe.{HasNoLine, all_none, passed, same_retired}
 use Rattle.scrub_compare.proofs.Totals.{each_size, owned_size, owner_bound, owns, shards_size, totals_alike}
 
 -- ---- lists of parts
@@ -54,6 +52,13 @@ flat_flat f [] = refl
 flat_flat {X} f (i ∷ is) =
     flat_map-append (λ (part : List X). part) (f i) (flat_map f is)
     ∙ ap (λ (u : List X). flat_map (λ (part : List X). part) (f i) ++ u) (flat_flat f is)
+
+joined_parts : (a b t : List ℕ) (ps : List (List ℕ)) → a ++ b ++ flat_map (λ part. part) ps ++ t ≡ flat_map (λ part. part) (a ∷ b ∷ ps ++ t ∷ [])
+joined_parts a b t ps =
+    append_assoc (a ++ b) (flat_map (λ (part : List ℕ). part) ps) t
+    ∙ append_assoc a b (flat_map (λ (part : List ℕ). part) ps ++ t)
+    ∙ ap (λ (u : List ℕ). a ++ (b ++ (flat_map (λ (part : List ℕ). part) ps ++ u))) (sym (append-nil t))
+    ∙ ap (λ (u : List ℕ). a ++ (b ++ u)) (sym (flat_map-append (λ (part : List ℕ). part) ps (t ∷ [])))
 
 -- ---- one disk
 
@@ -88,7 +93,7 @@ module _ (resets : List ℕ) (image : Image) (s : Scrubbed) (x : IsScrubbedBut r
           let at : size b.id ≡ size id = ap size is in
           omega (arith, own, some, at)
 
-  some_bound : (id : ShardId) → 0 < size id → HasBinding s.bindings id
+  pub some_bound : (id : ShardId) → 0 < size id → HasBinding s.bindings id
   some_bound id some =
       let same : size id ≡ length (filter (owns id) (flat_map named_by_shard s.bindings)) = owned_size (of_shards s.checked) s.bindings along id in
       owner_bound s.bindings id (omega (arith, some, same))
@@ -103,15 +108,15 @@ module _ (resets : List ℕ) (image : Image) (s : Scrubbed) (x : IsScrubbedBut r
       (rising i j e order (omega (arith, below, long))))
 
   -- the lines of all shards by their identifiers
-  lines_by_ids : (ids : List ShardId) → map (λ b. b.id) s.bindings ≡ ids →
-      flat_map (λ b. shard_lines (after_status_in s.all) (of_shards s.checked) b.id) s.bindings
-      ≡ flat_map (λ part. part) (flat_map (λ id. lines_of s 0 (owned_by id (of_shards s.checked))) ids)
-  lines_by_ids ids same =
-      sym (flat_map-map (shard_lines (after_status_in s.all) (of_shards s.checked)) (λ (b : BindingValue). b.id) s.bindings)
-      ∙ ap (flat_map (shard_lines (after_status_in s.all) (of_shards s.checked))) same
+  lines_by_ids : (loose : List Standing) (ids : List ShardId) → map (λ b. b.id) s.bindings ≡ ids →
+      flat_map (λ b. shard_lines (after_status_in s.all loose) (of_shards s.checked) b.id) s.bindings
+      ≡ flat_map (λ part. part) (flat_map (λ id. lines_of s loose 0 (owned_by id (of_shards s.checked))) ids)
+  lines_by_ids loose ids same =
+      sym (flat_map-map (shard_lines (after_status_in s.all loose) (of_shards s.checked)) (λ (b : BindingValue). b.id) s.bindings)
+      ∙ ap (flat_map (shard_lines (after_status_in s.all loose) (of_shards s.checked))) same
       ∙ ap (λ (lines : ShardId → List ℕ). flat_map lines ids)
-      (fun_ext (λ id. sym (flat_map-map (λ (part : List ℕ). part) (λ (p : ℕ × Checked). numbered_line (after_status_in s.all) p.0 p.1) (enumerate_from 0 (owned_by id (of_shards s.checked))))))
-      ∙ sym (flat_flat (λ (id : ShardId). lines_of s 0 (owned_by id (of_shards s.checked))) ids)
+      (fun_ext (λ id. sym (flat_map-map (λ (part : List ℕ). part) (λ (p : ℕ × Checked). numbered_line (after_status_in s.all loose) p.0 p.1) (enumerate_from 0 (owned_by id (of_shards s.checked))))))
+      ∙ sym (flat_flat (λ (id : ShardId). lines_of s loose 0 (owned_by id (of_shards s.checked))) ids)
 
 -- a superblock counts where a generation is known
 has_superblock : (choice : Choice) (plan : PlanValue) (n : ℕ) → plan ≡ plan_of choice → generation_of choice ≡ Some n → plan.has_superblock ≡ true
@@ -124,9 +129,9 @@ has_superblock choice plan n is some = by choice.superblock (plan_parts choice p
 
 -- ---- two disks
 
--- on two disks a superblock counts, the same extents are retired, no run is lost, no more are hidden, and the same shards are
--- bound, whose lines are the same but for `none` that became `spare`
-pub record AreKept (s t : Scrubbed) : Type 0 where
+-- on two disks, each with its loose frames, a superblock counts, the same extents are retired, no run is lost, no more are
+-- hidden, and the same shards are bound, whose lines are the same but for last words that rose
+pub record AreKept (s t : Scrubbed) (loose loose_now : List Standing) : Type 0 where
   pub has : s.plan.has_superblock ≡ true
   pub has_now : t.plan.has_superblock ≡ true
   pub retired : t.plan.retired ≡ s.plan.retired
@@ -137,28 +142,28 @@ pub record AreKept (s t : Scrubbed) : Type 0 where
   pub sizes : (id : ShardId) → HasBinding s.bindings id →
       length (owned_by id (of_shards s.checked)) ≡ length (owned_by id (of_shards t.checked))
   pub alike : (id : ShardId) → HasBinding s.bindings id → (n : ℕ) (c d : Checked) → slice_get (owned_by id (of_shards s.checked)) n ≡ Some c →
-      slice_get (owned_by id (of_shards t.checked)) n ≡ Some d → are_alike (row_in s n c) (row_in t n d) ≡ true
+      slice_get (owned_by id (of_shards t.checked)) n ≡ Some d → are_alike (row_in s loose n c) (row_in t loose_now n d) ≡ true
 
 -- so their manifests are
-module _ (resets others : List ℕ) (image other : Image) (s t : Scrubbed) (x : IsScrubbedBut resets image s) (y : IsScrubbedBut others other t)
-    (k : AreKept s t) where
+module _ (resets others : List ℕ) (image other : Image) (s t : Scrubbed) (loose loose_now : List Standing) (x : IsScrubbedBut resets image s)
+    (y : IsScrubbedBut others other t) (k : AreKept s t loose loose_now) where
   abbrev ids : List ShardId
   ids = map (λ b. b.id) s.bindings
 
   abbrev parts : List (List ℕ)
-  parts = flat_map (λ id. lines_of s 0 (owned_by id (of_shards s.checked))) ids
+  parts = flat_map (λ id. lines_of s loose 0 (owned_by id (of_shards s.checked))) ids
 
   abbrev parts_now : List (List ℕ)
-  parts_now = flat_map (λ id. lines_of t 0 (owned_by id (of_shards t.checked))) ids
+  parts_now = flat_map (λ id. lines_of t loose_now 0 (owned_by id (of_shards t.checked))) ids
 
-  zipped : AllZip IsSameOrSpared parts parts_now
+  zipped : AllZip IsSameOrRisen parts parts_now
   zipped =
-      zip_parts IsSameOrSpared (λ id. lines_of s 0 (owned_by id (of_shards s.checked))) (λ id. lines_of t 0 (owned_by id (of_shards t.checked))) ids
+      zip_parts IsSameOrRisen (λ id. lines_of s loose 0 (owned_by id (of_shards s.checked))) (λ id. lines_of t loose_now 0 (owned_by id (of_shards t.checked))) ids
       (λ i d below.
       let id : ShardId = get_or ids i d in
       let there : Contains ids id = All-contains_itself ids i d below in
-      zip_lines s t 0 (owned_by id (of_shards s.checked)) (owned_by id (of_shards t.checked)) (k.sizes id there)
-      (λ n v w was is. subst (λ (m : ℕ). are_alike (row_in s m v) (row_in t m w) ≡ true) (let e : n ≡ 0 + n = omega arith in e) (k.alike id there n v w was is)))
+      zip_lines s t loose loose_now 0 (owned_by id (of_shards s.checked)) (owned_by id (of_shards t.checked)) (k.sizes id there)
+      (λ n v w was is. subst (λ (m : ℕ). are_alike (row_in s loose m v) (row_in t loose_now m w) ≡ true) (let e : n ≡ 0 + n = omega arith in e) (k.alike id there n v w was is)))
 
   bindings_count : length t.bindings ≡ length s.bindings
   bindings_count =
@@ -179,8 +184,8 @@ module _ (resets others : List ℕ) (image other : Image) (s t : Scrubbed) (x : 
           subst (λ (is : List ShardId). Contains is (get_or t.bindings i d).id) (sym k.ids)
           (i, omega (arith, below, length-map t.bindings (λ (b : BindingValue). b.id)), get_or-map (λ (b : BindingValue). b.id) t.bindings i d (get_or t.bindings i d).id below)
 
-  -- The manifest of `t` is that of `s`, but for new spares and fewer hidden runs.
-  pub kept_text : IsSameButMore (manifest_text s) (manifest_text t)
+  -- The manifest of `t` is that of `s`, but for last words that rose and fewer hidden runs.
+  pub kept_text : IsSameButMore (manifest_text s loose) (manifest_text t loose_now)
   kept_text = record {
     retired = s.plan.retired;
     hidden = hidden_runs s;
@@ -192,14 +197,38 @@ module _ (resets others : List ℕ) (image other : Image) (s t : Scrubbed) (x : 
     fewer = k.fewer;
     each = zipped;
     a_is =
-        ap (λ (b : Bool). text_by (after_status_in s.all) b s.plan.retired (lost_runs s) (hidden_runs s) s.bindings (of_shards s.checked)) k.has
-        ∙ ap (λ (u : List ℕ). retired_line s.plan.retired ++ runs_line (lost_runs s) (hidden_runs s) ++ u ++ total_line (length s.bindings) (length (of_shards s.checked))) (lines_by_ids resets image s x ids refl)
+        ap (λ (b : Bool). text_by (after_status_in s.all loose) b s.plan.retired (lost_runs s) (hidden_runs s) s.bindings (of_shards s.checked)) k.has
+        ∙ ap (λ (u : List ℕ). retired_line s.plan.retired ++ runs_line (lost_runs s) (hidden_runs s) ++ u ++ total_line (length s.bindings) (length (of_shards s.checked))) (lines_by_ids resets image s x loose ids refl)
         ∙ ap (λ (n : ℕ). retired_line s.plan.retired ++ runs_line n (hidden_runs s) ++ flat_map (λ part. part) parts ++ total_line (length s.bindings) (length (of_shards s.checked))) k.read;
     b_is =
-        ap (λ (b : Bool). text_by (after_status_in t.all) b t.plan.retired (lost_runs t) (hidden_runs t) t.bindings (of_shards t.checked)) k.has_now
-        ∙ ap (λ (u : List ℕ). retired_line t.plan.retired ++ runs_line (lost_runs t) (hidden_runs t) ++ u ++ total_line (length t.bindings) (length (of_shards t.checked))) (lines_by_ids others other t y ids (sym k.ids))
+        ap (λ (b : Bool). text_by (after_status_in t.all loose_now) b t.plan.retired (lost_runs t) (hidden_runs t) t.bindings (of_shards t.checked)) k.has_now
+        ∙ ap (λ (u : List ℕ). retired_line t.plan.retired ++ runs_line (lost_runs t) (hidden_runs t) ++ u ++ total_line (length t.bindings) (length (of_shards t.checked))) (lines_by_ids others other t y loose_now ids (sym k.ids))
         ∙ (λ i. retired_line (k.retired i) ++ runs_line (k.read_now i) (hidden_runs t) ++ flat_map (λ part. part) parts_now ++ total_line (bindings_count i) (locators_count i));
   }
+
+  -- Without a change of hidden runs it is that but for last words that rose.
+  pub risen_text : hidden_runs t ≡ hidden_runs s → IsSameButRisen (manifest_text s loose) (manifest_text t loose_now)
+  unfolding kept_text
+  risen_text same = record {
+    parts = all_parts parts;
+    others = all_parts parts_now;
+    a_is = kept_text.a_is ∙ joined parts;
+    b_is =
+        kept_text.b_is
+        ∙ ap (λ (n : ℕ). retired_line s.plan.retired ++ runs_line 0 n ++ flat_map (λ part. part) parts_now ++ last) same
+        ∙ joined parts_now;
+    each = (inl refl, (inl refl, AllZip-append IsSameOrRisen parts (last ∷ []) parts_now (last ∷ []) zipped (inl refl, tt)));
+  }
+    where
+      last : List ℕ
+      last = total_line (length s.bindings) (length (of_shards s.checked))
+
+      all_parts : List (List ℕ) → List (List ℕ)
+      all_parts ps = retired_line s.plan.retired ∷ runs_line 0 (hidden_runs s) ∷ ps ++ last ∷ []
+
+      joined : (ps : List (List ℕ)) →
+          retired_line s.plan.retired ++ runs_line 0 (hidden_runs s) ++ flat_map (λ part. part) ps ++ last ≡ flat_map (λ part. part) (all_parts ps)
+      joined ps = joined_parts (retired_line s.plan.retired) (runs_line 0 (hidden_runs s)) last ps
 
 -- ---- what is safe
 
@@ -211,9 +240,9 @@ module _ (resets : List ℕ) (before after : Image) (c : Compared) (are : AreCom
   shards_now = of_shards c.kept.checked
 
   no_changes : (runs_change (lost_runs c.found) (hidden_runs c.found) (lost_runs c.kept) (hidden_runs c.kept) ≡ [])
-      × (shard_changes (row_in c.found) (row_in c.kept) shards shards_now c.ids ≡ [])
+      × (shard_changes (row_in c.found c.loose.frames) (row_in c.kept c.loose_now.frames) shards shards_now c.ids ≡ [])
   no_changes =
-      let front = both_nil (retired_change c.found.plan.retired c.kept.plan.retired ++ runs_change (lost_runs c.found) (hidden_runs c.found) (lost_runs c.kept) (hidden_runs c.kept)) (shard_changes (row_in c.found) (row_in c.kept) shards shards_now c.ids) none.manifest in
+      let front = both_nil (retired_change c.found.plan.retired c.kept.plan.retired ++ runs_change (lost_runs c.found) (hidden_runs c.found) (lost_runs c.kept) (hidden_runs c.kept)) (shard_changes (row_in c.found c.loose.frames) (row_in c.kept c.loose_now.frames) shards shards_now c.ids) none.manifest in
       let first = both_nil (retired_change c.found.plan.retired c.kept.plan.retired) (runs_change (lost_runs c.found) (hidden_runs c.found) (lost_runs c.kept) (hidden_runs c.kept)) front.0 in
       (first.1, front.1)
 
@@ -230,13 +259,13 @@ module _ (resets : List ℕ) (before after : Image) (c : Compared) (are : AreCom
         ltb-false (hidden_runs c.found) (hidden_runs c.kept) (not_true (nat_lt (hidden_runs c.found) (hidden_runs c.kept)) parts.1),
       )
 
-  unchanged : (id : ShardId) → Contains c.ids id → shard_change (row_in c.found) (row_in c.kept) (owned_by id shards) (owned_by id shards_now) ≡ []
+  unchanged : (id : ShardId) → Contains c.ids id → shard_change (row_in c.found c.loose.frames) (row_in c.kept c.loose_now.frames) (owned_by id shards) (owned_by id shards_now) ≡ []
   unchanged id there =
-      All-contains (λ (i : ShardId). shard_change (row_in c.found) (row_in c.kept) (owned_by i shards) (owned_by i shards_now) ≡ []) c.ids id
-      (all_none (λ (i : ShardId). shard_change (row_in c.found) (row_in c.kept) (owned_by i shards) (owned_by i shards_now)) c.ids no_changes.1) there
+      All-contains (λ (i : ShardId). shard_change (row_in c.found c.loose.frames) (row_in c.kept c.loose_now.frames) (owned_by i shards) (owned_by i shards_now) ≡ []) c.ids id
+      (all_none (λ (i : ShardId). shard_change (row_in c.found c.loose.frames) (row_in c.kept c.loose_now.frames) (owned_by i shards) (owned_by i shards_now)) c.ids no_changes.1) there
 
   sizes_same : (id : ShardId) → Contains c.ids id → size [] before c.found are.found id ≡ size resets after c.kept are.kept id
-  sizes_same id there = same_length (row_in c.found) (row_in c.kept) (owned_by id shards) (owned_by id shards_now) (unchanged id there)
+  sizes_same id there = same_length (row_in c.found c.loose.frames) (row_in c.kept c.loose_now.frames) (owned_by id shards) (owned_by id shards_now) (unchanged id there)
 
   -- the same shards are bound
   old_ids : map (λ b. b.id) c.found.bindings ≡ c.ids
@@ -278,7 +307,7 @@ module _ (resets : List ℕ) (before after : Image) (c : Compared) (are : AreCom
       plain.4 ∙ has_superblock c.kept.choice plain.0 none.new plain.1 (sym (ap generation_of choice) ∙ both_there.1)
 
   -- Without a line of `compare` the superblock, retired extents, runs and shards of the manifest are kept.
-  pub kept : AreKept c.found c.kept
+  pub kept : AreKept c.found c.kept c.loose.frames c.loose_now.frames
   kept = record {
     has = has_before;
     has_now = has_kept;
@@ -288,19 +317,8 @@ module _ (resets : List ℕ) (before after : Image) (c : Compared) (are : AreCom
     fewer = counts.1;
     ids = old_ids ∙ sym new_ids;
     sizes = λ id bound. sizes_same id (among id bound);
-    alike = λ id bound. alike_at (row_in c.found) (row_in c.kept) (owned_by id shards) (owned_by id shards_now) (unchanged id (among id bound));
+    alike = λ id bound. alike_at (row_in c.found c.loose.frames) (row_in c.kept c.loose_now.frames) (owned_by id shards) (owned_by id shards_now) (unchanged id (among id bound));
   }
     where
       among : (id : ShardId) → HasBinding c.found.bindings id → Contains c.ids id
       among id bound = (are.ids.exact id).1 (inl bound)
-
--- A safe step and its resets keep the manifest, but for new spares and fewer hidden runs.
-pub nothing_lost : (resets : List ℕ) (before after other : Image) (a b : List ℕ) (v w : Bool) → IsSafe resets before after → IsForeseen resets after other →
-    IsManifest before a v → IsManifest other b w → IsSameButMore a b
-nothing_lost resets before after other a b v w s f x y =
-    subst (λ (t : List ℕ). IsSameButMore t b) (ap manifest_text (one_scrub before s.safe.compared.found x.found s.safe.are.found x.scrubbed) ∙ sym x.text_is)
-    (subst (λ (t : List ℕ). IsSameButMore (manifest_text s.safe.compared.found) t)
-    (as_foreseen resets after other (manifest_text s.safe.compared.kept) b (is_whole s.safe.compared.kept) w f
-    (record { found = s.safe.compared.kept; scrubbed = s.safe.are.kept; text_is = refl; verdict = refl }) y).0
-    (kept_text [] resets before after s.safe.compared.found s.safe.compared.kept s.safe.are.found s.safe.are.kept
-    (kept resets before after s.safe.compared s.safe.are (no_line resets s.safe.compared (sym s.safe.verdict)))))

@@ -16,12 +16,19 @@ pub mod ManifestCounts
 pub mod Safe
 pub mod Totals
 pub mod RunsRead
+pub mod LastWords
 pub mod Kept
 pub mod KeptManifest
+pub mod KeptNames
+pub mod AsForeseen
 -- what is safe keeps bytes and chunks, in two steps too, and can be undone
 pub mod Overwritten
 pub mod Chunks
 pub mod Chained
+pub mod Digests
+pub mod SameContent
+pub mod ChunksThere
+pub mod StillThere
 pub mod Undone
 -- that there is one answer
 pub mod OneComparison

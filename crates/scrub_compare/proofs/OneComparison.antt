@@ -3,6 +3,8 @@ use Rattle.std.proofs.Common.{◌≡◌, ◌+◌, [], ◌∷◌, ℕ, suc, Bool,
 use Rattle.std.specs.List.{slice_get}
 use Rattle.scrub_disk.specs.Image.{Image}
 use Rattle.scrub_super.proofs.PageLaws.{one_list_of_pages}
+use Rattle.scrub_loose.specs.Loose.{AreLoose}
+use Rattle.scrub_loose.proofs.OneLoose.{one_loose}
 use Rattle.scrub_found.specs.Scrubbed.{Scrubbed}
 use Rattle.scrub_found.proofs.OneScrub.{one_scrub, one_scrub_but}
 use Rattle.scrub_compare.specs.Written.{AreFirstWritten, IsWrittenIn, IsWrittenInRecords, pointer_in, room_at}
@@ -34,6 +36,8 @@ module _ (resets : List ℕ) (before after : Image) where
     found = found i;
     rest = rest i;
     kept = kept i;
+    loose = loose i;
+    loose_now = loose_now i;
     pages = one_list_of_pages before c.pages d.pages x.pages y.pages i;
     pages_now = one_list_of_pages after c.pages_now d.pages_now x.pages_now y.pages_now i;
     first = one_least (IsWrittenInRecords before after) c.first d.first x.first y.first i;
@@ -49,6 +53,16 @@ module _ (resets : List ℕ) (before after : Image) where
 
       kept : c.kept ≡ d.kept
       kept = one_scrub_but resets after c.kept d.kept x.kept y.kept
+
+      loose : c.loose ≡ d.loose
+      loose =
+          one_loose [] before d.found.plan c.loose d.loose
+          (subst (λ (f : Scrubbed). AreLoose [] before f.plan c.loose) found x.loose) y.loose
+
+      loose_now : c.loose_now ≡ d.loose_now
+      loose_now =
+          one_loose resets after d.kept.plan c.loose_now d.loose_now
+          (subst (λ (k : Scrubbed). AreLoose resets after k.plan c.loose_now) kept x.loose_now) y.loose_now
 
       firsts : c.firsts ≡ d.firsts
       firsts =

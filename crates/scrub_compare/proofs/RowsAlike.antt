@@ -1,4 +1,4 @@
--- By spares that are the same, the lines are.
+-- By best copies that are the same, the lines are.
 use Rattle.std.proofs.Common.{◌≡◌, ◌∷◌, [], ℕ, zero, suc, List, Some, get_or, length, max, refl, ap, option_map}
 use Rattle.std.proofs.Math.Path.{ap₂, fun_ext}
 use Rattle.std.specs.List.{All, flat_map, range_with_len, slice_get}
@@ -8,9 +8,14 @@ use Rattle.scrub_scan.specs.declared.standing.Standing.{Standing}
 use Rattle.scrub_scan.specs.Scanned.{Scanned}
 use Rattle.scrub_check.specs.declared.statuses.checked.Checked.{Checked}
 use Rattle.scrub_check.specs.Checked.{is_owned_by}
-use Rattle.scrub_check.specs.Spares.{AreSpares, spares_by, spares_of}
+use Rattle.scrub_disk.specs.Image.{Image}
+use Rattle.scrub_super.specs.Plan.{PlanValue}
+use Rattle.scrub_loose.specs.declared.copies.BestCopy.{BestCopy}
+use Rattle.scrub_loose.specs.Copies.{CopiesValue}
+use Rattle.scrub_loose.specs.Loose.{AreCopies, best_among, best_of}
 use Rattle.scrub_listings.specs.Manifest.{is_of_shard, of_shards}
 use Rattle.scrub_compare.specs.Compare.{RowValue, change, numbered, owned_by, row_by, shard_change, shard_changes}
+use Rattle.scrub_compare.specs.steps.Rows.{AreBestBy, best_by}
 
 -- two ways to make a line agree on some locators
 abbrev pub AgreeOn : (ℕ → Checked → RowValue) → (ℕ → Checked → RowValue) → List Checked → Type 0
@@ -37,11 +42,17 @@ changes_agree f h f' h' cs ds ids one other =
         (numbered_agree f h (owned_by id cs) (All-filter (λ c. is_owned_by id c.owner) (λ (c : Checked). (m : ℕ) → f m c ≡ h m c) cs one) n)
         (numbered_agree f' h' (owned_by id ds) (All-filter (λ c. is_owned_by id c.owner) (λ (c : Checked). (m : ℕ) → f' m c ≡ h' m c) ds other) n)))
 
--- the spares that were found are those of the definition
-pub spares_agree : (all : List Scanned) (checked : List Checked) (found : List Standing) → AreSpares all checked found →
-    AgreeOn (row_by (spares_by found) all) (row_by (spares_of all) all) (of_shards checked)
-spares_agree all checked found are =
-    All-filter (λ c. is_of_shard c.owner) (λ (c : Checked). (n : ℕ) → row_by (spares_by found) all n c ≡ row_by (spares_of all) all n c) checked
+-- the best copies that were found are those of the definition
+pub best_agree : (all : List Scanned) (checked : List Checked) (loose : List Standing) (v : CopiesValue) → AreBestBy all checked loose v →
+    AgreeOn (row_by (best_by v) all) (row_by (best_of all loose) all) (of_shards checked)
+best_agree all checked loose v are =
+    All-filter (λ c. is_of_shard c.owner) (λ (c : Checked). (n : ℕ) → row_by (best_by v) all n c ≡ row_by (best_of all loose) all n c) checked
     (λ i d below n.
     let c : Checked = get_or checked i d in
-    ap (λ (ss : List Standing). row_by (λ k. ss) all n c) (are c (All-contains_itself checked i d below)))
+    ap (λ (best : BestCopy). row_by (λ k. best) all n c) (are c (All-contains_itself checked i d below)))
+
+-- The copies that the code keeps have the best one of each locator.
+pub best_found : (resets : List ℕ) (image : Image) (plan : PlanValue) (all : List Scanned) (checked : List Checked) (v : CopiesValue) →
+    (are : AreCopies resets image plan all checked v) → AreBestBy all checked are.found.frames v
+best_found resets image plan all checked v are c there =
+    ap₂ best_among (are.spares c there) (are.loose c there)

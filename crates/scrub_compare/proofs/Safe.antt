@@ -57,7 +57,7 @@ pub record HasNoLine (resets : List ℕ) (c : Compared) : Type 0 where
   pub first : written_line 0 c.first ≡ []
   pub extents : extent_lines resets c.found c.rest c.firsts ≡ []
   pub named : named_lines resets c.rest.checked ≡ []
-  pub manifest : manifest_changes c.found c.kept c.ids ≡ []
+  pub manifest : manifest_changes c.found c.kept c.loose.frames c.loose_now.frames c.ids ≡ []
 
 -- If the verdict is safe, both superblocks count, and there is no line of any kind.
 pub no_line : (resets : List ℕ) (c : Compared) → is_safe resets c ≡ true → HasNoLine resets c
@@ -68,7 +68,7 @@ no_line resets c safe = by (generations_in c) refl safe
     by (Some both) is empty =
         let all = both_nil (doubts_of_both c ++ generation_line both.0 both.1) (changes resets c) (nil_from_no_length (doubts_of_both c ++ generation_line both.0 both.1 ++ changes resets c) empty) in
         let front = both_nil (doubts_of_both c) (generation_line both.0 both.1) all.0 in
-        let lines = both_nil (written_line 0 c.first ++ extent_lines resets c.found c.rest c.firsts ++ named_lines resets c.rest.checked) (manifest_changes c.found c.kept c.ids) all.1 in
+        let lines = both_nil (written_line 0 c.first ++ extent_lines resets c.found c.rest c.firsts ++ named_lines resets c.rest.checked) (manifest_changes c.found c.kept c.loose.frames c.loose_now.frames c.ids) all.1 in
         let more = both_nil (written_line 0 c.first ++ extent_lines resets c.found c.rest c.firsts) (named_lines resets c.rest.checked) lines.0 in
         let first = both_nil (written_line 0 c.first) (extent_lines resets c.found c.rest c.firsts) more.0 in
         record {
@@ -92,8 +92,8 @@ same_retired resets c none =
     (passed (bytes_eq c.found.plan.retired c.kept.plan.retired) (lost_line (retired_line c.found.plan.retired)) (new_line (retired_line c.kept.plan.retired)) (omega arith) first.0))
   where
     front : (retired_change c.found.plan.retired c.kept.plan.retired ++ runs_change (lost_runs c.found) (hidden_runs c.found) (lost_runs c.kept) (hidden_runs c.kept) ≡ [])
-        × (shard_changes (row_in c.found) (row_in c.kept) (of_shards c.found.checked) (of_shards c.kept.checked) c.ids ≡ [])
-    front = both_nil (retired_change c.found.plan.retired c.kept.plan.retired ++ runs_change (lost_runs c.found) (hidden_runs c.found) (lost_runs c.kept) (hidden_runs c.kept)) (shard_changes (row_in c.found) (row_in c.kept) (of_shards c.found.checked) (of_shards c.kept.checked) c.ids) none.manifest
+        × (shard_changes (row_in c.found c.loose.frames) (row_in c.kept c.loose_now.frames) (of_shards c.found.checked) (of_shards c.kept.checked) c.ids ≡ [])
+    front = both_nil (retired_change c.found.plan.retired c.kept.plan.retired ++ runs_change (lost_runs c.found) (hidden_runs c.found) (lost_runs c.kept) (hidden_runs c.kept)) (shard_changes (row_in c.found c.loose.frames) (row_in c.kept c.loose_now.frames) (of_shards c.found.checked) (of_shards c.kept.checked) c.ids) none.manifest
 
     first : (retired_change c.found.plan.retired c.kept.plan.retired ≡ []) × (runs_change (lost_runs c.found) (hidden_runs c.found) (lost_runs c.kept) (hidden_runs c.kept) ≡ [])
     first = both_nil (retired_change c.found.plan.retired c.kept.plan.retired) (runs_change (lost_runs c.found) (hidden_runs c.found) (lost_runs c.kept) (hidden_runs c.kept)) front.0

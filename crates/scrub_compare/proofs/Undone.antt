@@ -1,13 +1,19 @@
--- What is safe can be undone: with the earlier superblock the manifest is the earlier one.
-use Rattle.std.proofs.Common.{◌≡◌, ◌<◌, ◌≤◌, ◌==◌, ℕ, Bool, true, false, Option, Some, None, MatchBool, MatchOption, List, [], length, get_or, arith, refl, sym, ◌∙◌, ap, subst}
+-- What is safe can be undone: with the earlier superblock the manifest is the earlier one, but for last words that rose.
+use Rattle.std.proofs.Common.{◌≡◌, ◌≢◌, ◌<◌, ◌≤◌, ◌==◌, ◌&&◌, ℕ, Bool, true, false, Option, Some, None, MatchBool, MatchOption, List, [], length, get_or, if◌then◌else◌, arith, refl, sym, ◌∙◌, ap, subst}
 use Rattle.std.specs.Bool.{⊤}
-use Rattle.std.specs.List.{All, AllZip}
+use Rattle.std.specs.List.{All, AllZip, Contains, filter, slice_get}
+use Rattle.std.proofs.Math.Path.{fun_ext}
+use Rattle.std.proofs.lemmas.Bool.{and_parts}
+use Rattle.std.proofs.lemmas.List.Elements.{All-contains}
+use Rattle.list_facts.proofs.Elements.{Contains-filter}
+use Rattle.scrub_run.specs.declared.shard_id.ShardId.{ShardId}
 use Rattle.std.specs.Option.{unwrap_or}
 use Rattle.std.proofs.lemmas.Option.{same_Some}
 use Rattle.scrub_disk.specs.declared.geometry.Geometry.{Geometry}
 use Rattle.scrub_disk.specs.Image.{Image, image_byte}
 use Rattle.scrub_frame.specs.declared.locator.Locator.{Locator}
-use Rattle.scrub_super.specs.Plan.{PlanValue, pointer_of}
+use Rattle.scrub_super.specs.Plan.{PlanValue, plan_of, pointer_of}
+use Rattle.scrub_super.specs.Reset.{IsReset}
 use Rattle.scrub_super.specs.Planned.{extents_in_use}
 use Rattle.scrub_super.proofs.PlanParts.{plan_parts}
 use Rattle.scrub_scan.specs.AllFindings.{extent_numbers}
@@ -21,20 +27,32 @@ use Rattle.scrub_check.specs.declared.statuses.status.Status.{Status}
 use Rattle.scrub_check.specs.declared.statuses.status.Status.TheVariants.{OutOfRange, Retired, PastPointer, Unreadable, NoFrame, WrongUuid, WrongLength, WrongDigest, Hidden, Sound}
 use Rattle.scrub_check.specs.ChunkForms.{form_at}
 use Rattle.scrub_check.specs.Runs.{NamesChunkIn}
-use Rattle.scrub_check.specs.Spares.{spares_by}
+use Rattle.scrub_check.specs.Spares.{asks_for_spares, frames, is_copy_of, spares_by, spares_of}
 use Rattle.scrub_check.specs.Status.{BeginsAt, CanStand, FindsFrame, HasStatus, HasStatusIn, HasStatusInRetired, HasUnreadableByte, NamesChunk, end_of, is_retired}
+use Rattle.scrub_loose.specs.Anywhere.{IsCrowded}
+use Rattle.scrub_loose.specs.Loose.{AreLoose, LooseValue, best_among, best_of, is_gone, loose_of}
 use Rattle.scrub_found.specs.Scrubbed.{Scrubbed, IsScrubbed}
 use Rattle.scrub_found.proofs.OneReader.{same_plan}
-use Rattle.scrub_listings.specs.Manifest.{IsManifest, manifest_text}
+use Rattle.scrub_listings.specs.Manifest.{IsManifest, manifest_text, of_shards}
+use Rattle.scrub_reclaim.specs.Copy.{IsSameButRisen, rank}
 use Rattle.scrub_reclaim.specs.Reset.{IsPlanIn, NameTheSame}
+use Rattle.scrub_reclaim.proofs.BestCopies.{first_of, loose_among, none_in_nil, not_nil}
 use Rattle.scrub_reclaim.proofs.CarriedNames.{Carries, named_alike}
-use Rattle.scrub_reclaim.proofs.Reset.{one_plan_in, same_text}
-use Rattle.scrub_reclaim.proofs.SameExtents.{in_disk, in_range, IsScannedBy, same_numbers, scanned_by, status_in_retired}
-use Rattle.scrub_reclaim.proofs.ResetForms.{IsAlikeIn, along, same_after, same_form, same_frames}
+use Rattle.scrub_reclaim.proofs.LooseFrames.{crowded_alike, stands_alike}
+use Rattle.scrub_reclaim.proofs.Reset.{one_plan_in, reset_of}
+use Rattle.scrub_reclaim.proofs.SameExtents.{AreAlike, alike_back, in_disk, in_range, IsScannedBy, planned_there, same_numbers, same_planned, scanned_by, status_in_retired}
+use Rattle.scrub_reclaim.proofs.ResetForms.{IsAlikeIn, along, same_form, same_frames}
 use Rattle.scrub_compare.specs.Written.{pointer_in}
-use Rattle.scrub_compare.specs.Laws.{IsSafe, IsUndone, KeepsBytes}
+use Rattle.scrub_compare.specs.Compare.{AreCompared, Compared, owned_by}
+use Rattle.scrub_compare.specs.Laws.{IsSafe, IsUndone, KeepsBytes, NoneIsCrowded}
+use Rattle.scrub_compare.proofs.ChunksThere.{IsThereIn}
 use Rattle.scrub_compare.proofs.Chunks.{frame_same, none_in_y, tiling_same}
-use Rattle.scrub_compare.proofs.Overwritten.{keeps_bytes}
+use Rattle.scrub_compare.proofs.KeptManifest.{AreKept, kept, risen_text}
+use Rattle.scrub_compare.proofs.LastWords.{same_spares}
+use Rattle.scrub_compare.proofs.KeptNames.{HaveNoWorse, kept_named, same_hidden, text_of_found}
+use Rattle.scrub_compare.proofs.Overwritten.{bytes_stay}
+use Rattle.scrub_compare.proofs.Safe.{HasNoLine, no_line}
+use Rattle.scrub_compare.proofs.StillThere.{still_there}
 
 -- ---- what rests on the bytes below a write pointer
 
@@ -236,17 +254,89 @@ module _ (before after undone : Image) (found rest : Scrubbed) (x : IsScrubbed b
       named_alike [] [] before undone found rest x y has runs retired carry
       (λ i d inside sound. form (get_or found.checked i d).locator)
 
-  pub undone_text : manifest_text rest ≡ manifest_text found
-  undone_text =
-      same_text found rest named
-      (λ i d inside.
-      same_after found.all rest.all (get_or found.checked i d) (λ sound. form (get_or found.checked i d).locator)
-      (ap (λ (ss : List Standing). length (spares_by ss (get_or found.checked i d)) == 0) (same_frames found.all rest.all scans)))
+  same_chunks : frames rest.all ≡ frames found.all
+  same_chunks = same_frames found.all rest.all scans
 
--- If the earlier superblock is written again after a safe step, the manifest is the earlier one.
-pub can_be_undone : (resets : List ℕ) (before after undone : Image) (a b : List ℕ) (v w : Bool) → IsSafe resets before after → IsUndone before after undone →
-    IsManifest before a v → IsManifest undone b w → a ≡ b
-can_be_undone resets before after undone a b v w s u x y =
-    x.text_is
-    ∙ sym (undone_text before after undone x.found y.found x.scrubbed y.scrubbed (keeps_bytes resets before after x.found s x.scrubbed) s.sizes u)
-    ∙ sym y.text_is
+-- ---- its loose copies
+
+module _ (resets : List ℕ) (before after undone : Image) (c : Compared) (are : AreCompared resets before after c) (none : HasNoLine resets c)
+    (equal : after.geometry ≡ before.geometry) (n : NoneIsCrowded after) (u : IsUndone before after undone) (rest : Scrubbed) (loose : LooseValue)
+    (y : IsScrubbed undone rest) (m : AreLoose [] undone rest.plan loose) where
+  bytes_kept : KeepsBytes before after c.found
+  bytes_kept = bytes_stay resets before after equal c are none
+
+  k : AreKept c.found c.kept c.loose.frames c.loose_now.frames
+  k = kept resets before after c are none
+
+  -- the extents in use are those of the earlier image, and those of the later one
+  planned_undone : rest.plan.planned ≡ c.kept.plan.planned
+  planned_undone =
+      planned before after undone c.found rest are.found y bytes_kept equal u
+      ∙ sym (same_planned [] resets before after c.found c.kept equal k.retired are.found are.kept)
+
+  planned_after : c.kept.plan.planned ≡ n.plan.planned
+  planned_after =
+      let without : (old : PlanValue) × (old ≡ plan_of c.kept.choice) × IsReset old resets c.kept.plan = reset_of resets c.kept.choice c.kept.plan are.kept.plan in
+      without.2.planned
+      ∙ ap (λ (p : PlanValue). p.planned)
+      (one_plan_in after without.0 n.plan (record { choice = c.kept.choice; chosen = are.kept.choice; follows = without.1 }) n.is)
+
+  -- such an extent has the bytes of the later image
+  alike_in_use : (e : ℕ) → Contains c.kept.plan.planned e → AreAlike after undone e
+  alike_in_use e in_use =
+      let there = planned_there resets after c.kept are.kept e in_use in
+      record { sizes = u.sizes; bytes = fun_ext (λ p. u.bytes e p there.0 there.1) }
+
+  -- a frame that is there in such an extent of the later image is a loose frame
+  is_loose : (t : Standing) → IsThereIn after c.kept.plan.planned t → Contains loose.frames t
+  is_loose t is = (m.frames t).1 (record {
+    searched = record {
+      in_use = subst (λ (es : List ℕ). Contains es t.extent) (sym planned_undone) is.number;
+      stays = none_in_nil t.extent;
+    };
+    sparse = λ crowded.
+        All-contains (λ (e : ℕ). ¬ IsCrowded after e) n.plan.planned t.extent n.sparse
+        (subst (λ (es : List ℕ). Contains es t.extent) planned_after is.number)
+        (crowded_alike (alike_back (alike_in_use t.extent is.number)) crowded);
+    stands = stands_alike t (alike_in_use t.extent is.number) is.stands;
+  })
+
+  -- what had a loose copy has one, or a spare
+  loose_still : (id : ShardId) (number : ℕ) (e : Checked) → slice_get (owned_by id (of_shards c.found.checked)) number ≡ Some e → (s : Standing) →
+      Contains (loose_of c.found.all c.loose.frames e) s → spares_of rest.all e ≡ [] → loose_of rest.all loose.frames e ≢ []
+  loose_still id number e was s there none_left =
+      let t = still_there resets before after c are none id number e was s there in
+      let asks : asks_for_spares e ≡ true =
+      (and_parts (asks_for_spares e) (length (spares_of c.found.all e) == 0) (loose_among e c.found.all rest.all c.loose.frames loose.frames s there).0).0 in
+      let gone : is_gone rest.all e ≡ true = λ i. asks i && (length (none_left i) == 0) in
+      not_nil (loose_of rest.all loose.frames e) t.0
+      (subst (λ (b : Bool). Contains (if b then filter (is_copy_of e.locator) loose.frames else []) t.0) (sym gone)
+      (Contains-filter (is_copy_of e.locator) loose.frames t.0 t.1.copies (is_loose t.0 t.1.there)))
+
+  -- so no copy is worse
+  best : HaveNoWorse c.found rest c.loose.frames loose.frames
+  best id number e was =
+      subst (λ (ss : List Standing). rank (best_of c.found.all c.loose.frames e) ≤ rank (best_among ss (loose_of rest.all loose.frames e))) (sym spares)
+      (same_spares (spares_of c.found.all e) (loose_of c.found.all c.loose.frames e) (loose_of rest.all loose.frames e)
+      (λ some none_left.
+      let one = first_of (loose_of c.found.all c.loose.frames e) some in loose_still id number e was one.0 one.1 (spares ∙ none_left)))
+    where
+      spares : spares_of rest.all e ≡ spares_of c.found.all e
+      spares = ap (λ (fs : List Standing). spares_by fs e) (same_chunks before after undone c.found rest are.found y bytes_kept equal u)
+
+  pub undone_text : IsSameButRisen (manifest_text c.found c.loose.frames) (manifest_text rest loose.frames)
+  undone_text =
+      let names = named before after undone c.found rest are.found y bytes_kept equal u in
+      risen_text [] [] before undone c.found rest c.loose.frames loose.frames are.found y
+      (kept_named c.found rest c.loose.frames loose.frames names best k.has k.read)
+      (same_hidden c.found rest c.loose.frames loose.frames names best)
+
+-- If the earlier superblock is written again after a safe step, and no extent of the later image is crowded, the manifest is the
+-- earlier one, but for last words that rose.
+pub can_be_undone : (resets : List ℕ) (before after undone : Image) (a b : List ℕ) (v w : Bool) → IsSafe resets before after → NoneIsCrowded after →
+    IsUndone before after undone → IsManifest before a v → IsManifest undone b w → IsSameButRisen a b
+can_be_undone resets before after undone a b v w s n u x y =
+    let c : Compared = s.safe.compared in
+    subst (λ (t : List ℕ). IsSameButRisen t b) (sym (text_of_found before a v c.found c.loose x s.safe.are.found s.safe.are.loose))
+    (subst (λ (t : List ℕ). IsSameButRisen (manifest_text c.found c.loose.frames) t) (sym y.text_is)
+    (undone_text resets before after undone c s.safe.are (no_line resets c (sym s.safe.verdict)) s.sizes n u y.found y.loose y.scrubbed y.are_loose))

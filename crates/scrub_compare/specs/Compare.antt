@@ -18,12 +18,15 @@ use Rattle.scrub_scan.specs.Scanned.{Scanned}
 use Rattle.scrub_check.specs.declared.statuses.checked.Checked.{Checked}
 use Rattle.scrub_check.specs.Checked.{is_dangling, is_owned_by, is_sound}
 use Rattle.scrub_check.specs.ChunkForms.{form_at}
-use Rattle.scrub_check.specs.Spares.{spares_of}
+use Rattle.scrub_loose.specs.declared.copies.BestCopy.{BestCopy}
+use Rattle.scrub_loose.specs.declared.copies.BestCopy.TheVariants.{Spare}
+use Rattle.scrub_loose.specs.Loose.{AreLoose, LooseValue, best_of}
 use Rattle.scrub_found.specs.Resets.{IsScrubbedBut}
 use Rattle.scrub_found.specs.Scrubbed.{Scrubbed, IsScrubbed}
 use Rattle.scrub_listings.specs.Locators.{locator_line}
-use Rattle.scrub_listings.specs.Manifest.{form_text, hidden_runs, looked_for, lost_runs, numbered_text, of_shards, retired_line, runs_line}
+use Rattle.scrub_listings.specs.Manifest.{copy_word, form_text, hidden_runs, looked_for, lost_runs, numbered_text, of_shards, retired_line, runs_line}
 use Rattle.scrub_reclaim.specs.declared.doubts.Doubt.{Doubt}
+use Rattle.scrub_reclaim.specs.Copy.{rank}
 use Rattle.scrub_reclaim.specs.Doubts.{choice_doubts, doubt_text, page_doubts, run_doubts, superblock_lost}
 use Rattle.scrub_compare.specs.Written.{AreFirstWritten, IsLeastNumber, IsWrittenInRecords, pointer_in, room_at}
 
@@ -117,58 +120,64 @@ runs_change lost hidden lost_now hidden_now =
 
 -- ---- manifests: shards
 
--- the line of a shard's locator in two parts: what comes before the word for spares, and whether there are spares, if the
--- locator dangles
+-- the line of a shard's locator in two parts: what comes before its last word, and the best copy, if the locator dangles
 pub record RowValue : Type 0 where
   pub stem : List ℕ
-  pub has_spares : Option Bool
+  pub best : Option BestCopy
 
--- the word for spares with a space before it: ` spare` or ` none`; nothing for a locator that doesn't dangle
-abbrev pub spare_word : Option Bool → List ℕ
-spare_word None = []
-spare_word (Some true) = codes " spare"
-spare_word (Some false) = codes " none"
+-- the last word with a space before it: ` spare`, ` loose` or ` none`; nothing for a locator that doesn't dangle
+abbrev pub last_word : Option BestCopy → List ℕ
+last_word None = []
+last_word (Some best) = spaced (copy_word best)
 
 -- the whole line
 abbrev pub row_line : RowValue → List ℕ
-row_line r = r.stem ++ spare_word r.has_spares ++ 10 ∷ []
+row_line r = r.stem ++ last_word r.best ++ 10 ∷ []
 
--- what follows a locator's status, up to the word for spares
+-- what follows a locator's status, up to the last word
 abbrev pub place_or_form : List Scanned → Checked → List ℕ
 place_or_form all c = if is_sound c.status then form_text (form_at all c.locator) else looked_for c.locator
 
--- the line of a shard's locator of this number, by what was scanned and by the locator's spares
-abbrev pub row_by : (Checked → List Standing) → List Scanned → ℕ → Checked → RowValue
-row_by spares all number c = record {
+-- the line of a shard's locator of this number, by what was scanned and by the locator's best copy
+abbrev pub row_by : (Checked → BestCopy) → List Scanned → ℕ → Checked → RowValue
+row_by best all number c = record {
   stem = numbered_text number c ++ place_or_form all c;
-  has_spares = if is_dangling c.status then Some (not (len (spares c) == 0)) else None;
+  best = if is_dangling c.status then Some (best c) else None;
 }
 
--- the word for spares is the same, or `none` became `spare`
-abbrev pub has_no_less : Option Bool → Option Bool → Bool
+-- the first is the worse copy: last words rise from `none` over `loose` to `spare`
+abbrev pub is_worse : BestCopy → BestCopy → Bool
+is_worse one other = nat_lt (rank one) (rank other)
+
+-- the last word is the same, or it rises
+abbrev pub has_no_less : Option BestCopy → Option BestCopy → Bool
 has_no_less None None = true
-has_no_less (Some false) (Some b) = true
-has_no_less (Some true) (Some true) = true
+has_no_less (Some old) (Some new) = not (is_worse new old)
 has_no_less _ _ = false
 
--- `spare` became `none`
-abbrev pub has_none_left : Option Bool → Option Bool → Bool
-has_none_left (Some true) (Some false) = true
-has_none_left _ _ = false
+-- the last word falls
+abbrev pub has_less : Option BestCopy → Option BestCopy → Bool
+has_less (Some old) (Some new) = is_worse new old
+has_less _ _ = false
 
--- two lines are the same, or differ only in `none` that became `spare`
+-- two lines are the same, or differ only in a last word that rises
 abbrev pub are_alike : RowValue → RowValue → Bool
-are_alike old new = bytes_eq old.stem new.stem && has_no_less old.has_spares new.has_spares
+are_alike old new = bytes_eq old.stem new.stem && has_no_less old.best new.best
 
--- two lines differ only in `spare` that became `none`
-abbrev pub has_lost_spares : RowValue → RowValue → Bool
-has_lost_spares old new = bytes_eq old.stem new.stem && has_none_left old.has_spares new.has_spares
+-- two lines differ only in a last word that falls
+abbrev pub has_fallen : RowValue → RowValue → Bool
+has_fallen old new = bytes_eq old.stem new.stem && has_less old.best new.best
+
+-- what the line of a last word that falls begins with: the word that it was, `spare ` or `loose `
+abbrev pub fallen_word : Option BestCopy → List ℕ
+fallen_word (Some Spare) = codes "spare "
+fallen_word _ = codes "loose "
 
 -- the lines of what became of a line, or nothing
 abbrev pub row_change : RowValue → RowValue → List ℕ
 row_change old new =
     if are_alike old new then []
-    else (if has_lost_spares old new then codes "spare " ++ row_line old else lost_line (row_line old) ++ new_line (row_line new))
+    else (if has_fallen old new then fallen_word old.best ++ row_line old else lost_line (row_line old) ++ new_line (row_line new))
 
 -- the same where one of them may be missing
 abbrev pub change : Option RowValue → Option RowValue → List ℕ
@@ -196,16 +205,16 @@ abbrev pub shard_changes :
 shard_changes row row_now shards shards_now ids =
     flat_map (λ id. shard_change row row_now (owned_by id shards) (owned_by id shards_now)) ids
 
--- the line of a shard's locator by what is found on a disk
-abbrev pub row_in : Scrubbed → ℕ → Checked → RowValue
-row_in s = row_by (spares_of s.all) s.all
+-- the line of a shard's locator by what is found on a disk, and by its loose frames
+abbrev pub row_in : Scrubbed → List Standing → ℕ → Checked → RowValue
+row_in s loose = row_by (best_of s.all loose) s.all
 
--- the lines of what became of a manifest but its last line
-abbrev pub manifest_changes : Scrubbed → Scrubbed → List ShardId → List ℕ
-manifest_changes found kept ids =
+-- the lines of what became of a manifest but its last line, by what is found on two disks, and by the loose frames of both
+abbrev pub manifest_changes : Scrubbed → Scrubbed → List Standing → List Standing → List ShardId → List ℕ
+manifest_changes found kept loose loose_now ids =
     retired_change found.plan.retired kept.plan.retired
     ++ runs_change (lost_runs found) (hidden_runs found) (lost_runs kept) (hidden_runs kept)
-    ++ shard_changes (row_in found) (row_in kept) (of_shards found.checked) (of_shards kept.checked) ids
+    ++ shard_changes (row_in found loose) (row_in kept loose_now) (of_shards found.checked) (of_shards kept.checked) ids
 
 -- one of these bindings has the identifier
 abbrev pub HasBinding : List BindingValue → ShardId → Type 0
@@ -219,12 +228,15 @@ pub record AreBoundIds (old new : List BindingValue) (ids : List ShardId) : Type
 -- ---- the whole text
 
 -- of two images what is found in the earlier one, in the later one (`rest`), and in that as if extents had
--- been reset (`kept`); what the pages of extent 0 of both are; the first byte that changed and may not, of
--- extent 0 and of each other one; and the shards that either binds
+-- been reset (`kept`); the loose frames of the earlier one, and of the later one outside of these extents; what
+-- the pages of extent 0 of both are; the first byte that changed and may not, of extent 0 and of each other
+-- one; and the shards that either binds
 pub record Compared : Type 0 where
   pub found : Scrubbed
   pub rest : Scrubbed
   pub kept : Scrubbed
+  pub loose : LooseValue
+  pub loose_now : LooseValue
   pub pages : List SuperblockPage
   pub pages_now : List SuperblockPage
   pub first : Option ℕ
@@ -236,6 +248,8 @@ pub record AreCompared (resets : List ℕ) (before after : Image) (c : Compared)
   pub found : IsScrubbed before c.found
   pub rest : IsScrubbed after c.rest
   pub kept : IsScrubbedBut resets after c.kept
+  pub loose : AreLoose [] before c.found.plan c.loose
+  pub loose_now : AreLoose resets after c.kept.plan c.loose_now
   pub pages : AreSuperblockPages before c.pages
   pub pages_now : AreSuperblockPages after c.pages_now
   pub first : IsLeastNumber (IsWrittenInRecords before after) c.first
@@ -252,7 +266,7 @@ changes resets c =
     written_line 0 c.first
     ++ extent_lines resets c.found c.rest c.firsts
     ++ named_lines resets c.rest.checked
-    ++ manifest_changes c.found c.kept c.ids
+    ++ manifest_changes c.found c.kept c.loose.frames c.loose_now.frames c.ids
 
 -- the generation of the superblock that counts, if one does
 abbrev pub generation_of : Choice → Option ℕ

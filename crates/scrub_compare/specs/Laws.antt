@@ -7,9 +7,10 @@ use Rattle.scrub_scan.specs.declared.item.Item.{Item}
 use Rattle.scrub_scan.specs.Scanned.{Scanned}
 use Rattle.scrub_check.specs.declared.statuses.checked.Checked.{Checked}
 use Rattle.scrub_check.specs.Live.{is_chunk}
+use Rattle.scrub_loose.specs.Anywhere.{IsCrowded}
 use Rattle.scrub_found.specs.Scrubbed.{Scrubbed}
 use Rattle.scrub_listings.specs.Manifest.{retired_line, runs_line, total_line}
-use Rattle.scrub_reclaim.specs.Copy.{IsSameOrSpared}
+use Rattle.scrub_reclaim.specs.Copy.{IsSameOrRisen}
 use Rattle.scrub_reclaim.specs.Reset.{IsPlanIn}
 use Rattle.scrub_compare.specs.Written.{pointer_in}
 use Rattle.scrub_compare.specs.Compare.{IsComparison}
@@ -43,7 +44,7 @@ abbrev pub KeepsChunks : List ℕ → Scrubbed → Scrubbed → Type 0
 KeepsChunks resets found rest = All (λ f. ¬ Contains resets f.extent → HasItsChunks rest f) found.all
 
 -- two manifests say that no run is lost, and are the same, except that in the second one fewer runs may be
--- hidden, and that lines which end in the word `none` may end in `spare`
+-- hidden, and the last words of lines may have risen, from `none` over `loose` to `spare`
 pub record IsSameButMore (a b : List ℕ) : Type 0 where
   pub retired : List ℕ
   pub hidden : ℕ
@@ -53,7 +54,7 @@ pub record IsSameButMore (a b : List ℕ) : Type 0 where
   pub parts : List (List ℕ)
   pub others : List (List ℕ)
   pub fewer : hidden_now ≤ hidden
-  pub each : AllZip IsSameOrSpared parts others
+  pub each : AllZip IsSameOrRisen parts others
   pub a_is : a ≡ retired_line retired ++ runs_line 0 hidden ++ flat_map (λ part. part) parts ++ total_line shards locators
   pub b_is : b ≡ retired_line retired ++ runs_line 0 hidden_now ++ flat_map (λ part. part) others ++ total_line shards locators
 
@@ -71,3 +72,9 @@ pub record IsUndone (before after undone : Image) : Type 0 where
   pub runs : new.runs ≡ old.runs
   pub retired : new.retired ≡ old.retired
   pub pointers : new.pointers ≡ old.pointers
+
+-- no extent in use of an image is crowded
+pub record NoneIsCrowded (image : Image) : Type 0 where
+  pub plan : PlanValue
+  pub is : IsPlanIn image plan
+  pub sparse : All (λ e. ¬ IsCrowded image e) plan.planned

@@ -9,8 +9,8 @@ ghost use Rattle.scrub_compare.specs.Laws.{IsSafe, IsSameButMore};
 /// A law: if what was written between two images is safe, nothing that is named is lost. Take an image that
 /// differs from the later one only in this: the extents to be reset have the write pointer 0 and any bytes,
 /// and the generation and the bytes of extent 0 may be others. All its index runs are read. Its manifest is
-/// that of the earlier image, except that fewer runs may be hidden, and a locator without spares may have got
-/// some.
+/// that of the earlier image, except that fewer runs may be hidden, and last words may have risen (from `none`
+/// over `loose` to `spare`): a locator that dangles may have got a better copy, and has lost none.
 pub fn nothing_is_lost()
     ensures { (resets : List ℕ) (before after other : Image) (a b : List ℕ) (v w : Bool) →
         IsSafe resets before after → IsForeseen resets after other → IsManifest before a v →

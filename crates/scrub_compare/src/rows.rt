@@ -3,16 +3,18 @@
 ghost use Rattle.std.specs.Prelude.{◌≡◌, ◌++◌, IfOk, OnOk, string_bytes};
 ghost use Rattle.std.specs.List.{flat_map};
 ghost use Rattle.std.specs.Str.{bytes_eq};
-ghost use Rattle.scrub_compare.specs.Compare.{are_alike, change, has_lost_spares, has_no_less};
-ghost use Rattle.scrub_compare.specs.Compare.{has_none_left, lost_line, new_line, numbered, owned_by};
-ghost use Rattle.scrub_compare.specs.Compare.{place_or_form, row_change, row_line, shard_change};
-ghost use Rattle.scrub_compare.specs.Compare.{shard_changes, spare_word};
-ghost use Rattle.scrub_compare.specs.steps.Rows.{AreByOwner, has_spares_among, owner_cmp, row_among};
+ghost use Rattle.scrub_reclaim.specs.Copy.{rank};
+ghost use Rattle.scrub_compare.specs.Compare.{are_alike, change, fallen_word, has_fallen, has_less};
+ghost use Rattle.scrub_compare.specs.Compare.{has_no_less, is_worse, last_word, lost_line, new_line};
+ghost use Rattle.scrub_compare.specs.Compare.{numbered, owned_by, place_or_form, row_change, row_line};
+ghost use Rattle.scrub_compare.specs.Compare.{shard_change, shard_changes};
+ghost use Rattle.scrub_compare.specs.steps.Rows.{AreByOwner, best_if_dangling, owner_cmp, row_among};
 ghost use Rattle.scrub_compare.specs.steps.Rows.{stem_text};
 
-use scrub_check::{Checked, Owner, Spares, form_at};
+use scrub_check::{Checked, Owner, form_at};
 use scrub_disk::{OutOfMemory, PageSource};
 use scrub_listings::manifest::{append_form, append_place, append_text};
+use scrub_loose::{BestCopy, Copies};
 use scrub_run::ShardId;
 use scrub_scan::AllFindings;
 use std::alloc::Global;
@@ -25,18 +27,18 @@ use std::marker::Model;
 pub(crate) struct Side<'p, 'd, D: PageSource> {
     /// What was scanned.
     pub all: &'p AllFindings<'d, D>,
-    /// The spares of all named locators.
-    pub spares: &'p Spares,
+    /// The copies of all named locators.
+    pub copies: &'p Copies,
     /// The locators of the shards, shard by shard in ascending order.
     pub shards: &'p [Checked],
 }
 
-/// The line of a shard's locator in two parts: what comes before the word for spares, and whether there are
-/// spares, if the locator dangles.
+/// The line of a shard's locator in two parts: what comes before its last word, and the best copy, if the
+/// locator dangles.
 #[derive(Drop)]
 struct Row {
     stem: String,
-    has_spares: Option<bool>,
+    best: Option<BestCopy>,
 }
 
 impl Model for Row {
@@ -45,7 +47,7 @@ impl Model for Row {
 
     ghost Value = { RowValue };
 
-    ghost view = { λ r. record { stem = string_bytes r.stem; has_spares = r.has_spares } };
+    ghost view = { λ r. record { stem = string_bytes r.stem; best = r.best } };
 }
 
 /// How an owner stands to an identifier: a run is below each.
@@ -68,7 +70,7 @@ fn owned_by<'c>(shards: &'c [Checked], id: ShardId) -> &'c [Checked]
     &shards[below..through]
 }
 
-/// Appends what follows a locator's status, up to the word for spares.
+/// Appends what follows a locator's status, up to the last word.
 fn append_place_or_form<D: PageSource>(
     text: &mut String,
     all: &AllFindings<'_, D>,
@@ -83,7 +85,7 @@ fn append_place_or_form<D: PageSource>(
     append_place(text, &one.locator)
 }
 
-/// The line of a shard's locator of this number up to the word for spares.
+/// The line of a shard's locator of this number up to its last word.
 fn stem_of<D: PageSource>(
     alloc: Global,
     all: &AllFindings<'_, D>,
@@ -98,12 +100,12 @@ fn stem_of<D: PageSource>(
     Ok(text)
 }
 
-/// Whether a locator has spares, if it dangles.
-fn has_spares(spares: &Spares, one: &Checked) -> Option<bool>
-    ensures { result ≡ has_spares_among spares.now one.now }
+/// The best copy of a locator, if it dangles.
+fn best_copy(copies: &Copies, one: &Checked) -> Option<BestCopy>
+    ensures { result ≡ best_if_dangling copies.now one.now }
 {
     if one.status.is_dangling() {
-        Some(!spares.of_one(one).is_empty())
+        Some(copies.best(one))
     } else {
         None
     }
@@ -117,11 +119,11 @@ fn row_of<D: PageSource>(
     one: &Checked,
 ) -> Result<Row, OutOfMemory>
     ensures { IfOk result (λ row. row ≡
-        row_among side.now.all.now.extents side.now.spares.now number one.now) }
+        row_among side.now.all.now.extents side.now.copies.now number one.now) }
 {
     let stem = stem_of(alloc, side.all, number, one)?;
-    let has_spares = has_spares(side.spares, one);
-    Ok(Row { stem, has_spares })
+    let best = best_copy(side.copies, one);
+    Ok(Row { stem, best })
 }
 
 /// The line of this number, if a shard has such a locator.
@@ -132,7 +134,7 @@ fn numbered<D: PageSource>(
     number: usize,
 ) -> Result<Option<Row>, OutOfMemory>
     ensures { IfOk result (λ row. row ≡
-        numbered (row_among side.now.all.now.extents side.now.spares.now) own.now number) }
+        numbered (row_among side.now.all.now.extents side.now.copies.now) own.now number) }
 {
     match own.get(number) {
         Some(one) => Ok(Some(row_of(alloc, side, number, one)?)),
@@ -140,13 +142,14 @@ fn numbered<D: PageSource>(
     }
 }
 
-/// The word for spares, with a space before it.
-fn spare_word(has_spares: Option<bool>) -> &'static str
-    ensures { result.now ≡ spare_word has_spares }
+/// The last word, with a space before it.
+fn last_word(best: Option<BestCopy>) -> &'static str
+    ensures { result.now ≡ last_word best }
 {
-    match has_spares {
-        Some(true) => " spare",
-        Some(false) => " none",
+    match best {
+        Some(BestCopy::Spare) => " spare",
+        Some(BestCopy::Loose) => " loose",
+        Some(BestCopy::Nowhere) => " none",
         None => "",
     }
 }
@@ -155,7 +158,7 @@ fn spare_word(has_spares: Option<bool>) -> &'static str
 fn append_row(text: &mut String, row: &Row) -> Result<(), OutOfMemory>
     ensures { OnOk result (string_bytes text.new ≡ string_bytes text.old ++ row_line row.now) }
 {
-    let word = spare_word(row.has_spares);
+    let word = last_word(row.best);
     let stem = row.stem.as_str();
     writeln!(text, "{stem}{word}")
 }
@@ -183,39 +186,77 @@ fn is_same_text(old: &str, new: &str) -> bool
     old == new
 }
 
-/// Whether the word for spares is the same, or `none` became `spare`.
-fn has_no_less(old: Option<bool>, new: Option<bool>) -> bool
+/// How good a copy is: last words rise with it.
+fn rank(best: BestCopy) -> u8
+    ensures { result ≡ rank best }
+{
+    match best {
+        BestCopy::Nowhere => 0,
+        BestCopy::Loose => 1,
+        BestCopy::Spare => 2,
+    }
+}
+
+/// Whether the first is the worse copy.
+fn is_worse(one: BestCopy, other: BestCopy) -> bool
+    ensures { result ≡ is_worse one other }
+{
+    rank(one) < rank(other)
+}
+
+/// Whether the last word is the same, or rises.
+fn has_no_less(old: Option<BestCopy>, new: Option<BestCopy>) -> bool
     ensures { result ≡ has_no_less old new }
 {
     match (old, new) {
-        (Some(had), Some(has)) => !had || has,
+        (Some(had), Some(has)) => !is_worse(has, had),
         (None, None) => true,
         _ => false,
     }
 }
 
-/// Whether `spare` became `none`.
-fn has_none_left(old: Option<bool>, new: Option<bool>) -> bool
-    ensures { result ≡ has_none_left old new }
+/// Whether the last word falls.
+fn has_less(old: Option<BestCopy>, new: Option<BestCopy>) -> bool
+    ensures { result ≡ has_less old new }
 {
     match (old, new) {
-        (Some(had), Some(has)) => had && !has,
+        (Some(had), Some(has)) => is_worse(has, had),
         _ => false,
     }
 }
 
-/// Whether two lines are the same, or differ only in `none` that became `spare`.
+/// Whether two lines are the same, or differ only in a last word that rises.
 fn are_alike(old: &Row, new: &Row) -> bool
     ensures { result ≡ are_alike old.now new.now }
 {
-    is_same_text(&old.stem, &new.stem) && has_no_less(old.has_spares, new.has_spares)
+    is_same_text(&old.stem, &new.stem) && has_no_less(old.best, new.best)
 }
 
-/// Whether two lines differ only in `spare` that became `none`.
-fn has_lost_spares(old: &Row, new: &Row) -> bool
-    ensures { result ≡ has_lost_spares old.now new.now }
+/// Whether two lines differ only in a last word that falls.
+fn has_fallen(old: &Row, new: &Row) -> bool
+    ensures { result ≡ has_fallen old.now new.now }
 {
-    is_same_text(&old.stem, &new.stem) && has_none_left(old.has_spares, new.has_spares)
+    is_same_text(&old.stem, &new.stem) && has_less(old.best, new.best)
+}
+
+/// What the line of a last word that falls begins with: the word that it was.
+fn fallen_word(best: Option<BestCopy>) -> &'static str
+    ensures { result.now ≡ fallen_word best }
+{
+    match best {
+        Some(BestCopy::Spare) => "spare ",
+        _ => "loose ",
+    }
+}
+
+/// Appends the line of a last word that falls: the word that it was, and the earlier line.
+fn append_fallen(text: &mut String, old: &Row) -> Result<(), OutOfMemory>
+    ensures { OnOk result (string_bytes text.new ≡ string_bytes text.old ++
+        (fallen_word old.now.best ++ row_line old.now)) }
+{
+    let word = fallen_word(old.best);
+    write!(text, "{word}")?;
+    append_row(text, old)
 }
 
 /// Appends the lines of what became of a line.
@@ -225,9 +266,8 @@ fn append_row_change(text: &mut String, old: &Row, new: &Row) -> Result<(), OutO
     if are_alike(old, new) {
         return Ok(());
     }
-    if has_lost_spares(old, new) {
-        write!(text, "spare ")?;
-        return append_row(text, old);
+    if has_fallen(old, new) {
+        return append_fallen(text, old);
     }
     append_lost(text, old)?;
     append_new(text, new)
@@ -256,8 +296,8 @@ fn append_number<D: PageSource, E: PageSource>(
     number: usize,
 ) -> Result<(), OutOfMemory>
     ensures { OnOk result (string_bytes text.new ≡ string_bytes text.old ++
-        change (numbered (row_among before.now.all.now.extents before.now.spares.now) own.now number)
-        (numbered (row_among after.now.all.now.extents after.now.spares.now) own_now.now number)) }
+        change (numbered (row_among before.now.all.now.extents before.now.copies.now) own.now number)
+        (numbered (row_among after.now.all.now.extents after.now.copies.now) own_now.now number)) }
 {
     let old = numbered(alloc, before, own, number)?;
     let new = numbered(alloc, after, own_now, number)?;
@@ -274,8 +314,8 @@ fn append_shard<D: PageSource, E: PageSource>(
     own_now: &[Checked],
 ) -> Result<(), OutOfMemory>
     ensures { OnOk result (string_bytes text.new ≡ string_bytes text.old ++
-        shard_change (row_among before.now.all.now.extents before.now.spares.now)
-        (row_among after.now.all.now.extents after.now.spares.now) own.now own_now.now) }
+        shard_change (row_among before.now.all.now.extents before.now.copies.now)
+        (row_among after.now.all.now.extents after.now.copies.now) own.now own_now.now) }
 {
     for number in 0..own.len().max(own_now.len()) {
         append_number(alloc, text, before, after, own, own_now, number)?;
@@ -294,8 +334,8 @@ pub(crate) fn append_shards<D: PageSource, E: PageSource>(
     requires before { AreByOwner before.now.shards.now }
     requires after { AreByOwner after.now.shards.now }
     ensures { OnOk result (string_bytes text.new ≡ string_bytes text.old ++
-        shard_changes (row_among before.now.all.now.extents before.now.spares.now)
-        (row_among after.now.all.now.extents after.now.spares.now)
+        shard_changes (row_among before.now.all.now.extents before.now.copies.now)
+        (row_among after.now.all.now.extents after.now.copies.now)
         before.now.shards.now after.now.shards.now ids.now) }
 {
     for id in ids {

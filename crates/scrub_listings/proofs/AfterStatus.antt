@@ -1,16 +1,18 @@
--- What the code appends after each status, by the spares that it found, is what the definition says.
-use Rattle.std.proofs.Common.{◌≡◌, ◌++◌, ◌∷◌, ◌+◌, [], ℕ, Bool, List, codes, get_or, length, refl, ap, if◌then◌else◌}
+-- What the code appends after each status, by the copies that it found, is what the definition says.
+use Rattle.std.proofs.Common.{◌≡◌, ◌++◌, ◌∷◌, ◌+◌, [], ℕ, Bool, List, codes, get_or, length, refl, if◌then◌else◌}
 use Rattle.std.proofs.Math.Path.{ap₂}
 use Rattle.std.specs.List.{All, enumerate_from, filter, flat_map}
 use Rattle.std.proofs.lemmas.List.Elements.{All-contains_itself, All-filter, All-head, All-tail}
+use Rattle.scrub_disk.specs.Image.{Image}
+use Rattle.scrub_super.specs.Plan.{PlanValue}
 use Rattle.scrub_merge.specs.Binding.{BindingValue}
 use Rattle.scrub_run.specs.declared.shard_id.ShardId.{ShardId}
-use Rattle.scrub_scan.specs.declared.standing.Standing.{Standing}
 use Rattle.scrub_scan.specs.Scanned.{Scanned}
 use Rattle.scrub_check.specs.declared.statuses.checked.Checked.{Checked}
 use Rattle.scrub_check.specs.Checked.{is_owned_by}
 use Rattle.scrub_check.specs.ChunkForms.{form_at}
-use Rattle.scrub_check.specs.Spares.{AreSpares}
+use Rattle.scrub_loose.specs.Copies.{CopiesValue}
+use Rattle.scrub_loose.specs.Loose.{AreCopies, best_among}
 use Rattle.scrub_listings.specs.Manifest.{after_status, after_status_in, is_of_shard, numbered_text, of_shards, retired_line, runs_line, shard_lines, text_by, total_line}
 use Rattle.scrub_listings.specs.steps.Manifest.{after_status_by}
 use Rattle.scrub_listings.proofs.ShardLines.{line_of}
@@ -40,11 +42,12 @@ text_alike f g has retired lost hidden bs cs same =
     if has then retired_line retired ++ runs_line lost hidden ++ flat_map (λ b. each b.id i) bs ++ total_line (length bs) (length cs)
     else codes "no-superblock" ++ 10 ∷ []
 
--- By the spares that it found, the code appends after each shard's status what the definition says.
-pub found_alike : (all : List Scanned) (checked : List Checked) (found : List Standing) → AreSpares all checked found →
-    AreAfterAlike (after_status_by all found) (after_status_in all) (of_shards checked)
-found_alike all checked found are =
-    All-filter (λ c. is_of_shard c.owner) (λ c. after_status_by all found c ≡ after_status_in all c) checked
+-- By the copies that it found, the code appends after each shard's status what the definition says.
+pub found_alike : (resets : List ℕ) (image : Image) (plan : PlanValue) (all : List Scanned) (checked : List Checked) (v : CopiesValue)
+    (are : AreCopies resets image plan all checked v) → AreAfterAlike (after_status_by all v) (after_status_in all are.found.frames) (of_shards checked)
+found_alike resets image plan all checked v are =
+    All-filter (λ c. is_of_shard c.owner) (λ c. after_status_by all v c ≡ after_status_in all are.found.frames c) checked
     (λ i d below.
     let c : Checked = get_or checked i d in
-    ap (λ (ss : List Standing). after_status (form_at all c.locator) ss c) (are c (All-contains_itself checked i d below)))
+    let there = All-contains_itself checked i d below in
+    λ j. after_status (form_at all c.locator) (best_among (are.spares c there j) (are.loose c there j)) c)

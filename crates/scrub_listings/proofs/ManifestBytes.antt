@@ -1,6 +1,6 @@
 -- In images of bytes the texts of a manifest are those of one identifier and one digest, and what follows a status is that of one
 -- form or of one place.
-use Rattle.std.proofs.Common.{◌≡◌, ◌≢◌, ◌<◌, ◌+◌, ◌^◌, ◌++◌, ◌∷◌, ◌==◌, ◌&&◌, [], ℕ, Bool, true, false, not, Option, Some, None, List, length, map, drop, get_or, Contains, arith, refl, sym, ◌∙◌, ap, subst, append_assoc, inl, inr, if◌then◌else◌}
+use Rattle.std.proofs.Common.{◌≡◌, ◌≢◌, ◌<◌, ◌+◌, ◌^◌, ◌++◌, ◌∷◌, ◌&&◌, [], ℕ, Bool, true, false, not, Option, Some, None, List, length, map, drop, get_or, Contains, arith, refl, sym, ◌∙◌, ap, subst, append_assoc, inl, inr, if◌then◌else◌}
 use Rattle.std.specs.Prelude.{codes, slice_index}
 use Rattle.std.specs.Fmt.{decimal}
 use Rattle.std.specs.Str.{bytes_eq}
@@ -23,7 +23,9 @@ use Rattle.scrub_frame.specs.declared.locator.Locator.{Locator}
 use Rattle.scrub_frame.specs.Frame.{frame_of, head, mark, seal}
 use Rattle.scrub_frame.specs.Locator.{locator_bytes}
 use Rattle.scrub_scan.specs.Extent.{extent_of, FrameAt}
+use Rattle.scrub_scan.specs.Line.{spaced}
 use Rattle.scrub_scan.specs.Scanned.{Scanned}
+use Rattle.scrub_scan.specs.declared.standing.Standing.{Standing}
 use Rattle.scrub_run.specs.declared.shard_id.ShardId.{ShardId}
 use Rattle.scrub_run.specs.Entry.{EntryValue, entry_bytes}
 use Rattle.scrub_run.specs.Run.{IsRun, run_body, run_bytes, run_magic}
@@ -35,13 +37,15 @@ use Rattle.scrub_check.specs.declared.statuses.status.Status.{Status}
 use Rattle.scrub_check.specs.Checked.{is_dangling, is_hidden, is_sound, named_of}
 use Rattle.scrub_check.specs.ChunkForms.{form_at}
 use Rattle.scrub_check.specs.Named.{named_by_shard}
-use Rattle.scrub_check.specs.Spares.{spares_of}
+use Rattle.scrub_loose.specs.Loose.{best_of}
+use Rattle.scrub_loose.specs.declared.copies.BestCopy.{BestCopy}
+use Rattle.scrub_loose.specs.declared.copies.BestCopy.TheVariants.{Nowhere, Loose, Spare}
 use Rattle.scrub_check.specs.Status.{FindsFrame, NamesChunk}
 use Rattle.scrub_found.specs.Resets.{IsScrubbedBut}
 use Rattle.scrub_found.specs.Scrubbed.{Scrubbed}
 use Rattle.scrub_found.specs.Texts.{owner_text, uuid_text}
 use Rattle.scrub_found.proofs.OneIndex.{read_of}
-use Rattle.scrub_listings.specs.Manifest.{HeldValue, HoldsBytes, TraitsValue, all_held, all_traits, form_text, held_locator, looked_for, of_shards, traits}
+use Rattle.scrub_listings.specs.Manifest.{HeldValue, HoldsBytes, TraitsValue, all_held, all_traits, copy_word, form_text, held_locator, looked_for, of_shards, traits}
 use Rattle.scrub_listings.proofs.ManifestTexts.{HasSmallNumbers, IsSmall, small}
 use Rattle.scrub_listings.proofs.WordLines.{split_at_first_injective, decimal_word, not_space, uuid_word}
 use Rattle.scrub_listings.proofs.ShardLines.{along_runs, shards_part, All-map-back}
@@ -172,21 +176,30 @@ form_back (Some Sealed) = refl
 same_form : (a b : Option Form) → form_text a ≡ form_text b → a ≡ b
 same_form a b e = sym (form_back a) ∙ ap form_of_text e ∙ form_back b
 
--- whether there are no spares, by the texts after two UUIDs
-abbrev spare_word : Bool → Bool → List ℕ
-spare_word dangling none = if dangling then (if none then codes " none" else codes " spare") else []
+-- the best copy by its word
+best_of_word : List ℕ → BestCopy
+best_of_word u = if bytes_eq u (codes "none") then Nowhere else (if bytes_eq u (codes "loose") then Loose else Spare)
 
-same_spare : (dangling none none' : Bool) (u v : List ℕ) → All (λ b. b ≢ 32) u → All (λ b. b ≢ 32) v →
-    u ++ spare_word dangling none ≡ v ++ spare_word dangling none' → (dangling && none) ≡ (dangling && none')
-same_spare false none none' u v hu hv e = refl
-same_spare true true true u v hu hv e = refl
-same_spare true false false u v hu hv e = refl
-same_spare true true false u v hu hv e =
-    let first : 110 ≡ 115 = ap (λ (w : List ℕ). get_or w 0 0) (split_at_first_injective 32 u v (codes "none") (codes "spare") hu hv e).1 in
-    absurd (omega (arith, first))
-same_spare true false true u v hu hv e =
-    let first : 115 ≡ 110 = ap (λ (w : List ℕ). get_or w 0 0) (split_at_first_injective 32 u v (codes "spare") (codes "none") hu hv e).1 in
-    absurd (omega (arith, first))
+best_back : (best : BestCopy) → best_of_word (copy_word best) ≡ best
+unfolding best_of_word
+best_back Nowhere = refl
+best_back Loose = refl
+best_back Spare = refl
+
+-- the word for the best copy of what dangles, and that copy
+abbrev best_word : Bool → BestCopy → List ℕ
+best_word dangling best = if dangling then spaced (copy_word best) else []
+
+abbrev best_if : Bool → BestCopy → Option BestCopy
+best_if dangling best = if dangling then Some best else None
+
+-- the best copies, by the texts after two UUIDs
+same_best : (dangling : Bool) (best other : BestCopy) (u v : List ℕ) → All (λ b. b ≢ 32) u → All (λ b. b ≢ 32) v →
+    u ++ best_word dangling best ≡ v ++ best_word dangling other → best_if dangling best ≡ best_if dangling other
+same_best false best other u v hu hv e = refl
+same_best true best other u v hu hv e =
+    let word = (split_at_first_injective 32 u v (copy_word best) (copy_word other) hu hv e).1 in
+    ap (λ (b : BestCopy). Some b) (sym (best_back best) ∙ ap best_of_word word ∙ best_back other)
 
 -- the places and the texts after their offsets
 places_grouped : (e o u x : List ℕ) →
@@ -212,25 +225,25 @@ same_place l m x y hl hm e =
 abbrev place_but : Bool → Locator → Option (ℕ × ℕ)
 place_but sound l = if sound then None else Some (l.extent, l.offset)
 
--- the same is said of two locators with one status: the forms, the places, and whether there are no spares
-record SayTheSame (sound hides none none' : Bool) (form form' : Option Form) (l m : Locator) : Type 0 where
+-- the same is said of two locators with one status: the forms, the places, and the best copies
+record SayTheSame (sound hides : Bool) (best other : BestCopy) (form form' : Option Form) (l m : Locator) : Type 0 where
   forms : (if sound then form else None) ≡ (if sound then form' else None)
   places : place_but sound l ≡ place_but sound m
-  spares : (not sound && not hides && none) ≡ (not sound && not hides && none')
+  copies : best_if (not sound && not hides) best ≡ best_if (not sound && not hides) other
 
-abbrev said_by : Bool → Bool → Bool → Option Form → Locator → List ℕ
-said_by sound hides none form l = if sound then form_text form else looked_for l ++ spare_word (not sound && not hides) none
+abbrev said_by : Bool → Bool → BestCopy → Option Form → Locator → List ℕ
+said_by sound hides best form l = if sound then form_text form else looked_for l ++ best_word (not sound && not hides) best
 
-same_after : (sound hides none none' : Bool) (form form' : Option Form) (l m : Locator) → HasSmallNumbers l → HasSmallNumbers m →
-    said_by sound hides none form l ≡ said_by sound hides none' form' m → SayTheSame sound hides none none' form form' l m
-same_after true hides none none' form form' l m hl hm e =
-    record { forms = same_form form form' e; places = refl; spares = refl }
-same_after false hides none none' form form' l m hl hm e =
-    let parts = same_place l m (spare_word (not hides) none) (spare_word (not hides) none') hl hm e in
+same_after : (sound hides : Bool) (best other : BestCopy) (form form' : Option Form) (l m : Locator) → HasSmallNumbers l → HasSmallNumbers m →
+    said_by sound hides best form l ≡ said_by sound hides other form' m → SayTheSame sound hides best other form form' l m
+same_after true hides best other form form' l m hl hm e =
+    record { forms = same_form form form' e; places = refl; copies = refl }
+same_after false hides best other form form' l m hl hm e =
+    let parts = same_place l m (best_word (not hides) best) (best_word (not hides) other) hl hm e in
     record {
       forms = refl;
       places = λ i. Some (parts.0 i, parts.1 i);
-      spares = same_spare (not hides) none none' (uuid_text l.uuid) (uuid_text m.uuid) (not_space (uuid_text l.uuid) (uuid_word l.uuid)) (not_space (uuid_text m.uuid) (uuid_word m.uuid)) parts.2;
+      copies = same_best (not hides) best other (uuid_text l.uuid) (uuid_text m.uuid) (not_space (uuid_text l.uuid) (uuid_word l.uuid)) (not_space (uuid_text m.uuid) (uuid_word m.uuid)) parts.2;
     }
 
 -- ---- what a manifest says of a locator
@@ -247,11 +260,12 @@ all_known resets image s x bytes =
     λ k d below. record { name = checked_of_bytes resets image s x bytes k d below; numbers = numbers k d below }
 
 same_traits : (u v : TraitsValue) → u.owner ≡ v.owner → u.length ≡ v.length → u.digest ≡ v.digest → u.status ≡ v.status →
-    u.form ≡ v.form → u.place ≡ v.place → u.is_without_spare ≡ v.is_without_spare → u ≡ v
-same_traits u v ho hl hd hs hf hp hw =
-    λ i. record { owner = ho i; length = hl i; digest = hd i; status = hs i; form = hf i; place = hp i; is_without_spare = hw i }
+    u.form ≡ v.form → u.place ≡ v.place → u.best ≡ v.best → u ≡ v
+same_traits u v ho hl hd hs hf hp hb =
+    λ i. record { owner = ho i; length = hl i; digest = hd i; status = hs i; form = hf i; place = hp i; best = hb i }
 
-module _ (all others : List Scanned) (c d : Checked) (hc : IsKnown c) (hd : IsKnown d) (e : held_locator all c ≡ held_locator others d) where
+module _ (all : List Scanned) (loose : List Standing) (others : List Scanned) (more : List Standing) (c d : Checked) (hc : IsKnown c)
+    (hd : IsKnown d) (e : held_locator all loose c ≡ held_locator others more d) where
   same_owner : c.owner ≡ d.owner
   same_owner =
       let text : codes "shard " ++ encode_lower hc.name.id.0 ≡ codes "shard " ++ encode_lower hd.name.id.0 =
@@ -264,33 +278,33 @@ module _ (all others : List Scanned) (c d : Checked) (hc : IsKnown c) (hd : IsKn
   same_status = ap (λ (h : HeldValue). h.status) e
 
   -- what both say by the first one's status
-  same_said : SayTheSame (is_sound c.status) (is_hidden c.status) (length (spares_of all c) == 0) (length (spares_of others d) == 0) (form_at all c.locator) (form_at others d.locator) c.locator d.locator
+  same_said : SayTheSame (is_sound c.status) (is_hidden c.status) (best_of all loose c) (best_of others more d) (form_at all c.locator) (form_at others d.locator) c.locator d.locator
   same_said =
-      same_after (is_sound c.status) (is_hidden c.status) (length (spares_of all c) == 0) (length (spares_of others d) == 0) (form_at all c.locator) (form_at others d.locator) c.locator d.locator hc.numbers hd.numbers
+      same_after (is_sound c.status) (is_hidden c.status) (best_of all loose c) (best_of others more d) (form_at all c.locator) (form_at others d.locator) c.locator d.locator hc.numbers hd.numbers
       (ap (λ (h : HeldValue). h.after) e
-      ∙ ap (λ (s : Status). said_by (is_sound s) (is_hidden s) (length (spares_of others d) == 0) (form_at others d.locator) d.locator) (sym same_status))
+      ∙ ap (λ (s : Status). said_by (is_sound s) (is_hidden s) (best_of others more d) (form_at others d.locator) d.locator) (sym same_status))
 
-  same_one : traits all c ≡ traits others d
+  same_one : traits all loose c ≡ traits others more d
   same_one =
-      same_traits (traits all c) (traits others d) same_owner (ap (λ (h : HeldValue). h.length) e)
+      same_traits (traits all loose c) (traits others more d) same_owner (ap (λ (h : HeldValue). h.length) e)
       (same_hex c.locator.digest d.locator.digest hc.name.digest hd.name.digest (ap (λ (h : HeldValue). h.digest) e))
       same_status
       (same_said.forms ∙ ap (λ (s : Status). if is_sound s then form_at others d.locator else None) same_status)
       (same_said.places ∙ ap (λ (s : Status). place_but (is_sound s) d.locator) same_status)
-      (same_said.spares ∙ ap (λ (s : Status). is_dangling s && length (spares_of others d) == 0) same_status)
+      (same_said.copies ∙ ap (λ (s : Status). best_if (is_dangling s) (best_of others more d)) same_status)
 
-same_all : (all others : List Scanned) (cs ds : List Checked) → All IsKnown cs → All IsKnown ds →
-    map (held_locator all) cs ≡ map (held_locator others) ds → map (traits all) cs ≡ map (traits others) ds
-same_all all others [] [] hc hd e = refl
-same_all all others [] (d ∷ ds) hc hd e = absurd (nil_has_no_first (held_locator others d) (map (held_locator others) ds) e)
-same_all all others (c ∷ cs) [] hc hd e = absurd (nil_has_no_first (held_locator all c) (map (held_locator all) cs) (sym e))
-same_all all others (c ∷ cs) (d ∷ ds) hc hd e =
+same_all : (all : List Scanned) (loose : List Standing) (others : List Scanned) (more : List Standing) (cs ds : List Checked) → All IsKnown cs → All IsKnown ds →
+    map (held_locator all loose) cs ≡ map (held_locator others more) ds → map (traits all loose) cs ≡ map (traits others more) ds
+same_all all loose others more [] [] hc hd e = refl
+same_all all loose others more [] (d ∷ ds) hc hd e = absurd (nil_has_no_first (held_locator others more d) (map (held_locator others more) ds) e)
+same_all all loose others more (c ∷ cs) [] hc hd e = absurd (nil_has_no_first (held_locator all loose c) (map (held_locator all loose) cs) (sym e))
+same_all all loose others more (c ∷ cs) (d ∷ ds) hc hd e =
     ap₂ (λ (h : TraitsValue) (t : List TraitsValue). h ∷ t)
-    (same_one all others c d (All-head IsKnown c cs hc) (All-head IsKnown d ds hd) (same_first (held_locator all c) (held_locator others d) (map (held_locator all) cs) (map (held_locator others) ds) e))
-    (same_all all others cs ds (All-tail IsKnown c cs hc) (All-tail IsKnown d ds hd) (same_behind_first (held_locator all c) (held_locator others d) (map (held_locator all) cs) (map (held_locator others) ds) e))
+    (same_one all loose others more c d (All-head IsKnown c cs hc) (All-head IsKnown d ds hd) (same_first (held_locator all loose c) (held_locator others more d) (map (held_locator all loose) cs) (map (held_locator others more) ds) e))
+    (same_all all loose others more cs ds (All-tail IsKnown c cs hc) (All-tail IsKnown d ds hd) (same_behind_first (held_locator all loose c) (held_locator others more d) (map (held_locator all loose) cs) (map (held_locator others more) ds) e))
 
 -- If manifests of images of bytes say the same of the shards' locators, these have the same traits.
-pub same_shards : (resets others : List ℕ) (image other : Image) (s t : Scrubbed) → IsScrubbedBut resets image s → IsScrubbedBut others other t → HoldsBytes image →
-    HoldsBytes other → all_held s ≡ all_held t → all_traits s ≡ all_traits t
-same_shards resets others image other s t x y bx by e =
-    same_all s.all t.all (of_shards s.checked) (of_shards t.checked) (all_known resets image s x bx) (all_known others other t y by) e
+pub same_shards : (resets others : List ℕ) (image other : Image) (s t : Scrubbed) (loose more : List Standing) → IsScrubbedBut resets image s → IsScrubbedBut others other t → HoldsBytes image →
+    HoldsBytes other → all_held s loose ≡ all_held t more → all_traits s loose ≡ all_traits t more
+same_shards resets others image other s t loose more x y bx by e =
+    same_all s.all loose t.all more (of_shards s.checked) (of_shards t.checked) (all_known resets image s x bx) (all_known others other t y by) e

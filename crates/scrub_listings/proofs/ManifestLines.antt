@@ -1,5 +1,5 @@
 -- The lines of a manifest: each is read in one way.
-use Rattle.std.proofs.Common.{◌≡◌, ◌≢◌, ◌<◌, ◌^◌, ◌++◌, ◌∷◌, ◌==◌, [], ℕ, Bool, true, false, Option, Some, None, List, length, map, get_or, arith, refl, sym, ◌∙◌, ap, subst, append_assoc, if◌then◌else◌}
+use Rattle.std.proofs.Common.{◌≡◌, ◌≢◌, ◌<◌, ◌^◌, ◌++◌, ◌∷◌, [], ℕ, Bool, true, false, Option, Some, None, List, map, get_or, arith, refl, sym, ◌∙◌, ap, subst, append_assoc, if◌then◌else◌}
 use Rattle.std.specs.Prelude.{codes}
 use Rattle.std.specs.Fmt.{decimal}
 use Rattle.std.specs.List.{All, flat_map}
@@ -13,6 +13,7 @@ use Rattle.scrub_frame.specs.declared.form.Form.TheVariants.{Plain, Sealed}
 use Rattle.scrub_frame.specs.declared.locator.Locator.{Locator}
 use Rattle.scrub_scan.specs.Line.{spaced}
 use Rattle.scrub_scan.specs.Scanned.{Scanned}
+use Rattle.scrub_scan.specs.declared.standing.Standing.{Standing}
 use Rattle.hex.specs.Hex.{encode_lower}
 use Rattle.scrub_run.specs.declared.shard_id.ShardId.{ShardId}
 use Rattle.scrub_check.specs.declared.named.Owner.{Owner}
@@ -20,9 +21,11 @@ use Rattle.scrub_check.specs.declared.named.Owner.TheVariants.{Shard}
 use Rattle.scrub_check.specs.declared.statuses.checked.Checked.{Checked}
 use Rattle.scrub_check.specs.Checked.{is_dangling, is_sound}
 use Rattle.scrub_check.specs.ChunkForms.{form_at}
-use Rattle.scrub_check.specs.Spares.{spares_of}
+use Rattle.scrub_loose.specs.Loose.{best_of}
+use Rattle.scrub_loose.specs.declared.copies.BestCopy.{BestCopy}
+use Rattle.scrub_loose.specs.declared.copies.BestCopy.TheVariants.{Nowhere, Loose, Spare}
 use Rattle.scrub_found.specs.Texts.{owner_text, status_text, uuid_text}
-use Rattle.scrub_listings.specs.Manifest.{HeldValue, after_status_in, form_text, form_word, held_locator, looked_for, spare_text, two_digits}
+use Rattle.scrub_listings.specs.Manifest.{HeldValue, after_status_in, copy_word, form_text, form_word, held_locator, looked_for, spare_text, two_digits}
 use Rattle.scrub_listings.proofs.WordLines.{Free, IsLine, IsWordByte, closed, decimal_word, hex_word, joined, line_of_literal, not_space, same_closed, same_status, spaced_line, split_at_first_injective, status_word, two_digits_word, uuid_word, word_line}
 
 -- ---- the line of the retired extents
@@ -124,15 +127,15 @@ pub record IsHeld (p : ℕ × Checked) : Type 0 where
 abbrev body_of : List ℕ → List ℕ → List ℕ → List ℕ → List ℕ → List ℕ → List ℕ
 body_of o n l d s r = o ++ (32 ∷ n) ++ (32 ∷ l) ++ (32 ∷ d) ++ (32 ∷ s) ++ r
 
-abbrev pub held_body : List Scanned → ℕ × Checked → List ℕ
-held_body all p =
-    body_of (owner_text p.1.owner) (two_digits p.0) (decimal p.1.locator.length) (encode_lower p.1.locator.digest) (status_text p.1.status) (after_status_in all p.1)
+abbrev pub held_body : List Scanned → List Standing → ℕ × Checked → List ℕ
+held_body all loose p =
+    body_of (owner_text p.1.owner) (two_digits p.0) (decimal p.1.locator.length) (encode_lower p.1.locator.digest) (status_text p.1.status) (after_status_in all loose p.1)
 
 -- the body by the text of the identifier
-by_id : (all : List Scanned) (p : ℕ × Checked) (h : IsHeld p) →
-    held_body all p ≡ body_of (codes "shard " ++ encode_lower h.id.0) (two_digits p.0) (decimal p.1.locator.length) (encode_lower p.1.locator.digest) (status_text p.1.status) (after_status_in all p.1)
-by_id all p h =
-    ap (λ (o : Owner). body_of (owner_text o) (two_digits p.0) (decimal p.1.locator.length) (encode_lower p.1.locator.digest) (status_text p.1.status) (after_status_in all p.1)) h.owner
+by_id : (all : List Scanned) (loose : List Standing) (p : ℕ × Checked) (h : IsHeld p) →
+    held_body all loose p ≡ body_of (codes "shard " ++ encode_lower h.id.0) (two_digits p.0) (decimal p.1.locator.length) (encode_lower p.1.locator.digest) (status_text p.1.status) (after_status_in all loose p.1)
+by_id all loose p h =
+    ap (λ (o : Owner). body_of (owner_text o) (two_digits p.0) (decimal p.1.locator.length) (encode_lower p.1.locator.digest) (status_text p.1.status) (after_status_in all loose p.1)) h.owner
 
 -- the line of a locator has no line feed before its end
 form_free : (form : Option Form) → IsLine (form_text form)
@@ -140,10 +143,14 @@ form_free None = All-nil (λ b. b ≢ 10)
 form_free (Some Plain) = line_of_literal (codes " plain") refl
 form_free (Some Sealed) = line_of_literal (codes " sealed") refl
 
-spare_free : (dangling none : Bool) → IsLine (if dangling then (if none then codes " none" else codes " spare") else [])
-spare_free false none = All-nil (λ b. b ≢ 10)
-spare_free true true = line_of_literal (codes " none") refl
-spare_free true false = line_of_literal (codes " spare") refl
+word_free : (best : BestCopy) → IsLine (32 ∷ copy_word best)
+word_free Nowhere = line_of_literal (codes " none") refl
+word_free Loose = line_of_literal (codes " loose") refl
+word_free Spare = line_of_literal (codes " spare") refl
+
+spare_free : (dangling : Bool) (best : BestCopy) → IsLine (if dangling then spaced (copy_word best) else [])
+spare_free false best = All-nil (λ b. b ≢ 10)
+spare_free true best = word_free best
 
 after_free : (sound : Bool) (form : Option Form) (l : Locator) (spare : List ℕ) → IsSmallNumber l.extent → IsSmallNumber l.offset →
     IsLine spare → IsLine (if sound then form_text form else looked_for l ++ spare)
@@ -158,10 +165,10 @@ after_free false form l spare he ho hs =
     hs
 
 -- The line of a shard's locator has no line feed before its end.
-pub held_free : (all : List Scanned) (p : ℕ × Checked) → IsHeld p → IsLine (held_body all p)
-held_free all p h =
-    subst IsLine (sym (by_id all p h))
-    (joined ((((((codes "shard " ++ id)) ++ (32 ∷ n)) ++ (32 ∷ l)) ++ (32 ∷ d)) ++ (32 ∷ s)) (after_status_in all p.1)
+pub held_free : (all : List Scanned) (loose : List Standing) (p : ℕ × Checked) → IsHeld p → IsLine (held_body all loose p)
+held_free all loose p h =
+    subst IsLine (sym (by_id all loose p h))
+    (joined ((((((codes "shard " ++ id)) ++ (32 ∷ n)) ++ (32 ∷ l)) ++ (32 ∷ d)) ++ (32 ∷ s)) (after_status_in all loose p.1)
     (joined ((((codes "shard " ++ id) ++ (32 ∷ n)) ++ (32 ∷ l)) ++ (32 ∷ d)) (32 ∷ s)
     (joined (((codes "shard " ++ id) ++ (32 ∷ n)) ++ (32 ∷ l)) (32 ∷ d)
     (joined ((codes "shard " ++ id) ++ (32 ∷ n)) (32 ∷ l)
@@ -171,7 +178,7 @@ held_free all p h =
     (spaced_line l (decimal_word p.1.locator.length h.size)))
     (spaced_line d (hex_word p.1.locator.digest)))
     (spaced_line s (status_word p.1.status)))
-    (after_free (is_sound p.1.status) (form_at all p.1.locator) p.1.locator (spare_text p.1.status (spares_of all p.1)) h.extent h.offset (spare_free (is_dangling p.1.status) (length (spares_of all p.1) == 0))))
+    (after_free (is_sound p.1.status) (form_at all p.1.locator) p.1.locator (spare_text p.1.status (best_of all loose p.1)) h.extent h.offset (spare_free (is_dangling p.1.status) (best_of all loose p.1))))
   where
     id : List ℕ
     id = encode_lower h.id.0
@@ -189,9 +196,9 @@ held_free all p h =
     s = status_text p.1.status
 
 -- what follows a status begins with a space, if it is anything
-after_tail : (all : List Scanned) (c : Checked) → (t : List ℕ) × (after_status_in all c ++ 32 ∷ [] ≡ 32 ∷ t)
-after_tail all c =
-    by (is_sound c.status) (form_at all c.locator) (decimal c.locator.extent) (spaced (decimal c.locator.offset)) (spaced (uuid_text c.locator.uuid)) (spare_text c.status (spares_of all c))
+after_tail : (all : List Scanned) (loose : List Standing) (c : Checked) → (t : List ℕ) × (after_status_in all loose c ++ 32 ∷ [] ≡ 32 ∷ t)
+after_tail all loose c =
+    by (is_sound c.status) (form_at all c.locator) (decimal c.locator.extent) (spaced (decimal c.locator.offset)) (spaced (uuid_text c.locator.uuid)) (spare_text c.status (best_of all loose c))
   where
     by : (b : Bool) (form : Option Form) (x y z w : List ℕ) →
         (t : List ℕ) × ((if b then form_text form else ((32 ∷ x) ++ y ++ z) ++ w) ++ 32 ∷ [] ≡ 32 ∷ t)
@@ -241,18 +248,18 @@ same_value u v ho hl hd hs ha =
     λ i. record { owner = ho i; length = hl i; digest = hd i; status = hs i; after = ha i }
 
 -- If the lines of two shards' locators are equal, manifests say the same of both locators.
-pub same_held : (all others : List Scanned) (p q : ℕ × Checked) → IsHeld p → IsHeld q → held_body all p ≡ held_body others q →
-    held_locator all p.1 ≡ held_locator others q.1
-same_held all others p q hp hq e =
+pub same_held : (all : List Scanned) (loose : List Standing) (others : List Scanned) (more : List Standing) (p q : ℕ × Checked) → IsHeld p → IsHeld q → held_body all loose p ≡ held_body others more q →
+    held_locator all loose p.1 ≡ held_locator others more q.1
+same_held all loose others more p q hp hq e =
     let parts = words_cut (encode_lower hp.id.0) (two_digits p.0) (decimal p.1.locator.length) (encode_lower p.1.locator.digest) (status_text p.1.status)
-    (after_status_in all p.1) (after_tail all p.1).0
+    (after_status_in all loose p.1) (after_tail all loose p.1).0
     (encode_lower hq.id.0) (two_digits q.0) (decimal q.1.locator.length) (encode_lower q.1.locator.digest) (status_text q.1.status)
-    (after_status_in others q.1) (after_tail others q.1).0
+    (after_status_in others more q.1) (after_tail others more q.1).0
     (hex_word hp.id.0) (two_digits_word p.0 hp.number) (decimal_word p.1.locator.length hp.size) (hex_word p.1.locator.digest) (status_word p.1.status)
     (hex_word hq.id.0) (two_digits_word q.0 hq.number) (decimal_word q.1.locator.length hq.size) (hex_word q.1.locator.digest) (status_word q.1.status)
-    (after_tail all p.1).1 (after_tail others q.1).1
-    (sym (by_id all p hp) ∙ e ∙ by_id others q hq) in
-    same_value (held_locator all p.1) (held_locator others q.1)
+    (after_tail all loose p.1).1 (after_tail others more q.1).1
+    (sym (by_id all loose p hp) ∙ e ∙ by_id others more q hq) in
+    same_value (held_locator all loose p.1) (held_locator others more q.1)
     (ap owner_text hp.owner ∙ ap (λ (h : List ℕ). codes "shard " ++ h) parts.0 ∙ sym (ap owner_text hq.owner))
     (decimal_injective p.1.locator.length q.1.locator.length hp.size hq.size parts.1)
     parts.2
@@ -265,7 +272,7 @@ abbrev pub total_body : ℕ → ℕ → List ℕ
 total_body shards locators = codes "total" ++ (32 ∷ decimal shards) ++ (32 ∷ decimal locators)
 
 -- the last line differs from that of a shard's locator in the first byte
-pub not_last : (all : List Scanned) (p : ℕ × Checked) (n m : ℕ) → IsHeld p → held_body all p ≡ total_body n m → ⊥
-not_last all p n m h is =
-    let first : 115 ≡ 116 = ap (λ (u : List ℕ). get_or u 0 0) (sym (by_id all p h) ∙ is) in
+pub not_last : (all : List Scanned) (loose : List Standing) (p : ℕ × Checked) (n m : ℕ) → IsHeld p → held_body all loose p ≡ total_body n m → ⊥
+not_last all loose p n m h is =
+    let first : 115 ≡ 116 = ap (λ (u : List ℕ). get_or u 0 0) (sym (by_id all loose p h) ∙ is) in
     omega (arith, first)

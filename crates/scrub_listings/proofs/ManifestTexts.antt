@@ -29,6 +29,7 @@ use Rattle.scrub_super.proofs.NewestRecords.{superblock_fits}
 use Rattle.scrub_run.specs.Entry.{IsEntry}
 use Rattle.scrub_merge.specs.Binding.{BindingValue, IsNewestBinding, Runs}
 use Rattle.scrub_scan.specs.Scanned.{Scanned}
+use Rattle.scrub_scan.specs.declared.standing.Standing.{Standing}
 use Rattle.scrub_run.specs.declared.shard_id.ShardId.{ShardId}
 use Rattle.scrub_check.specs.declared.named.Owner.TheVariants.{Shard}
 use Rattle.scrub_check.specs.declared.statuses.checked.Checked.{Checked}
@@ -49,20 +50,20 @@ use Rattle.scrub_listings.proofs.ManifestLines.{IsHeld, IsSmallNumber, held_body
 -- ---- all lines
 
 -- what follows from the same lines of shards and the same last line
-same_bodies : (all others : List Scanned) (t t' : ℕ × ℕ) (ps ps' : List (ℕ × Checked)) → All IsHeld ps → All IsHeld ps' →
-    map (held_body all) ps ++ total_body t.0 t.1 ∷ [] ≡ map (held_body others) ps' ++ total_body t'.0 t'.1 ∷ [] →
-    map (λ p. held_locator all p.1) ps ≡ map (λ p. held_locator others p.1) ps'
-same_bodies all others t t' [] [] hp hp' e = refl
-same_bodies all others t t' [] (q ∷ qs) hp hp' e =
-    absurd (not_last others q t.0 t.1 (All-head IsHeld q qs hp') (sym (same_first (total_body t.0 t.1) (held_body others q) [] (map (held_body others) qs ++ total_body t'.0 t'.1 ∷ []) e)))
-same_bodies all others t t' (p ∷ ps) [] hp hp' e =
-    absurd (not_last all p t'.0 t'.1 (All-head IsHeld p ps hp) (same_first (held_body all p) (total_body t'.0 t'.1) (map (held_body all) ps ++ total_body t.0 t.1 ∷ []) [] e))
-same_bodies all others t t' (p ∷ ps) (q ∷ qs) hp hp' e =
-    let us = map (held_body all) ps ++ total_body t.0 t.1 ∷ [] in
-    let vs = map (held_body others) qs ++ total_body t'.0 t'.1 ∷ [] in
+same_bodies : (all : List Scanned) (loose : List Standing) (others : List Scanned) (more : List Standing) (t t' : ℕ × ℕ) (ps ps' : List (ℕ × Checked)) → All IsHeld ps → All IsHeld ps' →
+    map (held_body all loose) ps ++ total_body t.0 t.1 ∷ [] ≡ map (held_body others more) ps' ++ total_body t'.0 t'.1 ∷ [] →
+    map (λ p. held_locator all loose p.1) ps ≡ map (λ p. held_locator others more p.1) ps'
+same_bodies all loose others more t t' [] [] hp hp' e = refl
+same_bodies all loose others more t t' [] (q ∷ qs) hp hp' e =
+    absurd (not_last others more q t.0 t.1 (All-head IsHeld q qs hp') (sym (same_first (total_body t.0 t.1) (held_body others more q) [] (map (held_body others more) qs ++ total_body t'.0 t'.1 ∷ []) e)))
+same_bodies all loose others more t t' (p ∷ ps) [] hp hp' e =
+    absurd (not_last all loose p t'.0 t'.1 (All-head IsHeld p ps hp) (same_first (held_body all loose p) (total_body t'.0 t'.1) (map (held_body all loose) ps ++ total_body t.0 t.1 ∷ []) [] e))
+same_bodies all loose others more t t' (p ∷ ps) (q ∷ qs) hp hp' e =
+    let us = map (held_body all loose) ps ++ total_body t.0 t.1 ∷ [] in
+    let vs = map (held_body others more) qs ++ total_body t'.0 t'.1 ∷ [] in
     ap₂ (λ (h : HeldValue) (t : List HeldValue). h ∷ t)
-    (same_held all others p q (All-head IsHeld p ps hp) (All-head IsHeld q qs hp') (same_first (held_body all p) (held_body others q) us vs e))
-    (same_bodies all others t t' ps qs (All-tail IsHeld p ps hp) (All-tail IsHeld q qs hp') (same_behind_first (held_body all p) (held_body others q) us vs e))
+    (same_held all loose others more p q (All-head IsHeld p ps hp) (All-head IsHeld q qs hp') (same_first (held_body all loose p) (held_body others more q) us vs e))
+    (same_bodies all loose others more t t' ps qs (All-tail IsHeld p ps hp) (All-tail IsHeld q qs hp') (same_behind_first (held_body all loose p) (held_body others more q) us vs e))
 
 -- ---- the text by its lines
 
@@ -122,9 +123,9 @@ held_along (b ∷ bs) cs few same small =
     (held_along bs (drop n cs) (All-tail (λ v. length v.locators ≤ 64) b bs few) (along_behind b bs cs same) (All-drop IsSmall n cs small))
 
 -- the text with a superblock is that of these lines
-abbrev bodies : List Scanned → List ℕ → ℕ → ℕ → List (ℕ × Checked) → ℕ × ℕ → List (List ℕ)
-bodies all retired lost hidden pairs total =
-    retired_body retired ∷ runs_body lost hidden ∷ map (held_body all) pairs ++ total_body total.0 total.1 ∷ []
+abbrev bodies : List Scanned → List Standing → List ℕ → ℕ → ℕ → List (ℕ × Checked) → ℕ × ℕ → List (List ℕ)
+bodies all loose retired lost hidden pairs total =
+    retired_body retired ∷ runs_body lost hidden ∷ map (held_body all loose) pairs ++ total_body total.0 total.1 ∷ []
 
 joined_bodies : (a b t : List ℕ) (xs : List (List ℕ)) →
     ended a ++ ended b ++ flat_map ended xs ++ ended t ≡ flat_map ended (a ∷ b ∷ xs ++ t ∷ [])
@@ -141,24 +142,24 @@ abbrev total_of : Scrubbed → ℕ × ℕ
 total_of s = (length s.bindings, length (of_shards s.checked))
 
 -- the lines of what is found
-abbrev bodies_of : Scrubbed → List (List ℕ)
-bodies_of s = bodies s.all s.plan.retired (lost_runs s) (hidden_runs s) (pairs_of s) (total_of s)
+abbrev bodies_of : Scrubbed → List Standing → List (List ℕ)
+bodies_of s loose = bodies s.all loose s.plan.retired (lost_runs s) (hidden_runs s) (pairs_of s) (total_of s)
 
-text_of : (resets : List ℕ) (image : Image) (s : Scrubbed) → IsScrubbedBut resets image s → (b : Bool) → b ≡ true →
-    text_by (after_status_in s.all) b s.plan.retired (lost_runs s) (hidden_runs s) s.bindings (of_shards s.checked)
-    ≡ flat_map ended (bodies_of s)
-text_of resets image s x false e = absurd (false≢true e)
-text_of resets image s x true e =
+text_of : (resets : List ℕ) (image : Image) (s : Scrubbed) (loose : List Standing) → IsScrubbedBut resets image s → (b : Bool) → b ≡ true →
+    text_by (after_status_in s.all loose) b s.plan.retired (lost_runs s) (hidden_runs s) s.bindings (of_shards s.checked)
+    ≡ flat_map ended (bodies_of s loose)
+text_of resets image s loose x false e = absurd (false≢true e)
+text_of resets image s loose x true e =
     let cs = drop (length s.plan.runs) s.checked in
-    let after = after_status_in s.all in
+    let after = after_status_in s.all loose in
     let start = ended (retired_body s.plan.retired) ++ ended (runs_body (lost_runs s) (hidden_runs s)) in
     let last = ended (total_body (length s.bindings) (length (of_shards s.checked))) in
-    let shards : flat_map (λ b. shard_lines after (of_shards s.checked) b.id) s.bindings ≡ flat_map ended (map (held_body s.all) (pairs_of s)) =
+    let shards : flat_map (λ b. shard_lines after (of_shards s.checked) b.id) s.bindings ≡ flat_map ended (map (held_body s.all loose) (pairs_of s)) =
     ap (λ (us : List Checked). flat_map (λ b. shard_lines after us b.id) s.bindings) (shards_part s.plan.runs s.bindings s.checked x.checked.same)
     ∙ sym (lines_are after s.bindings cs x.bindings.bindings_of_map.rising (along_runs s.plan.runs s.bindings s.checked x.checked.same))
-    ∙ sym (lines_paired after s.bindings cs) ∙ sym (flat_map-map ended (held_body s.all) (pairs_of s)) in
+    ∙ sym (lines_paired after s.bindings cs) ∙ sym (flat_map-map ended (held_body s.all loose) (pairs_of s)) in
     ap (λ (u : List ℕ). start ++ u ++ last) shards
-    ∙ joined_bodies (retired_body s.plan.retired) (runs_body (lost_runs s) (hidden_runs s)) (total_body (length s.bindings) (length (of_shards s.checked))) (map (held_body s.all) (pairs_of s))
+    ∙ joined_bodies (retired_body s.plan.retired) (runs_body (lost_runs s) (hidden_runs s)) (total_body (length s.bindings) (length (of_shards s.checked))) (map (held_body s.all loose) (pairs_of s))
 
 -- ---- sizes
 
@@ -278,12 +279,12 @@ bare resets image s x none =
 -- ---- the law
 
 -- what is said of the shards' locators, by the numbered ones
-held_along_bindings : (resets : List ℕ) (image : Image) (s : Scrubbed) → IsScrubbedBut resets image s →
-    map (λ p. held_locator s.all p.1) (pairs_along s.bindings (drop (length s.plan.runs) s.checked)) ≡ all_held s
-held_along_bindings resets image s x =
+held_along_bindings : (resets : List ℕ) (image : Image) (s : Scrubbed) (loose : List Standing) → IsScrubbedBut resets image s →
+    map (λ p. held_locator s.all loose p.1) (pairs_along s.bindings (drop (length s.plan.runs) s.checked)) ≡ all_held s loose
+held_along_bindings resets image s loose x =
     let cs = drop (length s.plan.runs) s.checked in
-    sym (map-map (held_locator s.all) (λ (p : ℕ × Checked). p.1) (pairs_along s.bindings cs))
-    ∙ ap (map (held_locator s.all)) (all_paired s.bindings cs (along_runs s.plan.runs s.bindings s.checked x.checked.same)
+    sym (map-map (held_locator s.all loose) (λ (p : ℕ × Checked). p.1) (pairs_along s.bindings cs))
+    ∙ ap (map (held_locator s.all loose)) (all_paired s.bindings cs (along_runs s.plan.runs s.bindings s.checked x.checked.same)
     ∙ sym (shards_part s.plan.runs s.bindings s.checked x.checked.same))
 
 held_all : (resets : List ℕ) (image : Image) (s : Scrubbed) → IsScrubbedBut resets image s → All IsHeld (pairs_of s)
@@ -291,16 +292,16 @@ held_all resets image s x =
     held_along s.bindings (drop (length s.plan.runs) s.checked) (entries_fit resets image s x)
     (along_runs s.plan.runs s.bindings s.checked x.checked.same) (small resets image s x)
 
-all_lines : (resets : List ℕ) (image : Image) (s : Scrubbed) → IsScrubbedBut resets image s →
-    All IsLine (bodies_of s)
-all_lines resets image s x =
+all_lines : (resets : List ℕ) (image : Image) (s : Scrubbed) (loose : List Standing) → IsScrubbedBut resets image s →
+    All IsLine (bodies_of s loose)
+all_lines resets image s loose x =
     let l = lost_runs s in
     let h = hidden_runs s in
-    let rest = map (held_body s.all) (pairs_of s) ++ total_body (length s.bindings) (length (of_shards s.checked)) ∷ [] in
+    let rest = map (held_body s.all loose) (pairs_of s) ++ total_body (length s.bindings) (length (of_shards s.checked)) ∷ [] in
     All-cons IsLine (retired_body s.plan.retired) (runs_body l h ∷ rest) (retired_free s.plan.retired (retired_small resets image s x))
     (All-cons IsLine (runs_body l h) rest (runs_free l h (lost_small resets image s x) (hidden_small resets image s x))
-    (All-append IsLine (map (held_body s.all) (pairs_of s)) (total_body (length s.bindings) (length (of_shards s.checked)) ∷ [])
-    (All-map IsLine (held_body s.all) (pairs_of s) (All-weaker IsHeld (λ p. IsLine (held_body s.all p)) (held_free s.all) (pairs_of s) (held_all resets image s x)))
+    (All-append IsLine (map (held_body s.all loose) (pairs_of s)) (total_body (length s.bindings) (length (of_shards s.checked)) ∷ [])
+    (All-map IsLine (held_body s.all loose) (pairs_of s) (All-weaker IsHeld (λ p. IsLine (held_body s.all loose p)) (held_free s.all loose) (pairs_of s) (held_all resets image s x)))
     (All-cons IsLine (total_body (length s.bindings) (length (of_shards s.checked))) [] (total_free resets image s x) (All-nil IsLine))))
 
 -- the text without a superblock
@@ -313,15 +314,15 @@ never_bare xs rest e =
     let first : 110 ≡ 114 = ap (λ (u : List ℕ). get_or u 0 0) e in
     omega (arith, first)
 
-module _ (resets others : List ℕ) (image other : Image) (s t : Scrubbed) (x : IsScrubbedBut resets image s) (y : IsScrubbedBut others other t) where
+module _ (resets others : List ℕ) (image other : Image) (s t : Scrubbed) (loose more : List Standing) (x : IsScrubbedBut resets image s) (y : IsScrubbedBut others other t) where
   with_superblocks : s.plan.has_superblock ≡ true → t.plan.has_superblock ≡ true →
-      flat_map ended (bodies_of s) ≡ flat_map ended (bodies_of t) → HoldTheSame s t
+      flat_map ended (bodies_of s loose) ≡ flat_map ended (bodies_of t more) → HoldTheSame s loose t more
   with_superblocks hs ht e =
-      let ps = map (held_body s.all) (pairs_of s) ++ total_body (length s.bindings) (length (of_shards s.checked)) ∷ [] in
-      let qs = map (held_body t.all) (pairs_of t) ++ total_body (length t.bindings) (length (of_shards t.checked)) ∷ [] in
+      let ps = map (held_body s.all loose) (pairs_of s) ++ total_body (length s.bindings) (length (of_shards s.checked)) ∷ [] in
+      let qs = map (held_body t.all more) (pairs_of t) ++ total_body (length t.bindings) (length (of_shards t.checked)) ∷ [] in
       let rs = runs_body (lost_runs s) (hidden_runs s) in
       let rt = runs_body (lost_runs t) (hidden_runs t) in
-      let lines = same_closed 10 (retired_body s.plan.retired ∷ rs ∷ ps) (retired_body t.plan.retired ∷ rt ∷ qs) (all_lines resets image s x) (all_lines others other t y) e in
+      let lines = same_closed 10 (retired_body s.plan.retired ∷ rs ∷ ps) (retired_body t.plan.retired ∷ rt ∷ qs) (all_lines resets image s loose x) (all_lines others other t more y) e in
       let behind = same_behind_first (retired_body s.plan.retired) (retired_body t.plan.retired) (rs ∷ ps) (rt ∷ qs) lines in
       let runs = same_runs (lost_runs s) (hidden_runs s) (lost_runs t) (hidden_runs t) (lost_small resets image s x) (hidden_small resets image s x) (lost_small others other t y) (hidden_small others other t y) (same_first rs rt ps qs behind) in
       record {
@@ -329,10 +330,10 @@ module _ (resets others : List ℕ) (image other : Image) (s t : Scrubbed) (x : 
         retired = same_retired s.plan.retired t.plan.retired (retired_small resets image s x) (retired_small others other t y) (same_first (retired_body s.plan.retired) (retired_body t.plan.retired) (rs ∷ ps) (rt ∷ qs) lines);
         lost = runs.0;
         hidden = runs.1;
-        shards = sym (held_along_bindings resets image s x) ∙ same_bodies s.all t.all (total_of s) (total_of t) (pairs_of s) (pairs_of t) (held_all resets image s x) (held_all others other t y) (same_behind_first rs rt ps qs behind) ∙ held_along_bindings others other t y;
+        shards = sym (held_along_bindings resets image s loose x) ∙ same_bodies s.all loose t.all more (total_of s) (total_of t) (pairs_of s) (pairs_of t) (held_all resets image s x) (held_all others other t y) (same_behind_first rs rt ps qs behind) ∙ held_along_bindings others other t more y;
       }
 
-  without : s.plan.has_superblock ≡ false → t.plan.has_superblock ≡ false → HoldTheSame s t
+  without : s.plan.has_superblock ≡ false → t.plan.has_superblock ≡ false → HoldTheSame s loose t more
   without hs ht =
       let bs = bare resets image s x hs in
       let bt = bare others other t y ht in
@@ -341,37 +342,37 @@ module _ (resets others : List ℕ) (image other : Image) (s t : Scrubbed) (x : 
         retired = bs.retired ∙ sym bt.retired;
         lost = ap (count_by is_none) (bs.read ∙ sym bt.read);
         hidden = none s bs ∙ sym (none t bt);
-        shards = nothing s bs ∙ sym (nothing t bt);
+        shards = nothing s loose bs ∙ sym (nothing t more bt);
       }
     where
       none : (u : Scrubbed) → IsBare u → hidden_runs u ≡ 0
       none u b = ap (λ (cs : List Checked). count_by (λ c. is_hidden c.status && is_of_read_run u.read.runs c.owner) cs) b.checked
 
-      nothing : (u : Scrubbed) → IsBare u → all_held u ≡ []
-      nothing u b = ap (λ (cs : List Checked). map (held_locator u.all) (of_shards cs)) b.checked
+      nothing : (u : Scrubbed) (frames : List Standing) → IsBare u → all_held u frames ≡ []
+      nothing u frames b = ap (λ (cs : List Checked). map (held_locator u.all frames) (of_shards cs)) b.checked
 
   by_superblock : (b c : Bool) → s.plan.has_superblock ≡ b → t.plan.has_superblock ≡ c →
-      text_by (after_status_in s.all) b s.plan.retired (lost_runs s) (hidden_runs s) s.bindings (of_shards s.checked)
-      ≡ text_by (after_status_in t.all) c t.plan.retired (lost_runs t) (hidden_runs t) t.bindings (of_shards t.checked) → HoldTheSame s t
-  by_superblock true true hs ht e = with_superblocks hs ht (sym (text_of resets image s x true refl) ∙ e ∙ text_of others other t y true refl)
+      text_by (after_status_in s.all loose) b s.plan.retired (lost_runs s) (hidden_runs s) s.bindings (of_shards s.checked)
+      ≡ text_by (after_status_in t.all more) c t.plan.retired (lost_runs t) (hidden_runs t) t.bindings (of_shards t.checked) → HoldTheSame s loose t more
+  by_superblock true true hs ht e = with_superblocks hs ht (sym (text_of resets image s loose x true refl) ∙ e ∙ text_of others other t more y true refl)
   by_superblock true false hs ht e =
-      absurd (never_bare (flat_map spaced_number s.plan.retired) _ (sym e ∙ text_of resets image s x true refl))
+      absurd (never_bare (flat_map spaced_number s.plan.retired) _ (sym e ∙ text_of resets image s loose x true refl))
   by_superblock false true hs ht e =
-      absurd (never_bare (flat_map spaced_number t.plan.retired) _ (e ∙ text_of others other t y true refl))
+      absurd (never_bare (flat_map spaced_number t.plan.retired) _ (e ∙ text_of others other t more y true refl))
   by_superblock false false hs ht e = without hs ht
 
   -- Two disks whose manifests have the same text hold the same.
-  pub same_content : manifest_text s ≡ manifest_text t → HoldTheSame s t
+  pub same_content : manifest_text s loose ≡ manifest_text t more → HoldTheSame s loose t more
   same_content e = by_superblock s.plan.has_superblock t.plan.has_superblock refl refl e
 
 -- what is held says whether anything is missing
-held_sound : (all : List Scanned) (cs : List Checked) →
-    list_all (λ (c : Checked). is_sound c.status) cs ≡ list_all (λ (h : HeldValue). is_sound h.status) (map (held_locator all) cs)
-held_sound all cs = sym (list_all-map (λ (h : HeldValue). is_sound h.status) (held_locator all) cs)
+held_sound : (all : List Scanned) (loose : List Standing) (cs : List Checked) →
+    list_all (λ (c : Checked). is_sound c.status) cs ≡ list_all (λ (h : HeldValue). is_sound h.status) (map (held_locator all loose) cs)
+held_sound all loose cs = sym (list_all-map (λ (h : HeldValue). is_sound h.status) (held_locator all loose) cs)
 
 -- If two disks hold the same, nothing is missing on one exactly if nothing is on the other.
-pub same_verdict : (s t : Scrubbed) → HoldTheSame s t → is_whole s ≡ is_whole t
-same_verdict s t h =
-    ap (λ (b : Bool). s.plan.has_superblock && lost_runs s == 0 && hidden_runs s == 0 && b) (held_sound s.all (of_shards s.checked))
+pub same_verdict : (s t : Scrubbed) (loose more : List Standing) → HoldTheSame s loose t more → is_whole s ≡ is_whole t
+same_verdict s t loose more h =
+    ap (λ (b : Bool). s.plan.has_superblock && lost_runs s == 0 && hidden_runs s == 0 && b) (held_sound s.all loose (of_shards s.checked))
     ∙ (λ i. h.superblock i && h.lost i == 0 && h.hidden i == 0 && list_all (λ (v : HeldValue). is_sound v.status) (h.shards i))
-    ∙ ap (λ (b : Bool). t.plan.has_superblock && lost_runs t == 0 && hidden_runs t == 0 && b) (sym (held_sound t.all (of_shards t.checked)))
+    ∙ ap (λ (b : Bool). t.plan.has_superblock && lost_runs t == 0 && hidden_runs t == 0 && b) (sym (held_sound t.all more (of_shards t.checked)))

@@ -1,14 +1,18 @@
--- The lines of numbers, put one after another, and how many named locators have spares.
+-- The lines of numbers, put one after another, and how many named locators have copies.
 use Rattle.std.proofs.Common.{◌≡◌, ◌+◌, ◌++◌, ◌==◌, ◌∷◌, [], ℕ, Bool, not, List, OnOk, Result, Ok, Err, get_or, length, append_assoc, refl, sym, ap, ◌∙◌}
 use Rattle.std.specs.List.{All, count_by}
 use Rattle.std.proofs.lemmas.Grind.{flat_map-append}
 use Rattle.std.proofs.lemmas.List.Elements.{All-contains_itself, All-head, All-tail}
 use Rattle.std.proofs.lemmas.List.Sums.{sum_by-cons}
+use Rattle.scrub_disk.specs.Image.{Image}
+use Rattle.scrub_super.specs.Plan.{PlanValue}
 use Rattle.scrub_scan.specs.declared.standing.Standing.{Standing}
 use Rattle.scrub_scan.specs.Scanned.{Scanned}
 use Rattle.scrub_check.specs.declared.statuses.checked.Checked.{Checked}
 use Rattle.scrub_check.specs.Spares.{AreSpares}
-use Rattle.scrub_listings.specs.Summary.{NamedNumber, has_spare, has_spare_by, number_line, number_lines, one_if}
+use Rattle.scrub_loose.specs.Copies.{CopiesValue}
+use Rattle.scrub_loose.specs.Loose.{AreCopies}
+use Rattle.scrub_listings.specs.Summary.{NamedNumber, has_loose_copy, has_loose_copy_by, has_spare, has_spare_by, number_line, number_lines, one_if}
 
 -- more lines after those that are there
 pub more_lines : (old mid new : List ℕ) (before more : List NamedNumber) → mid ≡ old ++ number_lines before →
@@ -39,3 +43,11 @@ pub spared_found : (all : List Scanned) (checked : List Checked) (found : List S
 spared_found all checked found are =
     count_same (has_spare_by found) (has_spare all) checked
     (λ i d below. let c : Checked = get_or checked i d in ap (λ (ss : List Standing). not (length ss == 0)) (are c (All-contains_itself checked i d below)))
+
+-- and as many have loose copies among those that were found as among all loose frames
+pub loose_counted : (resets : List ℕ) (image : Image) (plan : PlanValue) (all : List Scanned) (checked : List Checked) (v : CopiesValue)
+    (are : AreCopies resets image plan all checked v) →
+    count_by (has_loose_copy_by v) checked ≡ count_by (has_loose_copy all are.found.frames) checked
+loose_counted resets image plan all checked v are =
+    count_same (has_loose_copy_by v) (has_loose_copy all are.found.frames) checked
+    (λ i d below. let c : Checked = get_or checked i d in ap (λ (ss : List Standing). not (length ss == 0)) (are.loose c (All-contains_itself checked i d below)))

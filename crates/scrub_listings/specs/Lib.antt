@@ -1,5 +1,6 @@
 -- For public clauses.
 pub mod Locators
+pub mod Remarks
 pub mod Manifest
 pub mod Superblocks
 pub mod Sizes

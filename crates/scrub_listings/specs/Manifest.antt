@@ -21,10 +21,14 @@ use Rattle.scrub_check.specs.declared.statuses.checked.Checked.{Checked}
 use Rattle.scrub_check.specs.declared.statuses.status.Status.{Status}
 use Rattle.scrub_check.specs.Checked.{is_dangling, is_hidden, is_owned_by, is_sound}
 use Rattle.scrub_check.specs.ChunkForms.{form_at}
-use Rattle.scrub_check.specs.Spares.{spares_of}
 use Rattle.scrub_found.specs.Resets.{IsScrubbedBut}
 use Rattle.scrub_found.specs.Scrubbed.{Scrubbed}
 use Rattle.scrub_found.specs.Texts.{owner_text, status_text, uuid_text}
+use Rattle.scrub_loose.specs.Loose.{AreLoose, LooseValue, best_of}
+use Rattle.scrub_loose.specs.declared.copies.BestCopy.{BestCopy}
+use Rattle.scrub_loose.specs.declared.copies.BestCopy.TheVariants.{Nowhere, Loose, Spare}
+use Rattle.scrub_listings.specs.declared.remarks.SuperblockRemark.{SuperblockRemark}
+use Rattle.scrub_listings.specs.Remarks.{AreSuperblockRemarks}
 
 -- ---- the lines
 
@@ -54,18 +58,24 @@ form_text (Some form) = spaced (form_word form)
 abbrev pub looked_for : Locator → List ℕ
 looked_for l = spaced (decimal l.extent) ++ spaced (decimal l.offset) ++ spaced (uuid_text l.uuid)
 
--- whether a dangling locator has spares: ` spare` or ` none`; nothing for a hidden one
-abbrev pub spare_text : Status → List Standing → List ℕ
-spare_text status spares = if is_dangling status then (if len spares == 0 then codes " none" else codes " spare") else []
+-- the word for the best copy that is left: `none`, `loose` or `spare`
+abbrev pub copy_word : BestCopy → List ℕ
+copy_word Nowhere = codes "none"
+copy_word Loose = codes "loose"
+copy_word Spare = codes "spare"
+
+-- a space and the word for the best copy of a dangling locator; nothing for a hidden one
+abbrev pub spare_text : Status → BestCopy → List ℕ
+spare_text status best = if is_dangling status then spaced (copy_word best) else []
 
 -- what follows the status of a locator: the form of its chunk if it is sound, or else where the chunk is looked for and
--- whether there are spares
-abbrev pub after_status : Option Form → List Standing → Checked → List ℕ
-after_status form spares c = if is_sound c.status then form_text form else looked_for c.locator ++ spare_text c.status spares
+-- which is its best copy
+abbrev pub after_status : Option Form → BestCopy → Checked → List ℕ
+after_status form best c = if is_sound c.status then form_text form else looked_for c.locator ++ spare_text c.status best
 
--- what comes after the status of a locator, by what was scanned
-abbrev pub after_status_in : List Scanned → Checked → List ℕ
-after_status_in all c = after_status (form_at all c.locator) (spares_of all c) c
+-- what comes after the status of a locator, by what was scanned and by the loose frames
+abbrev pub after_status_in : List Scanned → List Standing → Checked → List ℕ
+after_status_in all loose c = after_status (form_at all c.locator) (best_of all loose c) c
 
 -- what the line of a shard's locator of this number begins with: `shard ID NUMBER LENGTH DIGEST STATUS`
 abbrev pub numbered_text : ℕ → Checked → List ℕ
@@ -124,9 +134,10 @@ text_by after has_superblock retired lost hidden bindings shards =
     ++ total_line (len bindings) (len shards) else codes "no-superblock" ++ 10 ∷ []
 
 -- the retired extents, the runs that aren't read as usual, each locator of each shard of the shard map, and how many there
--- are; or that there is no superblock
-abbrev pub manifest_text : Scrubbed → List ℕ
-manifest_text s = text_by (after_status_in s.all) s.plan.has_superblock s.plan.retired (lost_runs s) (hidden_runs s) s.bindings (of_shards s.checked)
+-- are; or that there is no superblock; by the loose frames
+abbrev pub manifest_text : Scrubbed → List Standing → List ℕ
+manifest_text s loose =
+    text_by (after_status_in s.all loose) s.plan.has_superblock s.plan.retired (lost_runs s) (hidden_runs s) s.bindings (of_shards s.checked)
 
 -- each of these locators is sound
 abbrev pub are_sound : List Checked → Bool
@@ -140,17 +151,27 @@ is_whole_by has_superblock lost hidden shards = has_superblock && lost == 0 && h
 abbrev pub is_whole : Scrubbed → Bool
 is_whole s = is_whole_by s.plan.has_superblock (lost_runs s) (hidden_runs s) (of_shards s.checked)
 
--- the text is the manifest of what is found in an image, as if these extents had been reset, and the truth value says whether
--- nothing is missing
+-- the text is the manifest of what is found in an image, as if these extents had been reset, whose frames are no loose copies
+-- then, and the truth value says whether nothing is missing
 pub record IsManifestBut (resets : List ℕ) (image : Image) (text : List ℕ) (whole : Bool) : Type 0 where
   pub found : Scrubbed
   pub scrubbed : IsScrubbedBut resets image found
-  pub text_is : text ≡ manifest_text found
+  pub loose : LooseValue
+  pub are_loose : AreLoose resets image found.plan loose
+  pub text_is : text ≡ manifest_text found loose.frames
   pub verdict : whole ≡ is_whole found
 
 -- the same without resets
 abbrev pub IsManifest : Image → List ℕ → Bool → Type 0
 IsManifest image text whole = IsManifestBut [] image text whole
+
+-- the manifest, and the remarks on the superblocks beside it; the truth value says whether nothing is missing and there is no
+-- remark
+pub record IsRemarkedManifest (resets : List ℕ) (image : Image) (text : List ℕ) (remarks : List SuperblockRemark) (clean : Bool) : Type 0 where
+  pub whole : Bool
+  pub manifest : IsManifestBut resets image text whole
+  pub are_remarks : AreSuperblockRemarks image remarks
+  pub clean_is : clean ≡ (whole && len remarks == 0)
 
 -- ---- what a manifest says
 
@@ -163,35 +184,35 @@ pub record HeldValue : Type 0 where
   pub after : List ℕ
 
 -- what a manifest says of a locator
-abbrev pub held_locator : List Scanned → Checked → HeldValue
-held_locator all c = record {
+abbrev pub held_locator : List Scanned → List Standing → Checked → HeldValue
+held_locator all loose c = record {
   owner = owner_text c.owner;
   length = c.locator.length;
   digest = encode_lower c.locator.digest;
   status = c.status;
-  after = after_status_in all c;
+  after = after_status_in all loose c;
 }
 
 -- what a manifest says of the shards' locators among the named ones, in their order
-abbrev pub all_held : Scrubbed → List HeldValue
-all_held s = map (held_locator s.all) (of_shards s.checked)
+abbrev pub all_held : Scrubbed → List Standing → List HeldValue
+all_held s loose = map (held_locator s.all loose) (of_shards s.checked)
 
--- the same is held on two disks: both have a superblock or none, they have the same retired extents, as many runs are lost
--- and as many hidden, and the same is said of the shards' locators
-pub record HoldTheSame (s t : Scrubbed) : Type 0 where
+-- the same is held on two disks, each by what is found and by its loose frames: both have a superblock or none, they have the
+-- same retired extents, as many runs are lost and as many hidden, and the same is said of the shards' locators
+pub record HoldTheSame (s : Scrubbed) (loose : List Standing) (t : Scrubbed) (others : List Standing) : Type 0 where
   pub superblock : s.plan.has_superblock ≡ t.plan.has_superblock
   pub retired : s.plan.retired ≡ t.plan.retired
   pub lost : lost_runs s ≡ lost_runs t
   pub hidden : hidden_runs s ≡ hidden_runs t
-  pub shards : all_held s ≡ all_held t
+  pub shards : all_held s loose ≡ all_held t others
 
 -- each byte of the disk's extents that can be read is below 256
 abbrev pub HoldsBytes : Image → Type 0
 HoldsBytes image = (e p b : ℕ) → e < image.geometry.extents → image_byte image e p ≡ Some b → b < 256
 
 -- what a manifest says of a shard's locator in an image of bytes: who names it, the length and the digest of its chunk, its
--- status, the form of its chunk if it is sound, or else the extent and the offset that it points to, and whether it dangles
--- and has no spares
+-- status, the form of its chunk if it is sound, or else the extent and the offset that it points to, and the best copy if it
+-- dangles
 pub record TraitsValue : Type 0 where
   pub owner : Owner
   pub length : ℕ
@@ -199,7 +220,7 @@ pub record TraitsValue : Type 0 where
   pub status : Status
   pub form : Option Form
   pub place : Option (ℕ × ℕ)
-  pub is_without_spare : Bool
+  pub best : Option BestCopy
 
 -- the form of a sound locator's chunk
 abbrev pub form_if_sound : List Scanned → Checked → Option Form
@@ -209,22 +230,22 @@ form_if_sound all c = if is_sound c.status then form_at all c.locator else None
 abbrev pub place_unless_sound : Checked → Option (ℕ × ℕ)
 place_unless_sound c = if is_sound c.status then None else Some (c.locator.extent, c.locator.offset)
 
--- the locator dangles, and has no spares
-abbrev pub is_without_spare : List Scanned → Checked → Bool
-is_without_spare all c = is_dangling c.status && len (spares_of all c) == 0
+-- the best copy of a locator that dangles
+abbrev pub best_if_dangling : List Scanned → List Standing → Checked → Option BestCopy
+best_if_dangling all loose c = if is_dangling c.status then Some (best_of all loose c) else None
 
 -- what a manifest says of a shard's locator in an image of bytes
-abbrev pub traits : List Scanned → Checked → TraitsValue
-traits all c = record {
+abbrev pub traits : List Scanned → List Standing → Checked → TraitsValue
+traits all loose c = record {
   owner = c.owner;
   length = c.locator.length;
   digest = c.locator.digest;
   status = c.status;
   form = form_if_sound all c;
   place = place_unless_sound c;
-  is_without_spare = is_without_spare all c;
+  best = best_if_dangling all loose c;
 }
 
 -- what a manifest says of the shards' locators among the named ones, in their order
-abbrev pub all_traits : Scrubbed → List TraitsValue
-all_traits s = map (traits s.all) (of_shards s.checked)
+abbrev pub all_traits : Scrubbed → List Standing → List TraitsValue
+all_traits s loose = map (traits s.all loose) (of_shards s.checked)

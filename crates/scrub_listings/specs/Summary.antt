@@ -22,6 +22,8 @@ use Rattle.scrub_check.specs.Live.{has_sound_at, is_chunk, live_bytes, size_of}
 use Rattle.scrub_check.specs.Spares.{spares_by, spares_of}
 use Rattle.scrub_merge.specs.Binding.{BindingValue}
 use Rattle.scrub_found.specs.Scrubbed.{Scrubbed, IsScrubbed, is_clean_disk}
+use Rattle.scrub_loose.specs.Copies.{CopiesValue, loose_by}
+use Rattle.scrub_loose.specs.Loose.{AreLoose, LooseValue, loose_of}
 use Rattle.scrub_listings.specs.declared.summary.Tally.{Tally}
 use Rattle.scrub_listings.specs.declared.summary.Tally.TheVariants.{UnreadablePages, Chunks, ChunkBytes, TornItems, NoiseItems, LostItems, Tails, TailBytes}
 use Rattle.scrub_listings.specs.declared.summary.Verdict.{Verdict}
@@ -107,6 +109,10 @@ live_count all checked = count_by (λ p. has_sound_at checked p.extent p.offset)
 abbrev pub has_spare : List Scanned → Checked → Bool
 has_spare all c = not (length (spares_of all c) == 0)
 
+-- a named locator has a loose copy
+abbrev pub has_loose_copy : List Scanned → List Standing → Checked → Bool
+has_loose_copy all loose c = not (length (loose_of all loose c) == 0)
+
 -- ---- the numbers
 
 -- a name and a number
@@ -138,16 +144,18 @@ reading_numbers choice plan all lost =
     (codes "runs", length plan.runs) ∷
     (codes "runs_lost", lost) ∷ []
 
--- the shards of the shard map, by how many are broken, and the named locators, by how many have a spare
-abbrev pub shard_numbers : List BindingValue → ℕ → List Checked → ℕ → List NamedNumber
-shard_numbers bindings broken checked spared =
+-- the shards of the shard map, by how many are broken, and the named locators, by how many have a spare, and how many have a loose
+-- copy
+abbrev pub shard_numbers : List BindingValue → ℕ → List Checked → ℕ → ℕ → List NamedNumber
+shard_numbers bindings broken checked spared loose =
     (codes "shards", length bindings) ∷
     (codes "shards_broken", broken) ∷
     (codes "shards_doubtful", count_by (λ b. b.doubtful) bindings) ∷
     (codes "locators", length checked) ∷
     (codes "locators_hidden", count_by (λ c. is_hidden c.status) checked) ∷
     (codes "locators_dangling", count_by (λ c. is_dangling c.status) checked) ∷
-    (codes "spares", spared) ∷ []
+    (codes "spares", spared) ∷
+    (codes "loose_copies", loose) ∷ []
 
 -- the chunks: all of them, those that are live and those that are orphans, and how many bytes of extents each of these take;
 -- how many are twins, and to how many places two sound locators or more point
@@ -178,13 +186,13 @@ candidate_numbers candidates =
     (codes "candidate_bytes", sum_by (λ a. a.free) candidates) ∷
     (codes "chunks_to_move", sum_by (λ a. length a.chunks) candidates) ∷ []
 
--- all numbers, by the pages of extent 0, what was found, and how many index runs are lost
-abbrev pub numbers_by : List SuperblockPage → Scrubbed → ℕ → List NamedNumber
-numbers_by pages s lost =
+-- all numbers, by the pages of extent 0, what was found, the loose frames, and how many index runs are lost
+abbrev pub numbers_by : List SuperblockPage → Scrubbed → List Standing → ℕ → List NamedNumber
+numbers_by pages s loose lost =
     disk_numbers s.plan
     ++ superblock_numbers s.choice pages
     ++ reading_numbers s.choice s.plan s.all lost
-    ++ shard_numbers s.bindings (length s.broken) s.checked (count_by (has_spare s.all) s.checked)
+    ++ shard_numbers s.bindings (length s.broken) s.checked (count_by (has_spare s.all) s.checked) (count_by (has_loose_copy s.all loose) s.checked)
     ++ chunk_numbers s.all s.checked (length s.shared)
     ++ item_numbers s.all
     ++ candidate_numbers s.candidates
@@ -203,9 +211,9 @@ number_lines numbers = flat_map number_line numbers
 abbrev pub verdict_line : Verdict → List ℕ
 verdict_line v = codes "verdict" ++ spaced (verdict_text v) ++ 10 ∷ []
 
--- the verdict, and the numbers of what was found
-abbrev pub summary_text : Option ℕ → List SuperblockPage → Scrubbed → List ℕ
-summary_text last pages s = verdict_line (verdict last s pages) ++ number_lines (numbers_by pages s (lost_runs s))
+-- the verdict, and the numbers of what was found, by the loose frames
+abbrev pub summary_text : Option ℕ → List SuperblockPage → Scrubbed → List Standing → List ℕ
+summary_text last pages s loose = verdict_line (verdict last s pages) ++ number_lines (numbers_by pages s loose (lost_runs s))
 
 -- the text is the summary of what is found in an image, by the generation of the last superblock that was written, if that is
 -- given, and the truth value says whether the verdict is that it is sound
@@ -214,7 +222,9 @@ pub record IsSummary (last : Option ℕ) (image : Image) (text : List ℕ) (soun
   pub scrubbed : IsScrubbed image found
   pub pages : List SuperblockPage
   pub held : AreSuperblockPages image pages
-  pub text_is : text ≡ summary_text last pages found
+  pub loose : LooseValue
+  pub are_loose : AreLoose [] image found.plan loose
+  pub text_is : text ≡ summary_text last pages found loose.frames
   pub verdict_is : sound ≡ is_sound_verdict (verdict last found pages)
 
 -- ---- steps of the code
@@ -222,6 +232,10 @@ pub record IsSummary (last : Option ℕ) (image : Image) (text : List ℕ) (soun
 -- a named locator has a spare among these chunks
 abbrev pub has_spare_by : List Standing → Checked → Bool
 has_spare_by found c = not (length (spares_by found c) == 0)
+
+-- a named locator has a loose copy among these frames
+abbrev pub has_loose_copy_by : CopiesValue → Checked → Bool
+has_loose_copy_by v c = not (length (loose_by v c) == 0)
 
 -- what is counted in an extent
 abbrev pub tally_in : Tally → Scanned → ℕ

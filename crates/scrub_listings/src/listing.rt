@@ -5,15 +5,16 @@ ghost use Rattle.scrub_disk.specs.Image.{Image};
 ghost use Rattle.scrub_found.specs.Takings.{AreTakingsBy};
 ghost use Rattle.std.specs.List.{flat_map};
 ghost use Rattle.scrub_found.specs.Judged.{IsScan};
-ghost use Rattle.scrub_listings.specs.Locators.{IsLocatorListing, count_line, lines_by, locator_line};
-ghost use Rattle.scrub_listings.specs.Locators.{place_text, place_words, spare_line};
+ghost use Rattle.scrub_listings.specs.Locators.{IsLocatorListing, copies_line, copies_lines, count_line};
+ghost use Rattle.scrub_listings.specs.Locators.{lines_by, locator_line, place_text, place_words};
 
-use scrub_check::{Checked, Spares, shared};
+use scrub_check::{Checked, shared};
 use scrub_disk::{OutOfMemory, PageSource};
 use scrub_found::judging::are_sound;
 use scrub_found::texts::{owner_text, status_text};
 use scrub_found::{Scan, ScrubFault, is_clean, judged_of, scan_by};
 use scrub_frame::Locator;
+use scrub_loose::Copies;
 use scrub_pool::{Gate, Takings};
 use scrub_scan::Standing;
 use std::alloc::Global;
@@ -89,9 +90,15 @@ impl fmt::Display for PlaceText {
     }
 }
 
-/// Appends the line of the first of so many spares, with its line feed.
-fn append_count(text: &mut String, first: &Standing, count: usize) -> Result<(), OutOfMemory>
-    ensures { OnOk result (string_bytes text.new ≡ string_bytes text.old ++ count_line first.now count) }
+/// Appends the line of the first of so many copies of a kind, with its line feed.
+fn append_count(
+    text: &mut String,
+    word: &str,
+    first: &Standing,
+    count: usize,
+) -> Result<(), OutOfMemory>
+    ensures { OnOk result (string_bytes text.new ≡
+        string_bytes text.old ++ count_line word.now first.now count) }
 {
     let place = PlaceText {
         extent: first.extent,
@@ -99,43 +106,56 @@ fn append_count(text: &mut String, first: &Standing, count: usize) -> Result<(),
         length: first.length,
         uuid: first.uuid,
     };
-    writeln!(text, "spare {place} {count}")
+    writeln!(text, "{word} {place} {count}")
 }
 
-/// Appends the line of some spares, if there is one.
-fn append_spares(text: &mut String, some: &[Standing]) -> Result<(), OutOfMemory>
-    ensures { OnOk result (string_bytes text.new ≡ string_bytes text.old ++ spare_line some.now) }
+/// Appends the line of some copies of a kind, if there is one.
+fn append_kind(text: &mut String, word: &str, some: &[Standing]) -> Result<(), OutOfMemory>
+    ensures { OnOk result (string_bytes text.new ≡ string_bytes text.old ++ copies_line word.now some.now) }
 {
     match some.first() {
-        Some(first) => append_count(text, first, some.len()),
+        Some(first) => append_count(text, word, first, some.len()),
         None => Ok(()),
     }
 }
 
-/// Appends the line of a named locator, and that of its spares.
+/// Appends the line of the spares of a locator, and that of its loose copies.
+fn append_copies(
+    text: &mut String,
+    spares: &[Standing],
+    loose: &[Standing],
+) -> Result<(), OutOfMemory>
+    ensures { OnOk result (string_bytes text.new ≡
+        string_bytes text.old ++ copies_lines spares.now loose.now) }
+{
+    append_kind(text, "spare", spares)?;
+    append_kind(text, "loose", loose)
+}
+
+/// Appends the line of a named locator, and that of its copies.
 fn append_one(
     alloc: Global,
     text: &mut String,
-    spares: &Spares,
+    copies: &Copies,
     one: &Checked,
 ) -> Result<(), OutOfMemory>
-    ensures { OnOk result (string_bytes text.new ≡ string_bytes text.old ++ lines_by spares.now one.now) }
+    ensures { OnOk result (string_bytes text.new ≡ string_bytes text.old ++ lines_by copies.now one.now) }
 {
     append_line(alloc, text, one)?;
-    append_spares(text, spares.of_one(one))
+    append_copies(text, copies.spares_of(one), copies.loose_of(one))
 }
 
-/// The lines of named locators and of their spares, in their order.
+/// The lines of named locators and of their copies, in their order.
 fn locator_lines(
     alloc: Global,
-    spares: &Spares,
+    copies: &Copies,
     checked: &[Checked],
 ) -> Result<Vec<u8>, OutOfMemory>
-    ensures { IfOk result (λ text. text.items ≡ flat_map (lines_by spares.now) checked.now) }
+    ensures { IfOk result (λ text. text.items ≡ flat_map (lines_by copies.now) checked.now) }
 {
     let mut text = String::new(alloc);
     for one in checked {
-        append_one(alloc, &mut text, spares, one)?;
+        append_one(alloc, &mut text, copies, one)?;
     }
     Ok(text.into_bytes())
 }
@@ -150,10 +170,12 @@ fn listing_of<R: Threads + Sync, D: PageSource>(
     ensures { IfOk result (λ l.
         IsLocatorListing (D.image scan.entry.disk.now) l.text.items l.is_clean) }
 {
+    let disk = scan.disk;
     let judged = judged_of(rt, alloc, scan)?;
     let shared_places = shared(alloc, &judged.checked)?;
-    let spares = Spares::of(alloc, &judged.scan.all, &judged.checked)?;
-    let text = locator_lines(alloc, &spares, &judged.checked)?;
+    let Scan { plan, all, .. } = &judged.scan;
+    let copies = Copies::of(rt, alloc, disk, plan, all, &[], &judged.checked)?;
+    let text = locator_lines(alloc, &copies, &judged.checked)?;
     let are_sound = are_sound(&judged.checked);
     let is_clean = is_clean(&judged.scan, &judged.runs, are_sound, &shared_places);
     Ok(Listing { text, is_clean })
@@ -164,7 +186,12 @@ fn listing_of<R: Threads + Sync, D: PageSource>(
 ///
 /// There is a line for each named locator, in their order: `OWNER EXTENT OFFSET LENGTH UUID STATUS`. After
 /// that of one that has spares comes `spare EXTENT OFFSET LENGTH UUID COUNT`: the first of them by extent and
-/// offset, and how many there are. Owner and status have the report's words. Offset and length are in bytes.
+/// offset, and how many there are. After that of one that has none, but loose copies, comes `loose EXTENT
+/// OFFSET LENGTH UUID COUNT`, the same of these. Owner and status have the report's words. Offset and length
+/// are in bytes.
+///
+/// The bytes of the extents in use are read once more if a locator that dangles asks for bytes and has no
+/// spare.
 ///
 /// It scans as `scrub` does, with this many workers (0 to 64) beside the caller. The only fault is
 /// `OutOfMemory`, returned once every started worker has ended.

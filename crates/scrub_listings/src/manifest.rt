@@ -1,8 +1,8 @@
 //! The manifest of a disk: its retired extents, its index runs that aren't read as usual, and what the
-//! locators of each shard name, wherever that lies.
+//! locators of each shard name, wherever that lies; and what is said of the superblocks beside it.
 
-ghost use Rattle.std.specs.Prelude.{◌≡◌, ◌++◌, ◌≤◌, ◌&&◌, Bool, List, ℕ, AllPairs, IfOk, OnOk, is_none};
-ghost use Rattle.std.specs.Prelude.{map, string_bytes};
+ghost use Rattle.std.specs.Prelude.{◌≡◌, ◌++◌, ◌≤◌, ◌&&◌, ◌==◌, Bool, List, ℕ, AllPairs, IfOk, OnOk};
+ghost use Rattle.std.specs.Prelude.{is_none, length, map, string_bytes};
 ghost use Rattle.std.specs.Fmt.{decimal};
 ghost use Rattle.std.specs.List.{count_by, flat_map};
 ghost use Rattle.std.specs.List.Sorted.{IsStrictlyIncreasing};
@@ -14,26 +14,41 @@ ghost use Rattle.scrub_check.specs.Named.{named_by_shard};
 ghost use Rattle.scrub_found.specs.Takings.{AreTakingsBy};
 ghost use Rattle.scrub_found.specs.Judged.{IsScanBut};
 ghost use Rattle.scrub_listings.specs.Manifest.{HoldTheSame, HoldsBytes, IsManifestBut};
-ghost use Rattle.scrub_listings.specs.Manifest.{all_traits, after_status, form_text, is_whole_by, looked_for};
+ghost use Rattle.scrub_listings.specs.Manifest.{IsRemarkedManifest, all_traits, after_status, copy_word};
+ghost use Rattle.scrub_listings.specs.Manifest.{form_text, is_whole_by, looked_for};
 ghost use Rattle.scrub_listings.specs.Manifest.{numbered_line, numbered_lines, numbered_text, retired_line};
 ghost use Rattle.scrub_listings.specs.Manifest.{runs_line, shard_lines, spare_text, text_by, total_line};
+ghost use Rattle.scrub_listings.specs.declared.remarks.SuperblockRemark.{SuperblockRemark};
 ghost use Rattle.scrub_listings.specs.steps.Manifest.{after_status_by, is_of_read_row};
 
 use crate::listing::Listing;
-use scrub_check::{Checked, Owner, Spares, Status, form_at};
+use crate::remarks::{SuperblockRemark, superblock_remarks};
+use scrub_check::{Checked, Owner, Status, form_at};
 use scrub_disk::{OutOfMemory, PageSource};
 use scrub_found::judging::are_sound;
 use scrub_found::texts::{owner_text, status_text};
 use scrub_found::{RunRow, Scan, ScrubFault, judged_of, scan_chosen};
 use scrub_frame::{Form, Locator};
+use scrub_loose::{BestCopy, Copies};
 use scrub_merge::Binding;
 use scrub_pool::{Gate, Takings};
-use scrub_scan::{AllFindings, Standing};
-use scrub_super::{Plan, choose};
+use scrub_scan::AllFindings;
+use scrub_super::{Plan, choose_with_pages};
 use std::alloc::Global;
 use std::fmt::Write;
 use std::sync::Wait;
 use std::thread::Threads;
+
+/// The manifest of a disk, and what is said of its superblocks beside it.
+#[derive(Debug, Drop)]
+pub struct Manifest {
+    /// The lines, each with its line feed.
+    pub text: Vec<u8>,
+    /// What is said of the superblocks: of the pages of extent 0, ascending, and then that there is a tie.
+    pub remarks: Vec<SuperblockRemark>,
+    /// Whether nothing is missing, and there is no remark.
+    pub is_clean: bool,
+}
 
 /// Appends the number of a retired extent, with a space before it.
 fn append_extent(text: &mut String, extent: u32) -> Result<(), OutOfMemory>
@@ -110,34 +125,42 @@ pub fn append_place(text: &mut String, locator: &Locator) -> Result<(), OutOfMem
     write!(text, " {extent} {offset} {uuid}")
 }
 
-/// Appends whether a dangling locator has spares; nothing for another.
-fn append_spare(text: &mut String, status: Status, spares: &[Standing]) -> Result<(), OutOfMemory>
-    ensures { OnOk result (string_bytes text.new ≡ string_bytes text.old ++ spare_text status spares.now) }
+/// The word for the best copy that is left.
+pub fn copy_word(best: BestCopy) -> &'static str
+    ensures { result.now ≡ copy_word best }
+{
+    match best {
+        BestCopy::Nowhere => "none",
+        BestCopy::Loose => "loose",
+        BestCopy::Spare => "spare",
+    }
+}
+
+/// Appends the best copy of a dangling locator; nothing for another.
+fn append_spare(text: &mut String, status: Status, best: BestCopy) -> Result<(), OutOfMemory>
+    ensures { OnOk result (string_bytes text.new ≡ string_bytes text.old ++ spare_text status best) }
 {
     if !status.is_dangling() {
         return Ok(());
     }
-    if spares.is_empty() {
-        return write!(text, " none");
-    }
-    write!(text, " spare")
+    let word = copy_word(best);
+    write!(text, " {word}")
 }
 
-/// Appends what follows a locator's status, by the form of the chunk at its place and by its spares.
+/// Appends what follows a locator's status, by the form of the chunk at its place and by its best copy.
 fn append_after_status(
     text: &mut String,
     form: Option<Form>,
-    spares: &[Standing],
+    best: BestCopy,
     one: &Checked,
 ) -> Result<(), OutOfMemory>
-    ensures { OnOk result (string_bytes text.new ≡ string_bytes text.old ++
-        after_status form spares.now one.now) }
+    ensures { OnOk result (string_bytes text.new ≡ string_bytes text.old ++ after_status form best one.now) }
 {
     if one.status.is_sound() {
         return append_form(text, form);
     }
     append_place(text, &one.locator)?;
-    append_spare(text, one.status, spares)
+    append_spare(text, one.status, best)
 }
 
 /// Appends the line of a shard's locator of this number.
@@ -145,16 +168,16 @@ fn append_numbered<D: PageSource>(
     alloc: Global,
     text: &mut String,
     all: &AllFindings<'_, D>,
-    spares: &Spares,
+    copies: &Copies,
     number: usize,
     one: &Checked,
 ) -> Result<(), OutOfMemory>
     ensures { OnOk result (string_bytes text.new ≡ string_bytes text.old ++
-        numbered_line (after_status_by all.now.extents spares.now) number one.now) }
+        numbered_line (after_status_by all.now.extents copies.now) number one.now) }
 {
     append_text(alloc, text, number, one)?;
     let form = form_at(all, &one.locator);
-    append_after_status(text, form, spares.of_one(one), one)?;
+    append_after_status(text, form, copies.best(one), one)?;
     writeln!(text)
 }
 
@@ -163,14 +186,14 @@ fn append_shard<D: PageSource>(
     alloc: Global,
     text: &mut String,
     all: &AllFindings<'_, D>,
-    spares: &Spares,
+    copies: &Copies,
     own: &[Checked],
 ) -> Result<(), OutOfMemory>
     ensures { OnOk result (string_bytes text.new ≡ string_bytes text.old ++
-        numbered_lines (after_status_by all.now.extents spares.now) own.now) }
+        numbered_lines (after_status_by all.now.extents copies.now) own.now) }
 {
     for (number, one) in own.iter().enumerate() {
-        append_numbered(alloc, text, all, spares, number, one)?;
+        append_numbered(alloc, text, all, copies, number, one)?;
     }
     Ok(())
 }
@@ -180,7 +203,7 @@ fn append_shards<D: PageSource>(
     alloc: Global,
     text: &mut String,
     all: &AllFindings<'_, D>,
-    spares: &Spares,
+    copies: &Copies,
     bindings: &[Binding],
     checked: &[Checked],
 ) -> Result<(), OutOfMemory>
@@ -188,12 +211,12 @@ fn append_shards<D: PageSource>(
     requires along { map named_of checked.now ≡ flat_map named_by_shard bindings.now }
     ensures { OnOk result (string_bytes text.new ≡
         string_bytes text.old ++ flat_map (λ b.
-        shard_lines (after_status_by all.now.extents spares.now) checked.now b.id) bindings.now) }
+        shard_lines (after_status_by all.now.extents copies.now) checked.now b.id) bindings.now) }
 {
     let mut rest = checked;
     for binding in bindings {
         let (own, behind) = rest.split_at(binding.locators().len());
-        append_shard(alloc, text, all, spares, own)?;
+        append_shard(alloc, text, all, copies, own)?;
         rest = behind;
     }
     Ok(())
@@ -213,12 +236,12 @@ struct RunCounts {
     hidden: usize,
 }
 
-/// The text by what was scanned, the spares, the plan, the numbers of runs, the bindings, and the named
+/// The text by what was scanned, the copies, the plan, the numbers of runs, the bindings, and the named
 /// locators of their shards.
 fn text_by<D: PageSource>(
     alloc: Global,
     all: &AllFindings<'_, D>,
-    spares: &Spares,
+    copies: &Copies,
     plan: &Plan,
     runs: RunCounts,
     bindings: &[Binding],
@@ -226,7 +249,7 @@ fn text_by<D: PageSource>(
 ) -> Result<String, OutOfMemory>
     requires rising { AllPairs (λ b c. IsBelow b.id c.id) bindings.now }
     requires along { map named_of shards.now ≡ flat_map named_by_shard bindings.now }
-    ensures { IfOk result (λ text. string_bytes text ≡ text_by (after_status_by all.now.extents spares.now)
+    ensures { IfOk result (λ text. string_bytes text ≡ text_by (after_status_by all.now.extents copies.now)
         plan.now.has_superblock plan.now.retired runs.lost runs.hidden bindings.now shards.now) }
 {
     if !plan.has_superblock() {
@@ -235,7 +258,7 @@ fn text_by<D: PageSource>(
     let mut text = String::new(alloc);
     append_retired(&mut text, plan.retired())?;
     append_runs(&mut text, runs.lost, runs.hidden)?;
-    append_shards(alloc, &mut text, all, spares, bindings, shards)?;
+    append_shards(alloc, &mut text, all, copies, bindings, shards)?;
     append_total(&mut text, bindings.len(), shards.len())?;
     Ok(text)
 }
@@ -278,26 +301,28 @@ fn is_whole_by(plan: &Plan, lost: usize, hidden: usize, shards: &[Checked]) -> b
     plan.has_superblock() && lost == 0 && hidden == 0 && are_sound(shards)
 }
 
-/// The manifest of a scanned disk.
+/// The manifest of a scanned disk, as if these extents had been reset.
 fn manifest_of<R: Threads + Sync, D: PageSource>(
     rt: &R,
     alloc: Global,
     scan: Scan<'_, D>,
+    resets: &[u32],
 ) -> Result<Listing, OutOfMemory>
-    requires { (resets : List ℕ) × IsScanBut resets (D.image scan.disk.now) scan }
-    ensures { (resets : List ℕ) → IsScanBut resets (D.image scan.entry.disk.now) scan.entry →
-        IfOk result (λ m. IsManifestBut resets (D.image scan.entry.disk.now) m.text.items m.is_clean) }
+    requires { IsScanBut resets.now (D.image scan.disk.now) scan }
+    ensures { IfOk result (λ m.
+        IsManifestBut resets.now (D.image scan.entry.disk.now) m.text.items m.is_clean) }
 {
+    let disk = scan.disk;
     let judged = judged_of(rt, alloc, scan)?;
     let Scan { plan, all, .. } = &judged.scan;
     let (_runs, shards) = judged.checked.split_at(plan.runs().len());
-    let spares = Spares::of(alloc, all, &judged.checked)?;
+    let copies = Copies::of(rt, alloc, disk, plan, all, resets, &judged.checked)?;
     let lost = lost_runs(&judged.runs);
     let hidden = hidden_runs(&judged.runs, &judged.checked);
     let text = text_by(
         alloc,
         all,
-        &spares,
+        &copies,
         plan,
         RunCounts { lost, hidden },
         judged.map.bindings(),
@@ -310,22 +335,34 @@ fn manifest_of<R: Threads + Sync, D: PageSource>(
     })
 }
 
-/// Lists what a disk holds, wherever it lies, as lines that can be kept, compared and signed, and returns
-/// which extents the caller and each worker took. The disk is taken as if these extents, which are
-/// ascending, had been reset, which puts a write pointer to 0. It is clean if a superblock counts, no index run
-/// is lost or hidden, and each locator of a shard is sound.
+/// Whether nothing is missing, and there is no remark.
+fn is_clean_by(is_whole: bool, remarks: &[SuperblockRemark]) -> bool
+    ensures { result ≡ (is_whole && length remarks.now == 0) }
+{
+    is_whole && remarks.is_empty()
+}
+
+/// Lists what a disk holds, wherever it lies, as lines that can be kept, compared and signed, with what is
+/// said of its superblocks beside them, and returns which extents the caller and each worker took. The disk
+/// is taken as if these extents, which are ascending, had been reset, which puts a write pointer to 0; their
+/// frames are no loose copies then. It is clean if a superblock counts, no index run is lost or hidden, each
+/// locator of a shard is sound, and there is no remark.
 ///
-/// First comes `retired` with the retired extents, ascending, and `runs lost L hidden H` with how
-/// many index runs are lost, and how many are read though their locator is hidden. Then for each shard of the
-/// shard map, by identifier, and each of its locators, in their order, comes `shard ID NUMBER LENGTH DIGEST
-/// STATUS`. After `sound` comes the form of the chunk, `plain` or `sealed`; after another status `EXTENT
-/// OFFSET UUID` of the locator, and if it dangles `spare` where it has a spare, or else `none`. The number is
-/// that of the locator among the shard's, from 00, always in two digits. The length, that of the payload, and
-/// the offset are in bytes. Identifier and digest (SHA-256) are in hexadecimal digits, in lower case. The
-/// status has the report's words. At the end comes `total` with the numbers of shards and of their locators.
-/// Without a superblock there is one line `no-superblock` alone.
+/// First comes `retired` with the retired extents, ascending, and `runs lost L hidden H` with how many index
+/// runs are lost, and how many are read though their locator is hidden. Then for each shard of the shard map,
+/// by identifier, and each of its locators, in their order, comes `shard ID NUMBER LENGTH DIGEST STATUS`.
+/// After `sound` comes the form of the chunk, `plain` or `sealed`; after another status `EXTENT OFFSET UUID`
+/// of the locator, and if it dangles its best copy: `spare` where it has a spare, `loose` where it has none,
+/// but a loose copy, or else `none`. The number is that of the locator among the shard's, from 00, always in
+/// two digits. The length, that of the payload, and the offset are in bytes. Identifier and digest (SHA-256)
+/// are in hexadecimal digits, in lower case. The status has the report's words. At the end comes `total` with
+/// the numbers of shards and of their locators. Without a superblock there is one line `no-superblock` alone.
 ///
-/// It scans as `scrub` does, with this many workers (0 to 64) beside the caller. The only fault is
+/// There is a remark for each page of extent 0 that can't be read or is damaged, ascending, and then one if
+/// there is a tie. They don't depend on the extents that are taken as reset.
+///
+/// It scans as `scrub` does, with this many workers (0 to 64) beside the caller. The bytes of the extents in
+/// use are read once more if a locator that dangles asks for bytes and has no spare. The only fault is
 /// `OutOfMemory`, returned once every started worker has ended.
 pub fn list_manifest<D: PageSource, G: Gate, R: Threads + Wait + Sync>(
     rt: &R,
@@ -334,44 +371,61 @@ pub fn list_manifest<D: PageSource, G: Gate, R: Threads + Wait + Sync>(
     workers: u32,
     gate: &G,
     resets: &[u32],
-) -> Result<(Listing, Takings), ScrubFault>
+) -> Result<(Manifest, Takings), ScrubFault>
     requires workers { workers ≤ 64 }
     requires rising { IsStrictlyIncreasing resets.now }
     ensures manifest { IfOk result (λ r.
-        IsManifestBut resets.now (D.image disk.now) r.0.text.items r.0.is_clean) }
+        IsRemarkedManifest resets.now (D.image disk.now) r.0.text.items r.0.remarks.items r.0.is_clean) }
     ensures takings { IfOk result (λ r. AreTakingsBy (D.image disk.now) workers r.1) }
 {
-    let chosen = choose(alloc, disk)?;
+    let (chosen, pages) = choose_with_pages(alloc, disk)?;
+    let remarks = superblock_remarks(alloc, &chosen, &pages)?;
     let (scan, takings) = scan_chosen(rt, alloc, disk, chosen, workers, gate, resets)?;
-    let manifest = manifest_of(rt, alloc, scan)?;
-    Ok((manifest, takings))
+    let manifest = manifest_of(rt, alloc, scan, resets)?;
+    let is_clean = is_clean_by(manifest.is_clean, &remarks);
+    Ok((
+        Manifest {
+            text: manifest.text,
+            remarks,
+            is_clean,
+        },
+        takings,
+    ))
 }
 
-/// A law: an image has at most one manifest and one verdict, for each list of extents to be reset.
+/// A law: an image has at most one manifest and one verdict, for each list of extents to be reset; and with
+/// it one list of remarks.
 pub fn one_manifest()
-    ensures { (resets : List ℕ) (image : Image) (a b : List ℕ) (v w : Bool) → IsManifestBut resets image a v →
-        IsManifestBut resets image b w → (a ≡ b) × (v ≡ w) }
+    ensures text { (resets : List ℕ) (image : Image) (a b : List ℕ) (v w : Bool) →
+        IsManifestBut resets image a v → IsManifestBut resets image b w → (a ≡ b) × (v ≡ w) }
+    ensures remarked { (resets : List ℕ) (image : Image) (a b : List ℕ) (r s : List SuperblockRemark)
+        (v w : Bool) → IsRemarkedManifest resets image a r v → IsRemarkedManifest resets image b s w →
+        (a ≡ b) × (r ≡ s) × (v ≡ w) }
 {}
 
 /// A law: two disks with one manifest, as if whichever extents had been reset, both have a superblock or
 /// none, they have the same retired extents, as many index runs are lost or hidden, and the same is said of
-/// the shards' locators, so that they have one exit status. If the images are of bytes, they have the same
-/// shards, with the same lengths, digests and statuses in order, the same forms of the chunks of sound
-/// locators, the same extents and offsets of others, and the same dangling ones without spares.
+/// the shards' locators, so that nothing is missing of both or something of each. If the images are of bytes,
+/// they have the same shards, with the same lengths, digests and statuses in order, the same forms of the
+/// chunks of sound locators, the same extents and offsets of others, and the same best copies of dangling
+/// ones.
 pub fn one_manifest_holds_the_same()
     ensures said { (resets others : List ℕ) (image other : Image) (text : List ℕ) (v w : Bool)
         (x : IsManifestBut resets image text v) (y : IsManifestBut others other text w) →
-        HoldTheSame x.found y.found }
+        HoldTheSame x.found x.loose.frames y.found y.loose.frames }
     ensures whole { (resets others : List ℕ) (image other : Image) (text : List ℕ) (v w : Bool) →
         IsManifestBut resets image text v → IsManifestBut others other text w → v ≡ w }
     ensures shards { (resets others : List ℕ) (image other : Image) (text : List ℕ) (v w : Bool)
         (x : IsManifestBut resets image text v) (y : IsManifestBut others other text w) →
-        HoldsBytes image → HoldsBytes other → all_traits x.found ≡ all_traits y.found }
+        HoldsBytes image → HoldsBytes other →
+        all_traits x.found x.loose.frames ≡ all_traits y.found y.loose.frames }
 {}
 
 /// A law: each image has a manifest, for each list of extents to be reset, and a verdict whether anything is
-/// missing. With `one_manifest`, it has exactly one.
+/// missing; and with it remarks on its superblocks. With `one_manifest`, it has exactly one.
 pub fn each_image_has_a_manifest()
-    ensures { (resets : List ℕ) (image : Image) →
+    ensures text { (resets : List ℕ) (image : Image) →
         (text : List ℕ) × (whole : Bool) × IsManifestBut resets image text whole }
+    ensures remarked { (resets : List ℕ) (image : Image) → (text : List ℕ) ×
+        (remarks : List SuperblockRemark) × (clean : Bool) × IsRemarkedManifest resets image text remarks clean }
 {}

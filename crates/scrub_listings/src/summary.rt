@@ -1,6 +1,6 @@
 //! The summary of a disk: a verdict, and numbers by their names, for a person and for monitoring.
 
-ghost use Rattle.std.specs.Prelude.{◌≡◌, ◌+◌, ◌++◌, ◌||◌, ◌^◌, ◌<◌, ◌≤◌, Bool, List, ℕ, IfOk, OnOk, Option};
+ghost use Rattle.std.specs.Prelude.{◌≡◌, ◌+◌, ◌++◌, ◌||◌, ◌^◌, ◌<◌, ◌≤◌, Bool, List, ℕ, IfOk, OnOk, Option, []};
 ghost use Rattle.std.specs.Prelude.{is_none};
 ghost use Rattle.std.specs.Prelude.{length, map, string_bytes, sum};
 ghost use Rattle.std.specs.List.{count_by, filter, list_any, sum_by};
@@ -14,12 +14,13 @@ ghost use Rattle.scrub_check.specs.Checked.{is_dangling, is_hidden};
 ghost use Rattle.scrub_check.specs.Chunks.{orphans, twins};
 ghost use Rattle.scrub_check.specs.Live.{is_chunk, live_bytes, size_of};
 ghost use Rattle.scrub_check.specs.Runs.{ReadRunsValue};
+ghost use Rattle.scrub_loose.specs.Loose.{AreCopies};
 ghost use Rattle.scrub_found.specs.Takings.{AreTakingsBy};
 ghost use Rattle.scrub_found.specs.Judged.{AreRowsOf, IsScan, found_in};
 ghost use Rattle.scrub_listings.specs.steps.Summary.{AreSummaryLists, beside_lists};
 ghost use Rattle.scrub_listings.specs.Summary.{IsSummary, candidate_numbers, chunk_numbers};
 ghost use Rattle.scrub_listings.specs.Summary.{counts_as, disk_numbers, has_spare_by, is_behind, is_lost};
-ghost use Rattle.scrub_listings.specs.Summary.{is_noise};
+ghost use Rattle.scrub_listings.specs.Summary.{has_loose_copy_by, is_noise};
 ghost use Rattle.scrub_listings.specs.Summary.{is_sound_verdict, is_torn, item_numbers};
 ghost use Rattle.scrub_listings.specs.Summary.{number_line, number_lines, numbers_by, one_if};
 ghost use Rattle.scrub_listings.specs.Summary.{reading_numbers, shard_numbers, superblock_numbers, tally_in};
@@ -27,10 +28,11 @@ ghost use Rattle.scrub_listings.specs.Summary.{verdict, verdict_by, verdict_line
 
 use crate::listing::Listing;
 use crate::manifest::lost_runs;
-use scrub_check::{Candidate, Checked, Liveness, Place, Spares, broken_shards, is_chunk, size_of};
+use scrub_check::{Candidate, Checked, Liveness, Place, broken_shards, is_chunk, size_of};
 use scrub_disk::{OutOfMemory, PageSource};
 use scrub_found::judging::{are_sound, liveness_and_twins};
 use scrub_found::{Judged, Scan, ScrubFault, is_clean, judged_of, scan_chosen};
+use scrub_loose::Copies;
 use scrub_merge::Binding;
 use scrub_pool::{Gate, Takings};
 use scrub_run::ShardId;
@@ -346,13 +348,23 @@ fn dangling_count(checked: &[Checked]) -> usize
         .count()
 }
 
-/// How many named locators have spares among these.
-fn count_spared(spares: &Spares, checked: &[Checked]) -> usize
-    ensures { result ≡ count_by (has_spare_by spares.now) checked.now }
+/// How many named locators have spares among these copies.
+fn count_spared(copies: &Copies, checked: &[Checked]) -> usize
+    ensures { result ≡ count_by (has_spare_by copies.now.spares) checked.now }
 {
     checked
         .iter()
-        .filter(|one| !spares.of_one(one).is_empty())
+        .filter(|one| !copies.spares_of(one).is_empty())
+        .count()
+}
+
+/// How many named locators have loose copies among these copies.
+fn count_loose(copies: &Copies, checked: &[Checked]) -> usize
+    ensures { result ≡ count_by (has_loose_copy_by copies.now) checked.now }
+{
+    checked
+        .iter()
+        .filter(|one| !copies.loose_of(one).is_empty())
         .count()
 }
 
@@ -433,9 +445,10 @@ fn append_shards(
     broken: usize,
     checked: &[Checked],
     spared: usize,
+    loose: usize,
 ) -> Result<(), OutOfMemory>
-    ensures { OnOk result (string_bytes text.new ≡
-        string_bytes text.old ++ number_lines (shard_numbers bindings.now broken checked.now spared)) }
+    ensures { OnOk result (string_bytes text.new ≡ string_bytes text.old ++
+        number_lines (shard_numbers bindings.now broken checked.now spared loose)) }
 {
     append_numbers(
         text,
@@ -447,6 +460,7 @@ fn append_shards(
             ("locators_hidden", hidden_count(checked) as u128),
             ("locators_dangling", dangling_count(checked) as u128),
             ("spares", spared as u128),
+            ("loose_copies", loose as u128),
         ],
     )
 }
@@ -548,19 +562,22 @@ fn lists_of<R: Threads + Sync, D: PageSource>(
     })
 }
 
-/// Appends all numbers of what was found, with these pages of extent 0.
+/// Appends all numbers of what was found, with these pages of extent 0 and these copies.
 fn append_all<D: PageSource>(
-    alloc: Global,
     text: &mut String,
     pages: &[SuperblockPage],
     judged: &Judged<'_, D>,
     lists: &Lists,
+    copies: &Copies,
 ) -> Result<(), OutOfMemory>
     requires { AreSummaryLists judged.now lists.now }
-    ensures { (read : ReadRunsValue) → AreRowsOf judged.now.scan.plan.runs read judged.now.runs.items →
+    ensures { (read : ReadRunsValue) (image : Image)
+        (are : AreCopies [] image judged.now.scan.plan judged.now.scan.all.extents
+        judged.now.checked.items copies.now) →
+        AreRowsOf judged.now.scan.plan.runs read judged.now.runs.items →
         OnOk result (string_bytes text.new ≡ string_bytes text.old ++
         number_lines (numbers_by pages.now (found_in judged.now (beside_lists read lists.now))
-        (count_by is_none read.runs))) }
+        are.found.frames (count_by is_none read.runs))) }
 {
     let Scan {
         chosen,
@@ -569,17 +586,17 @@ fn append_all<D: PageSource>(
         ..
     } = &judged.scan;
     let lost = lost_runs(&judged.runs);
-    let spares = Spares::of(alloc, all, &judged.checked)?;
     let live = &lists.liveness.live;
     let orphan_count = lists.liveness.orphans.len();
     let shared = lists.liveness.shared.len();
     let bindings = judged.map.bindings();
     let broken = lists.broken.len();
-    let spared = count_spared(&spares, &judged.checked);
+    let spared = count_spared(copies, &judged.checked);
+    let loose = count_loose(copies, &judged.checked);
     append_disk(text, plan)?;
     append_superblocks(text, chosen, pages)?;
     append_reading(text, chosen, plan, all, lost)?;
-    append_shards(text, bindings, broken, &judged.checked, spared)?;
+    append_shards(text, bindings, broken, &judged.checked, spared, loose)?;
     append_chunks(text, all, live, orphan_count, lists.twins.len(), shared)?;
     append_items(text, all)?;
     append_candidates(text, &lists.liveness.candidates)
@@ -597,6 +614,7 @@ fn summary_of<R: Threads + Sync, D: PageSource>(
     requires pages { AreSuperblockPages (D.image scan.disk.now) pages.now }
     ensures { IfOk result (λ s. IsSummary last (D.image scan.entry.disk.now) s.text.items s.is_clean) }
 {
+    let disk = scan.disk;
     let judged = judged_of(rt, alloc, scan)?;
     let lists = lists_of(rt, alloc, &judged)?;
     let has_doubt = has_doubt(last, &judged.scan.chosen, pages);
@@ -608,9 +626,11 @@ fn summary_of<R: Threads + Sync, D: PageSource>(
         &lists.liveness.shared,
     );
     let verdict = verdict_by(is_clean, has_doubt);
+    let Scan { plan, all, .. } = &judged.scan;
+    let copies = Copies::of(rt, alloc, disk, plan, all, &[], &judged.checked)?;
     let mut text = String::new(alloc);
     append_verdict(&mut text, verdict)?;
-    append_all(alloc, &mut text, pages, &judged, &lists)?;
+    append_all(&mut text, pages, &judged, &lists, &copies)?;
     Ok(Listing {
         text: text.into_bytes(),
         is_clean: is_sound_verdict(verdict),
@@ -621,10 +641,13 @@ fn summary_of<R: Threads + Sync, D: PageSource>(
 /// `sound`.
 ///
 /// First comes `verdict sound`, `verdict doubt` or `verdict wrong`, and then `NAME NUMBER` for each number,
-/// always all of them in the same order. If `last` is given, the generation of the last superblock that was
-/// written to the disk, the verdict isn't `sound` unless the superblock that counts has it.
+/// always all of them in the same order. `spares` and `loose_copies` are numbers of named locators: of those
+/// that have spares, and of those that have none, but loose copies. If `last` is given, the generation of the
+/// last superblock that was written to the disk, the verdict isn't `sound` unless the superblock that counts
+/// has it.
 ///
-/// It scans as `scrub` does, with this many workers (0 to 64) beside the caller. The only fault is
+/// It scans as `scrub` does, with this many workers (0 to 64) beside the caller. The bytes of the extents in
+/// use are read once more if a locator that dangles asks for bytes and has no spare. The only fault is
 /// `OutOfMemory`, returned once every started worker has ended.
 pub fn list_summary<D: PageSource, G: Gate, R: Threads + Wait + Sync>(
     rt: &R,

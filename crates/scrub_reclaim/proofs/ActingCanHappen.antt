@@ -14,11 +14,14 @@ use Rattle.scrub_scan.specs.declared.findings.Findings.{Findings}
 use Rattle.scrub_scan.specs.Extent.{FrameAt, extent_of}
 use Rattle.scrub_scan.specs.Findings.{IsFindings}
 use Rattle.scrub_check.specs.Candidates.{AreCandidates, CandidateValue}
+use Rattle.scrub_super.proofs.PlansFit.{plan_fits}
+use Rattle.scrub_loose.specs.Loose.{AreLoose, LooseValue}
+use Rattle.scrub_loose.proofs.LooseThere.{some_loose}
 use Rattle.scrub_found.specs.Scrubbed.{IsScrubbed, Scrubbed}
 use Rattle.scrub_reclaim.specs.Copy.{AreFramesFrom, HasRoomAt, IsAfterCopies, RoomValue, WholeFrame}
 use Rattle.scrub_reclaim.specs.Doubts.{Acceptance, doubts, is_accepted}
-use Rattle.scrub_reclaim.specs.Reclaimable.{AcceptsNoSpare, accepted_in, is_clear, reclaimed}
-use Rattle.scrub_reclaim.specs.Reset.{AreListedWithoutSpares, IsAfterReset, IsForeseen, IsListedWithoutMoves, IsPlanIn, IsReclaimed}
+use Rattle.scrub_reclaim.specs.Reclaimable.{AcceptsNoLoose, AcceptsNoSpare, accepted_in, is_clear, reclaimed}
+use Rattle.scrub_reclaim.specs.Reset.{AreListedKeepingCopies, IsAfterReset, IsForeseen, IsListedWithoutMoves, IsPlanIn, IsReclaimed}
 use Rattle.scrub_reclaim.proofs.FoundOnSmallDisks.{all_found, all_free, no_bindings, no_candidate, no_runs, none_broken, none_named, none_read, none_shared, one_candidate, plan_under, scanned}
 use Rattle.scrub_reclaim.proofs.SmallDisks.{AreSmall, byte_of, choice_of, chosen, disk, found_nothing, found_pad, nothing, one_pad, pages_are, pages_of, zeros}
 
@@ -61,19 +64,26 @@ scrubbed_full : (n : ℕ) → AreSmall n 64 → IsScrubbed (disk n 64 zeros) (fu
 scrubbed_full n are = scrubbed_under n 64 zeros are one_pad (all_free ∷ []) (found_pad n 64) (one_candidate n)
 
 -- there is no doubt, unless another superblock is given as the last one
-no_doubt : (n : ℕ) (last : Option ℕ) → IfSome last (λ g. g ≡ n) → doubts last (pages_of n) (full n) ≡ []
-no_doubt n None same = refl
-no_doubt n (Some g) same = rw (eq-eqb n g (sym same)) refl
+no_doubt : (n : ℕ) (last : Option ℕ) (loose : LooseValue) → IfSome last (λ g. g ≡ n) → doubts last (pages_of n) loose (full n) ≡ []
+no_doubt n None loose same = refl
+no_doubt n (Some g) loose same = rw (eq-eqb n g (sym same)) refl
+
+-- its loose frames, whatever they are
+loose_on : (n w : ℕ) (xs : List ℕ) → AreSmall n w → (v : LooseValue) × AreLoose [] (disk n w xs) (plan_under n w) v
+loose_on n w xs are = some_loose [] (disk n w xs) (plan_under n w) (plan_fits (disk n w xs) (choice_of n w) (plan_under n w) (chosen n w xs are) refl)
 
 -- so extent 1 is listed, whatever lines are accepted
 module _ (accepted : Acceptance) (n : ℕ) (same : IfSome accepted.last (λ g. g ≡ n)) (are : AreSmall n 64) where
-  none : doubts accepted.last (pages_of n) (full n) ≡ []
-  none = no_doubt n accepted.last same
+  abbrev loose : LooseValue
+  loose = (loose_on n 64 zeros are).0
 
-  clear : is_clear accepted (pages_of n) (full n) ≡ true
+  none : doubts accepted.last (pages_of n) loose (full n) ≡ []
+  none = no_doubt n accepted.last loose same
+
+  clear : is_clear accepted (pages_of n) loose (full n) ≡ true
   clear = ap (list_all (is_accepted (accepted_in accepted (full n)))) none
 
-  listed : reclaimed accepted (pages_of n) (full n) ≡ all_free ∷ []
+  listed : reclaimed accepted (pages_of n) loose (full n) ≡ all_free ∷ []
   listed = ap (λ b. cond b (all_free ∷ []) []) clear
 
   first_listed : IsListedWithoutMoves (disk n 64 zeros) accepted 1
@@ -82,6 +92,8 @@ module _ (accepted : Acceptance) (n : ℕ) (same : IfSome accepted.last (λ g. g
     scrubbed = scrubbed_full n are;
     pages = pages_of n;
     held = pages_are n 64 zeros are;
+    loose = loose;
+    are_loose = (loose_on n 64 zeros are).1;
     candidate = all_free;
     listed = subst (λ (cs : List CandidateValue). Contains cs all_free) (sym listed) (0, omega arith, refl);
     extent_is = refl;
@@ -93,17 +105,23 @@ module _ (accepted : Acceptance) (n : ℕ) (same : IfSome accepted.last (λ g. g
       All-cons (IsListedWithoutMoves (disk n 64 zeros) accepted) 1 [] first_listed
       (All-nil (IsListedWithoutMoves (disk n 64 zeros) accepted))
 
-  no_spare : AcceptsNoSpare accepted (pages_of n) (full n)
+  no_spare : AcceptsNoSpare accepted (pages_of n) loose (full n)
   no_spare = rw none refl
 
-  listed_without_spares : AreListedWithoutSpares accepted (1 ∷ []) (disk n 64 zeros)
-  listed_without_spares = record {
+  no_loose : AcceptsNoLoose accepted (pages_of n) loose (full n)
+  no_loose = rw none refl
+
+  listed_keeping_copies : AreListedKeepingCopies accepted (1 ∷ []) (disk n 64 zeros)
+  listed_keeping_copies = record {
     found = full n;
     scrubbed = scrubbed_full n are;
     pages = pages_of n;
     held = pages_are n 64 zeros are;
+    loose = loose;
+    are_loose = (loose_on n 64 zeros are).1;
     listed = all_listed;
     spares = no_spare;
+    loose_copies = no_loose;
   }
 
 -- ---- what is acted on is extent 1 alone
@@ -166,7 +184,7 @@ next_fits (Some g) fits = fits
 -- If a generation can follow `last`, a disk has extent 1 listed, whatever is accepted, and then reset.
 pub a_reset_can_happen : (accepted : Acceptance) → IfSome accepted.last (λ g. g + 1 < 2 ^ 64) →
     (before after : Image) × IsReclaimed accepted (1 ∷ []) before after × IsForeseen (1 ∷ []) before after
-    × AreListedWithoutSpares accepted (1 ∷ []) before
+    × AreListedKeepingCopies accepted (1 ∷ []) before
 a_reset_can_happen accepted given =
     let n : ℕ = generation_of accepted.last in
     let fits : n + 1 < 2 ^ 64 = next_fits accepted.last given in
@@ -176,7 +194,7 @@ a_reset_can_happen accepted given =
       disk (n + 1) 0 zeros,
       record { listed = all_listed accepted n same are; reset = after_reset n fits },
       foreseen n fits,
-      listed_without_spares accepted n same are,
+      listed_keeping_copies accepted n same are,
     )
 
 -- ---- a copy: into an empty extent, the frame of `abc`
@@ -206,6 +224,8 @@ had_room : HasRoomAt (disk 2 0 zeros) 1 0
 had_room = record {
   found = found_under 2 0 nothing [];
   scrubbed = scrubbed_under 2 0 zeros small_empty nothing [] (found_nothing 2 0) (no_candidate 2);
+  loose = (loose_on 2 0 zeros small_empty).0;
+  are_loose = (loose_on 2 0 zeros small_empty).1;
   scanned = scanned 0 nothing;
   among = (0, omega arith, refl);
   extent_is = refl;

@@ -1,5 +1,5 @@
 -- The lines of what can be reclaimed are those of what was found, an image has one such text, and reclaiming is safe.
-use Rattle.std.proofs.Common.{◌≡◌, ◌++◌, ◌==◌, ◌&&◌, ℕ, Bool, true, false, List, [], ◌∷◌, append-nil, append_assoc, get_or, length, arith, sym, ap, ◌∙◌, if◌then◌else◌}
+use Rattle.std.proofs.Common.{◌≡◌, ◌++◌, ◌==◌, ◌&&◌, ℕ, Bool, true, false, List, [], ◌∷◌, append-nil, append_assoc, get_or, length, arith, sym, ap, subst, ◌∙◌, if◌then◌else◌}
 use Rattle.std.specs.List.{Contains, flat_map}
 use Rattle.std.proofs.lemmas.Bool.{eq-eqb, eqb-true, false≢true}
 use Rattle.std.proofs.lemmas.List.Elements.{All-contains_itself}
@@ -19,6 +19,8 @@ use Rattle.scrub_check.specs.SafeCandidates.{IsKept, AreSafe}
 use Rattle.scrub_check.specs.WholeScan.{IsWholeScan}
 use Rattle.scrub_check.proofs.KeptChunks.{candidates_safe}
 use Rattle.scrub_check.proofs.ListsThere.{some_broken, some_shared}
+use Rattle.scrub_loose.specs.Loose.{AreLoose, LooseValue}
+use Rattle.scrub_loose.proofs.OneLoose.{one_loose}
 use Rattle.scrub_found.specs.Judged.{Beside, IsFoundOn, found_in}
 use Rattle.scrub_report.specs.Report.{IsReport, report_text}
 use Rattle.scrub_found.specs.Scrubbed.{Scrubbed, IsScrubbed, is_in_doubt}
@@ -29,7 +31,7 @@ use Rattle.scrub_reclaim.specs.declared.doubts.Doubt.{Doubt}
 use Rattle.scrub_reclaim.specs.Doubts.{are_accepted, doubts_in}
 use Rattle.scrub_reclaim.specs.Reclaimable.{AreMoved, AreOfCandidates, AreReclaimLines, IsMoved, MoveValue, accepted_in, all_candidate_lines, candidate_lines, doubt_line, doubt_lines, doubts_for, is_clear, moves_of, pointing_to, points_to, reclaim_text, reclaimed, rooms_for}
 use Rattle.scrub_reclaim.specs.declared.gathered.Gathered.{Gathered}
-use Rattle.scrub_reclaim.specs.steps.Gathered.{IsGatheredOn, doubts_of, lines_if}
+use Rattle.scrub_reclaim.specs.steps.Gathered.{AreKeptOf, IsGatheredOn, doubts_of, lines_if}
 use Rattle.scrub_reclaim.specs.Room.{room_lines}
 
 -- ---- what the code writes
@@ -51,57 +53,65 @@ module _ {D : Type 0} (image : Image) (g : Gathered D) (are : IsGatheredOn image
   abbrev pub found_by : Scrubbed
   found_by = found_in g.judged beside_gathered
 
+  -- The loose frames that the copies were gathered from.
+  abbrev pub loose_gathered : LooseValue
+  loose_gathered = are.copies.found
+
+  -- The copies that were gathered are kept of a disk with these.
+  pub kept_gathered : AreKeptOf loose_gathered g
+  kept_gathered = record { spares = are.copies.spares; each = are.copies.loose; asked = are.copies.asked; crowded = are.copies.crowded }
+
   -- the doubts of the rows are those of the runs
-  doubts_found : doubts_of accepted.last pages g ≡ doubts_for accepted pages found_by
+  doubts_found : doubts_of accepted.last pages loose_gathered g ≡ doubts_for accepted pages loose_gathered found_by
   doubts_found =
-      ap (λ (states : List RunState). doubts_in g.judged.scan.chosen accepted.last pages states g.judged.scan.plan.geometry.page g.judged.scan.all.extents g.judged.checked.items g.candidates.items)
+      ap (λ (states : List RunState). doubts_in g.judged.scan.chosen accepted.last pages states g.judged.scan.plan.geometry.page g.judged.scan.all.extents loose_gathered g.judged.checked.items g.candidates.items)
       found_gathered.rows.states_are
 
   -- the verdict is that of what was found
-  pub clear_found : (list : List Doubt) (clear : Bool) → list ≡ doubts_of accepted.last pages g →
-      clear ≡ are_accepted (accepted_on accepted g.judged.scan.chosen) list → clear ≡ is_clear accepted pages found_by
+  pub clear_found : (list : List Doubt) (clear : Bool) → list ≡ doubts_of accepted.last pages loose_gathered g →
+      clear ≡ are_accepted (accepted_on accepted g.judged.scan.chosen) list → clear ≡ is_clear accepted pages loose_gathered found_by
   clear_found list clear listed is = is ∙ ap (are_accepted (accepted_on accepted g.judged.scan.chosen)) (listed ∙ doubts_found)
 
   -- the text is that of what was found
-  pub lines_found : (list : List Doubt) (clear : Bool) (lines text : List ℕ) → list ≡ doubts_of accepted.last pages g →
+  pub lines_found : (list : List Doubt) (clear : Bool) (lines text : List ℕ) → list ≡ doubts_of accepted.last pages loose_gathered g →
       clear ≡ are_accepted (accepted_on accepted g.judged.scan.chosen) list → lines ≡ doubt_lines (accepted_on accepted g.judged.scan.chosen) list →
-      text ≡ lines ++ lines_if clear g → text ≡ reclaim_text accepted pages found_by
+      text ≡ lines ++ lines_if clear loose_gathered g → text ≡ reclaim_text accepted pages loose_gathered found_by
   lines_found list clear lines text listed is first all =
-      let front : List ℕ = doubt_lines (accepted_in accepted found_by) (doubts_for accepted pages found_by) in
+      let front : List ℕ = doubt_lines (accepted_in accepted found_by) (doubts_for accepted pages loose_gathered found_by) in
       all
-      ∙ ap (λ (u : List ℕ). u ++ lines_if clear g) (first ∙ ap (doubt_lines (accepted_on accepted g.judged.scan.chosen)) (listed ∙ doubts_found))
-      ∙ ap (λ (b : Bool). front ++ lines_if b g) (clear_found list clear listed is)
-      ∙ sym (append_assoc front (all_candidate_lines g.judged.checked.items (reclaimed accepted pages found_by)) (rooms_for (reclaimed accepted pages found_by) found_by))
+      ∙ ap (λ (u : List ℕ). u ++ lines_if clear loose_gathered g) (first ∙ ap (doubt_lines (accepted_on accepted g.judged.scan.chosen)) (listed ∙ doubts_found))
+      ∙ ap (λ (b : Bool). front ++ lines_if b loose_gathered g) (clear_found list clear listed is)
+      ∙ sym (append_assoc front (all_candidate_lines g.judged.checked.items (reclaimed accepted pages loose_gathered found_by)) (rooms_for (reclaimed accepted pages loose_gathered found_by) loose_gathered found_by))
 
 -- if there are no candidates, nothing is listed
-no_lines_of : (clear : Bool) (geometry : Geometry) (all : List Scanned) (checked : List Checked) (cs : List CandidateValue) (old : List ℕ) →
+no_lines_of : (clear : Bool) (geometry : Geometry) (all : List Scanned) (loose : LooseValue) (checked : List Checked) (cs : List CandidateValue) (old : List ℕ) →
     (length cs == 0) ≡ true →
-    old ≡ old ++ (all_candidate_lines checked (if clear then cs else []) ++ (if length (if clear then cs else []) == 0 then [] else room_lines geometry all checked (if clear then cs else [])))
-no_lines_of false geometry all checked cs old none = sym (append-nil old)
-no_lines_of true geometry all checked [] old none = sym (append-nil old)
-no_lines_of true geometry all checked (c ∷ cs) old none =
+    old ≡ old ++ (all_candidate_lines checked (if clear then cs else []) ++ (if length (if clear then cs else []) == 0 then [] else room_lines geometry all loose checked (if clear then cs else [])))
+no_lines_of false geometry all loose checked cs old none = sym (append-nil old)
+no_lines_of true geometry all loose checked [] old none = sym (append-nil old)
+no_lines_of true geometry all loose checked (c ∷ cs) old none =
     let e : length (c ∷ cs) ≡ 0 = eqb-true (length (c ∷ cs)) 0 none in absurd (omega (arith, e))
 
 -- if there are some and it is clear, all of them are
-some_lines_of : (clear : Bool) (geometry : Geometry) (all : List Scanned) (checked : List Checked) (cs : List CandidateValue) →
+some_lines_of : (clear : Bool) (geometry : Geometry) (all : List Scanned) (loose : LooseValue) (checked : List Checked) (cs : List CandidateValue) →
     clear ≡ true → (length cs == 0) ≡ false →
-    all_candidate_lines checked cs ++ room_lines geometry all checked cs
-    ≡ all_candidate_lines checked (if clear then cs else []) ++ (if length (if clear then cs else []) == 0 then [] else room_lines geometry all checked (if clear then cs else []))
-some_lines_of false geometry all checked cs is some = absurd (false≢true is)
-some_lines_of true geometry all checked [] is some = absurd (false≢true (sym some))
-some_lines_of true geometry all checked (c ∷ cs) is some =
-    ap (λ (b : Bool). all_candidate_lines checked (c ∷ cs) ++ (if b then [] else room_lines geometry all checked (c ∷ cs))) (sym some)
+    all_candidate_lines checked cs ++ room_lines geometry all loose checked cs
+    ≡ all_candidate_lines checked (if clear then cs else []) ++ (if length (if clear then cs else []) == 0 then [] else room_lines geometry all loose checked (if clear then cs else []))
+some_lines_of false geometry all loose checked cs is some = absurd (false≢true is)
+some_lines_of true geometry all loose checked [] is some = absurd (false≢true (sym some))
+some_lines_of true geometry all loose checked (c ∷ cs) is some =
+    ap (λ (b : Bool). all_candidate_lines checked (c ∷ cs) ++ (if b then [] else room_lines geometry all loose checked (c ∷ cs))) (sym some)
 
-module _ {D : Type 0} (clear : Bool) (g : Gathered D) where
+module _ {D : Type 0} (clear : Bool) (loose : LooseValue) (g : Gathered D) where
   -- Without candidates no line follows those of the doubts.
-  pub no_lines : (old : List ℕ) → (length g.candidates.items == 0) ≡ true → old ≡ old ++ lines_if clear g
-  no_lines old none = no_lines_of clear g.judged.scan.plan.geometry g.judged.scan.all.extents g.judged.checked.items g.candidates.items old none
+  pub no_lines : (old : List ℕ) → (length g.candidates.items == 0) ≡ true → old ≡ old ++ lines_if clear loose g
+  no_lines old none = no_lines_of clear g.judged.scan.plan.geometry g.judged.scan.all.extents loose g.judged.checked.items g.candidates.items old none
 
   -- If it is clear, the lines of the candidates and of the rooms follow those of the doubts.
   pub some_lines : clear ≡ true → (length g.candidates.items == 0) ≡ false →
       all_candidate_lines g.judged.checked.items g.candidates.items
-      ++ room_lines g.judged.scan.plan.geometry g.judged.scan.all.extents g.judged.checked.items g.candidates.items ≡ lines_if clear g
-  some_lines is some = some_lines_of clear g.judged.scan.plan.geometry g.judged.scan.all.extents g.judged.checked.items g.candidates.items is some
+      ++ room_lines g.judged.scan.plan.geometry g.judged.scan.all.extents loose g.judged.checked.items g.candidates.items ≡ lines_if clear loose g
+  some_lines is some = some_lines_of clear g.judged.scan.plan.geometry g.judged.scan.all.extents loose g.judged.checked.items g.candidates.items is some
 
 -- ---- one text, and one verdict
 
@@ -111,9 +121,10 @@ module _ (image : Image) (accepted : Acceptance) where
       (a ≡ b) × (v ≡ w)
   one_reclaim_lem a b v w x y =
       let same = one_scrub image x.found y.found x.scrubbed y.scrubbed in
-      let pages = one_list_of_pages image x.pages y.pages x.held y.held in (
-        x.text_is ∙ (λ i. reclaim_text accepted (pages i) (same i)) ∙ sym y.text_is,
-        x.verdict ∙ (λ i. is_clear accepted (pages i) (same i)) ∙ sym y.verdict,
+      let pages = one_list_of_pages image x.pages y.pages x.held y.held in
+      let loose = one_loose [] image y.found.plan x.loose y.loose (subst (λ (s : Scrubbed). AreLoose [] image s.plan x.loose) same x.are_loose) y.are_loose in (
+        x.text_is ∙ (λ i. reclaim_text accepted (pages i) (loose i) (same i)) ∙ sym y.text_is,
+        x.verdict ∙ (λ i. is_clear accepted (pages i) (loose i) (same i)) ∙ sym y.verdict,
       )
 
   -- the extents are those of the report
@@ -124,11 +135,13 @@ module _ (image : Image) (accepted : Acceptance) where
     scrubbed = t.scrubbed;
     pages = t.pages;
     held = t.held;
+    loose = t.loose;
+    are_loose = t.are_loose;
     report_is = r.text_is ∙ ap report_text (one_scrub image r.found t.found r.scrubbed t.scrubbed);
     text_is =
         t.text_is
         ∙ ap
-        (λ (b : Bool). flat_map (doubt_line (accepted_in accepted t.found)) (doubts_for accepted t.pages t.found) ++ flat_map (candidate_lines t.found.checked) (if b then t.found.candidates else []) ++ rooms_for (if b then t.found.candidates else []) t.found)
+        (λ (b : Bool). flat_map (doubt_line (accepted_in accepted t.found)) (doubts_for accepted t.pages t.loose t.found) ++ flat_map (candidate_lines t.found.checked) (if b then t.found.candidates else []) ++ rooms_for (if b then t.found.candidates else []) t.loose t.found)
         (sym t.verdict);
   }
 
@@ -173,9 +186,9 @@ whole image found x = record {
 }
 
 -- Each named locator into an extent to reclaim is sound and among the moves out of it.
-pub safe_to_reclaim : (image : Image) (accepted : Acceptance) (pages : List SuperblockPage) (found : Scrubbed) →
-    IsScrubbed image found → AreMoved found.checked (reclaimed accepted pages found)
-safe_to_reclaim image accepted pages found x = by (is_clear accepted pages found)
+pub safe_to_reclaim : (image : Image) (accepted : Acceptance) (pages : List SuperblockPage) (loose : LooseValue) (found : Scrubbed) →
+    IsScrubbed image found → AreMoved found.checked (reclaimed accepted pages loose found)
+safe_to_reclaim image accepted pages loose found x = by (is_clear accepted pages loose found)
   where
     safe : AreSafe found.checked found.candidates
     safe =

@@ -1,21 +1,20 @@
 -- Copies into room lose nothing: each chunk is still one, the same is named with the same statuses, and what was copied is found.
-use Rattle.std.proofs.Common.{◌≡◌, ◌≢◌, ◌⊎◌, ◌<◌, ◌≤◌, ◌==◌, ◌&&◌, ◌||◌, ℕ, Bool, true, false, not, nat_lt, is_none, Option, Some, None, List, [], ◌∷◌, length, get_or, arith, refl, sym, ◌∙◌, ap, subst, inl, inr, if◌then◌else◌}
+use Rattle.std.proofs.Common.{◌≡◌, ◌≢◌, ◌⊎◌, ◌<◌, ◌≤◌, ◌==◌, ◌||◌, ℕ, Bool, true, false, not, nat_lt, Option, Some, None, List, [], ◌∷◌, length, get_or, arith, refl, sym, ◌∙◌, ap, subst, inl, inr}
 use Rattle.std.proofs.Math.Path.{fun_ext}
-use Rattle.std.specs.List.{All, AllZip, Contains, count_by, find}
+use Rattle.std.specs.List.{All, AllZip, Contains, find, list_any}
 use Rattle.std.specs.Option.{option_and_then}
 use Rattle.std.proofs.lemmas.Bool.{and_parts, eq-eqb, eqb-true, false≢true, ltb-false}
-use Rattle.std.proofs.lemmas.Grind.{common_steps}
 use Rattle.std.proofs.lemmas.Option.{same_Some}
-use Rattle.std.proofs.lemmas.List.Elements.{All-contains, All-contains_itself, All-filter}
-use Rattle.list_facts.proofs.Elements.{Contains-behind, Contains-cases, Contains-filter_map, Contains-from_filter_map, Contains-from_map, Contains-map}
+use Rattle.std.proofs.lemmas.List.Elements.{All-contains, All-contains_itself}
+use Rattle.list_facts.proofs.Elements.{Contains-behind, Contains-cases, Contains-from_map, Contains-map}
 use Rattle.list_facts.proofs.Bools.{false_from_not}
 use Rattle.scrub_disk.specs.declared.geometry.Geometry.{Geometry}
 use Rattle.scrub_disk.specs.Image.{Image, image_byte, extent_bytes}
 use Rattle.scrub_frame.specs.declared.locator.Locator.{Locator}
 use Rattle.scrub_super.specs.Plan.{PlanValue, pointer_of}
 use Rattle.scrub_super.proofs.PlanParts.{plan_parts}
+use Rattle.scrub_super.proofs.PlansFit.{plan_fits}
 use Rattle.scrub_scan.specs.declared.item.Item.{Item}
-use Rattle.scrub_scan.specs.declared.item.Item.TheVariants.{Chunk, Pad, Torn, Noise, Lost}
 use Rattle.scrub_scan.specs.declared.standing.Standing.{Standing}
 use Rattle.scrub_scan.specs.AllFindings.{entry_of, extent_numbers}
 use Rattle.scrub_scan.specs.Extent.{extent_of}
@@ -23,34 +22,40 @@ use Rattle.scrub_scan.specs.Item.{start_of}
 use Rattle.scrub_scan.specs.Scanned.{Scanned}
 use Rattle.scrub_scan.specs.Tiling.{IsTiling}
 use Rattle.scrub_scan.proofs.Tilings.{one_tiling}
-use Rattle.scrub_merge.specs.Binding.{BindingValue}
 use Rattle.scrub_check.specs.declared.statuses.checked.Checked.{Checked}
 use Rattle.scrub_check.specs.declared.statuses.status.Status.{Status}
 use Rattle.scrub_check.specs.declared.statuses.status.Status.TheVariants.{Sound}
 use Rattle.scrub_check.specs.Candidates.{has_sound_alone}
-use Rattle.scrub_check.specs.Checked.{is_hidden, is_sound}
+use Rattle.scrub_check.specs.Checked.{is_sound}
 use Rattle.scrub_check.specs.ChunkForms.{form_at, form_of}
 use Rattle.scrub_check.specs.Live.{is_chunk}
-use Rattle.scrub_check.specs.Runs.{ReadRunsValue}
-use Rattle.scrub_check.specs.Spares.{frame_of_item, frames, frames_in, spares_of}
+use Rattle.scrub_check.specs.Spares.{spares_of}
 use Rattle.scrub_check.specs.Status.{HasStatusIn}
 use Rattle.scrub_check.proofs.RunStates.{Sound_from_is_sound}
+use Rattle.scrub_loose.specs.Loose.{AreLoose, IsSearched, LooseValue, best_of, loose_of}
+use Rattle.scrub_loose.proofs.LooseThere.{some_loose}
+use Rattle.scrub_loose.proofs.OneLoose.{one_loose}
 use Rattle.scrub_found.specs.Scrubbed.{Scrubbed, IsScrubbed, is_clean_extent, is_clean_item}
 use Rattle.scrub_found.proofs.OneReader.{one_scanned}
 use Rattle.scrub_found.proofs.OneScrub.{one_scrub}
-use Rattle.scrub_listings.specs.Manifest.{IsManifest, after_status_in, hidden_runs, is_of_read_run, is_of_shard, lost_runs, manifest_text, of_shards, text_by}
+use Rattle.scrub_listings.specs.Manifest.{IsManifest, manifest_text}
 use Rattle.scrub_listings.proofs.AllPass.{all_pass}
-use Rattle.scrub_reclaim.specs.Copy.{HasRoomAt, HoldsCopies, IsAfterCopies, IsPlanAfterCopies, IsSameButSpares, RoomValue, extents_of}
+use Rattle.scrub_reclaim.specs.Copy.{HasRoomAt, HoldsCopies, IsAfterCopies, IsPlanAfterCopies, IsSameButRisen, RoomValue, extents_of, rank}
+use Rattle.scrub_reclaim.specs.Doubts.{crowded_now}
 use Rattle.scrub_reclaim.specs.Reset.{IsPlanIn, NameTheSame}
-use Rattle.scrub_reclaim.specs.Room.{IsRoom, has_room, is_zero_to, may_grow, next_place, place_in, room_fits, room_in}
+use Rattle.scrub_reclaim.specs.Room.{IsRoom, has_room, holds_loose, is_closed, is_zero_to, may_grow, next_place, offers_room, place_in, room_fits, room_in}
+use Rattle.scrub_reclaim.proofs.BestCopies.{as_good, first_of, loose_among, not_nil}
 use Rattle.scrub_reclaim.proofs.CarriedNames.{Carries, named_alike}
 use Rattle.scrub_reclaim.proofs.CopiedExtents.{IsFilled, filled_carries, form_there, sound_chunk, sound_under, zero_there}
 use Rattle.scrub_reclaim.proofs.NextPlaces.{Grown, chunk_of, frames_are_chunks, grown, place_above}
 use Rattle.scrub_reclaim.proofs.Reset.{one_plan_in, same_verdict}
-use Rattle.scrub_reclaim.proofs.SameExtents.{HaveTheSameForms, IsScannedBy, IsTheSame, alike_items, carries, in_disk, same_numbers, scanned_by}
-use Rattle.scrub_reclaim.proofs.ResetForms.{along, frames_along, spare_among, spare_too}
+use Rattle.scrub_reclaim.proofs.SameExtents.{AreAlike, HaveTheSameForms, IsScannedBy, IsTheSame, alike_items, carries, in_disk, planned_there, same_numbers, same_planned, scanned_by}
+use Rattle.scrub_reclaim.proofs.ResetForms.{along}
 use Rattle.scrub_reclaim.proofs.RoomLines.{shows_room}
-use Rattle.scrub_reclaim.proofs.SparedTexts.{IsSaidAlike, said_alike, texts_alike}
+use Rattle.scrub_reclaim.proofs.KeptExtents.{AreFound, IsKept, found_both, spares_kept}
+use Rattle.scrub_reclaim.proofs.LooseFrames.{carried_over}
+use Rattle.scrub_reclaim.proofs.LooseLaw.{holds_it}
+use Rattle.scrub_reclaim.proofs.RisenTexts.{manifests_rise}
 
 -- ---- lists
 
@@ -71,110 +76,10 @@ room_cases (r ∷ rooms) e = by (r.extent == e) refl (room_cases rooms e)
     by false other (inl (s, there, is)) = inl (s, Contains-behind r rooms s there, is)
     by false other (inr none) = inr (λ there. neither other none (Contains-cases r.extent (extents_of rooms) e there))
 
--- what has some elements still does if it has all of the old ones
-some_still : {X : Type 0} (xs ys : List X) → ((x : X) → Contains xs x → Contains ys x) → (length xs == 0) ≡ false →
-    (length ys == 0) ≡ false
-some_still [] ys carry some = absurd (clash some)
-  where
-    clash : true ≡ false → ⊥
-    clash e = cc
-some_still (x ∷ xs) [] carry some = let there = carry x (0, omega arith, refl) in absurd (omega (arith, there.1))
-some_still {X} (x ∷ xs) (y ∷ ys) carry some = not_none y ys
-  where
-    not_none : (v : X) (vs : List X) → (length (v ∷ vs) == 0) ≡ false
-    not_none v vs = grind (arith, common_steps)
-
--- ---- scanned extents
-
--- an extent that was scanned before and after, each chunk of which is still one
-record IsKept (f g : Scanned) : Type 0 where
-  extent : g.extent ≡ f.extent
-  chunks : (item : Item) → Contains f.findings.items item → is_chunk item ≡ true → Contains g.findings.items item
-
--- what an extent's number finds
-abbrev AreFound : List Scanned → List Scanned → ℕ → Type 0
-AreFound fs gs e =
-    ((entry_of fs e ≡ None) × (entry_of gs e ≡ None)) ⊎
-    ((f : Scanned) × (g : Scanned) × (entry_of fs e ≡ Some f) × (entry_of gs e ≡ Some g) × Contains fs f × Contains gs g × (f.extent ≡ e) × IsKept f g)
-
-found_both : (fs gs : List Scanned) (e : ℕ) → AllZip IsKept fs gs → AreFound fs gs e
-found_both [] [] e zip = inl (refl, refl)
-found_both [] (g ∷ gs) e zip = absurd zip
-found_both (f ∷ fs) [] e zip = absurd zip
-found_both (f ∷ fs) (g ∷ gs) e zip = by (f.extent == e) refl (found_both fs gs e zip.1)
-  where
-    other : (f.extent == e) ≡ false → (g.extent == e) ≡ false
-    other o = ap (λ (n : ℕ). n == e) zip.0.extent ∙ o
-
-    same : (f.extent == e) ≡ true → (g.extent == e) ≡ true
-    same o = ap (λ (n : ℕ). n == e) zip.0.extent ∙ o
-
-    pick : (h : Scanned) (hs : List Scanned) (b : Bool) → (h.extent == e) ≡ b →
-        entry_of (h ∷ hs) e ≡ (if b then Some h else entry_of hs e)
-    pick h hs b is = ap (λ (t : Bool). if t then Some h else entry_of hs e) is
-
-    by : (b : Bool) → (f.extent == e) ≡ b → AreFound fs gs e → AreFound (f ∷ fs) (g ∷ gs) e
-    by true is rest = inr (
-      f,
-      g,
-      pick f fs true is,
-      pick g gs true (same is),
-      (0, omega arith, refl),
-      (0, omega arith, refl),
-      eqb-true f.extent e is,
-      zip.0,
-    )
-    by false is (inl none) = inl (pick f fs false is ∙ none.0, pick g gs false (other is) ∙ none.1)
-    by false is (inr (a, b, ea, eb, ca, cb, number, kept)) = inr (
-      a,
-      b,
-      pick f fs false is ∙ ea,
-      pick g gs false (other is) ∙ eb,
-      Contains-behind f fs a ca,
-      Contains-behind g gs b cb,
-      number,
-      kept,
-    )
-
--- ---- spares
-
--- a frame is that of a chunk
-frame_of_chunk : (e : ℕ) (item : Item) (s : Standing) → frame_of_item e item ≡ Some s → is_chunk item ≡ true
-frame_of_chunk e (Chunk form start stop uuid n digest) s is = refl
-frame_of_chunk e (Pad start stop) s is = absurd (none s is)
-  where
-    none : (t : Standing) → None ≡ Some t → ⊥
-    none t h = cc
-frame_of_chunk e (Torn start stop) s is = absurd (none s is)
-  where
-    none : (t : Standing) → None ≡ Some t → ⊥
-    none t h = cc
-frame_of_chunk e (Noise start stop) s is = absurd (none s is)
-  where
-    none : (t : Standing) → None ≡ Some t → ⊥
-    none t h = cc
-frame_of_chunk e (Lost start stop) s is = absurd (none s is)
-  where
-    none : (t : Standing) → None ≡ Some t → ⊥
-    none t h = cc
-
-frames_kept_in : (f g : Scanned) (s : Standing) → IsKept f g → Contains (frames_in f) s → Contains (frames_in g) s
-frames_kept_in f g s kept there =
-    let from = Contains-from_filter_map (frame_of_item f.extent) f.findings.items s there in
-    Contains-filter_map (frame_of_item g.extent) g.findings.items from.0 s
-    (kept.chunks from.0 from.1 (frame_of_chunk f.extent from.0 s from.2))
-    (ap (λ (e : ℕ). frame_of_item e from.0) kept.extent ∙ from.2)
-
-spares_kept : (fs gs : List Scanned) (c : Checked) (s : Standing) → AllZip IsKept fs gs → Contains (spares_of fs c) s →
-    Contains (spares_of gs c) s
-spares_kept fs gs c s zip there =
-    spare_too c (frames fs) (frames gs) s there
-    (frames_along IsKept s (λ f g kept inside. frames_kept_in f g s kept inside) fs gs zip (spare_among c (frames fs) (frames gs) s there))
-
 -- ---- the extents of a disk
 
 module _ (rooms : List RoomValue) (before after : Image) (found rest : Scrubbed) (x : IsScrubbed before found) (y : IsScrubbed after rest)
-    (c : IsAfterCopies rooms before after) where
+    (loose : LooseValue) (those : AreLoose [] before found.plan loose) (c : IsAfterCopies rooms before after) where
   old_plan : IsPlanIn before found.plan
   old_plan = record { choice = found.choice; chosen = x.choice; follows = x.plan }
 
@@ -196,6 +101,7 @@ module _ (rooms : List RoomValue) (before after : Image) (found rest : Scrubbed)
   -- what is known of the extent of a room
   record HasRoom (r : RoomValue) (f : Scanned) : Type 0 where
     place_is : r.place ≡ place_in found.plan.geometry f
+    unclosed : is_closed found.all loose found.checked f.extent ≡ false
     fits : has_room found.plan.geometry found.checked f ≡ true
     shown : IsRoom before f.extent f.pointer (place_in found.plan.geometry f)
 
@@ -204,19 +110,25 @@ module _ (rooms : List RoomValue) (before after : Image) (found rest : Scrubbed)
   scanned_room r there =
       let h : HasRoomAt before r.extent r.place = All-contains (λ (s : RoomValue). HasRoomAt before s.extent s.place) rooms r c.had there in
       let same : h.found ≡ found = one_scrub before h.found found h.scrubbed x in
+      let frames_are : h.loose ≡ loose = one_loose [] before found.plan h.loose loose (subst (λ (s : Scrubbed). AreLoose [] before s.plan h.loose) same h.are_loose) those in
       let among : Contains found.all h.scanned = subst (λ (s : Scrubbed). Contains s.all h.scanned) same h.among in
-      let fits : has_room found.plan.geometry found.checked h.scanned ≡ true =
-      ap (λ (s : Scrubbed). has_room s.plan.geometry s.checked h.scanned) (sym same) ∙ h.fits in (
+      let offers : offers_room found.plan.geometry found.all loose found.checked h.scanned ≡ true =
+      (λ i. (offered h.scanned) (sym frames_are i) (sym same i)) ∙ h.fits in
+      let parts = and_parts (not (is_closed found.all loose found.checked h.scanned.extent)) (has_room found.plan.geometry found.checked h.scanned) offers in (
         h.scanned,
         among,
         h.extent_is,
         record {
           place_is = h.place_is ∙ ap (λ (s : Scrubbed). place_in s.plan.geometry h.scanned) same;
-          fits = fits;
+          unclosed = false_from_not (is_closed found.all loose found.checked h.scanned.extent) parts.0;
+          fits = parts.1;
           shown =
-              All-contains (λ (f : Scanned). has_room found.plan.geometry found.checked f ≡ true → IsRoom before f.extent f.pointer (place_in found.plan.geometry f)) found.all h.scanned (shows_room before found x) among fits;
+              All-contains (λ (f : Scanned). has_room found.plan.geometry found.checked f ≡ true → IsRoom before f.extent f.pointer (place_in found.plan.geometry f)) found.all h.scanned (shows_room before found x) among parts.1;
         },
       )
+    where
+      offered : Scanned → LooseValue → Scrubbed → Bool
+      offered f v s = offers_room s.plan.geometry s.all v s.checked f
 
   -- and is scanned after the copies
   scanned_after : (f : Scanned) → Contains found.all f → (g : Scanned) × Contains rest.all g × (g.extent ≡ f.extent)
@@ -409,12 +321,12 @@ module _ (rooms : List RoomValue) (before after : Image) (found rest : Scrubbed)
 
   -- ---- the law
 
-  -- After copies into rooms the same is named as before.
-  pub names_alike : NameTheSame found rest
+  -- after copies into rooms the same is named as before
+  names_alike : NameTheSame found rest
   names_alike = named_alike [] [] before after found rest x y plans.has plans.runs plans.retired carry forms
 
-  -- After copies each room's extent has its old chunks, and whole frames from the place on are chunks.
-  pub holds_copies : All (λ (r : RoomValue). HoldsCopies after found rest r) rooms
+  -- each room's extent has its old chunks, and whole frames from the place on are chunks
+  holds_copies : All (λ (r : RoomValue). HoldsCopies after found rest r) rooms
   holds_copies i d below =
       let r : RoomValue = get_or rooms i d in
       let there : Contains rooms r = All-contains_itself rooms i d below in
@@ -435,32 +347,78 @@ module _ (rooms : List RoomValue) (before after : Image) (found rest : Scrubbed)
             (omega (arith, after.geometry.page_least)) is.grown.joined is.grown.each is.grown.among placed;
       }
 
-  said : All (λ (k : Checked). IsSaidAlike (after_status_in found.all k) (after_status_in rest.all k)) found.checked
-  said i d below =
-      let k : Checked = get_or found.checked i d in
-      said_alike (form_at found.all k.locator) (form_at rest.all k.locator) (spares_of found.all k) (spares_of rest.all k) k
-      (λ sound. forms i d below (Sound_from_is_sound k.status sound))
-      (some_still (spares_of found.all k) (spares_of rest.all k) (λ s. spares_kept found.all rest.all k s all_kept))
+  -- ---- the best copies
 
-  texts : IsSameButSpares (manifest_text found) (manifest_text rest)
-  texts =
-      subst (λ (t : List ℕ). IsSameButSpares (manifest_text found) t) same
-      (texts_alike (after_status_in found.all) (after_status_in rest.all) found.plan.has_superblock found.plan.retired (lost_runs found) (hidden_runs found) found.bindings (of_shards found.checked)
-      (All-filter (λ k. is_of_shard k.owner) (λ (k : Checked). IsSaidAlike (after_status_in found.all k) (after_status_in rest.all k)) found.checked said))
+  -- a loose copy isn't in a room
+  outside_rooms : (k : Checked) → Contains found.checked k → (s : Standing) → Contains (loose_of found.all loose.frames k) s →
+      ¬ Contains (extents_of rooms) s.extent
+  outside_rooms k there s copy = by (room_cases rooms s.extent)
     where
-      of : Bool → List ℕ → ReadRunsValue → List BindingValue → List Checked → List ℕ
-      of has retired reads binds all =
-          text_by (after_status_in rest.all) has retired (count_by is_none reads.runs) (count_by (λ k. is_hidden k.status && is_of_read_run reads.runs k.owner) all) binds (of_shards all)
+      by : ((r : RoomValue) × Contains rooms r × (r.extent ≡ s.extent)) ⊎ (¬ Contains (extents_of rooms) s.extent) → ¬ Contains (extents_of rooms) s.extent
+      by (inr other) = other
+      by (inl (r, among, number)) =
+          let t = scanned_room r among in
+          let holds : holds_loose found.all loose.frames found.checked t.0.extent ≡ true =
+          ap (holds_loose found.all loose.frames found.checked) (t.2 ∙ number) ∙ holds_it found.all loose.frames found.checked k s there copy in
+          absurd
+          (false≢true
+          (sym t.3.unclosed
+          ∙ ap (λ (b : Bool). b || list_any (λ n. n == t.0.extent) (crowded_now found.all loose.crowded found.checked)) holds))
 
-      same : of found.plan.has_superblock found.plan.retired found.read found.bindings found.checked ≡ manifest_text rest
-      same = λ i. of (sym names_alike.superblock i) (sym names_alike.retired i) (sym names_alike.read i) (sym names_alike.bindings i) (sym names_alike.checked i)
+  -- so it stays a loose frame
+  frame_there : (others : LooseValue) → AreLoose [] after rest.plan others → (s : Standing) → Contains loose.frames s →
+      ¬ Contains (extents_of rooms) s.extent → Contains others.frames s
+  frame_there others m s there other =
+      let searched : IsSearched [] found.plan s.extent = ((those.frames s).0 there).searched in
+      let in_disk = planned_there [] before found x s.extent searched.in_use in
+      let alike : AreAlike before after s.extent = record { sizes = c.sizes; bytes = fun_ext (λ p. c.others s.extent p in_disk.0 in_disk.1 other) } in
+      carried_over [] [] found.plan rest.plan s alike loose others those m
+      (λ h. record {
+        in_use = subst (λ (ns : List ℕ). Contains ns s.extent) (sym (same_planned [] [] before after found rest c.sizes plans.retired x y)) h.in_use;
+        stays = h.stays;
+      })
+      there
+
+  copies_rise : (others : LooseValue) → AreLoose [] after rest.plan others →
+      All (λ (k : Checked). rank (best_of found.all loose.frames k) ≤ rank (best_of rest.all others.frames k)) found.checked
+  copies_rise others m i d below =
+      let k : Checked = get_or found.checked i d in
+      as_good k found.all rest.all loose.frames others.frames
+      (λ some.
+      let one = first_of (spares_of found.all k) some in
+      not_nil (spares_of rest.all k) one.0 (spares_kept found.all rest.all k one.0 all_kept one.1))
+      (λ some.
+      let one = first_of (loose_of found.all loose.frames k) some in
+      let is = loose_among k found.all rest.all loose.frames others.frames one.0 one.1 in
+      (one.0, one.1, frame_there others m one.0 is.2 (outside_rooms k (All-contains_itself found.checked i d below) one.0 one.1)))
+
+  texts : (others : LooseValue) → AreLoose [] after rest.plan others →
+      IsSameButRisen (manifest_text found loose.frames) (manifest_text rest others.frames)
+  texts others m = manifests_rise found rest loose.frames others.frames names_alike forms (copies_rise others m)
 
 module _ (rooms : List RoomValue) (before after : Image) where
-  -- After copies the manifest is the same, but that `none` may be `spare`, and so is its verdict.
-  pub same_but_spares : (a b : List ℕ) (v w : Bool) → IsAfterCopies rooms before after → IsManifest before a v → IsManifest after b w →
-      IsSameButSpares a b × (v ≡ w)
-  same_but_spares a b v w c x y = (
-    subst (λ (t : List ℕ). IsSameButSpares t b) (sym x.text_is)
-        (subst (λ (t : List ℕ). IsSameButSpares (manifest_text x.found) t) (sym y.text_is) (texts rooms before after x.found y.found x.scrubbed y.scrubbed c)),
-    x.verdict ∙ sym (same_verdict x.found y.found (names_alike rooms before after x.found y.found x.scrubbed y.scrubbed c)) ∙ sym y.verdict,
+  -- After copies the manifest is the same, but that words for best copies may have risen, and so is its verdict.
+  pub same_but_risen : (a b : List ℕ) (v w : Bool) → IsAfterCopies rooms before after → IsManifest before a v → IsManifest after b w →
+      IsSameButRisen a b × (v ≡ w)
+  same_but_risen a b v w c x y = (
+    subst (λ (t : List ℕ). IsSameButRisen t b) (sym x.text_is)
+        (subst (λ (t : List ℕ). IsSameButRisen (manifest_text x.found x.loose.frames) t) (sym y.text_is)
+        (texts rooms before after x.found y.found x.scrubbed y.scrubbed x.loose x.are_loose c y.loose y.are_loose)),
+    x.verdict
+        ∙ sym (same_verdict x.found y.found (names_alike rooms before after x.found y.found x.scrubbed y.scrubbed x.loose x.are_loose c))
+        ∙ sym y.verdict,
   )
+
+-- the laws that say nothing of loose frames: there are some
+module _ (rooms : List RoomValue) (before after : Image) (found rest : Scrubbed) (x : IsScrubbed before found) (y : IsScrubbed after rest)
+    (c : IsAfterCopies rooms before after) where
+  there_are : (v : LooseValue) × AreLoose [] before found.plan v
+  there_are = some_loose [] before found.plan (plan_fits before found.choice found.plan x.choice x.plan)
+
+  -- After copies into rooms the same is named as before.
+  pub named_as_before : NameTheSame found rest
+  named_as_before = names_alike rooms before after found rest x y there_are.0 there_are.1 c
+
+  -- After copies each room's extent has its old chunks, and whole frames from the place on are chunks.
+  pub chunks_there : All (λ (r : RoomValue). HoldsCopies after found rest r) rooms
+  chunks_there = holds_copies rooms before after found rest x y there_are.0 there_are.1 c

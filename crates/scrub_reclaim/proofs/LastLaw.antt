@@ -5,6 +5,7 @@ use Rattle.std.specs.List.{list_all}
 use Rattle.std.proofs.lemmas.Bool.{eqb-true, false≢true}
 use Rattle.scrub_super.specs.Contents.{Contents}
 use Rattle.scrub_super.specs.declared.pages.SuperblockPage.{SuperblockPage}
+use Rattle.scrub_loose.specs.Loose.{LooseValue}
 use Rattle.scrub_found.specs.Scrubbed.{Scrubbed}
 use Rattle.scrub_listings.specs.Summary.{counts_as}
 use Rattle.scrub_reclaim.specs.declared.doubts.Doubt.{Doubt}
@@ -44,13 +45,13 @@ the_one None last e = absurd (false≢true e)
 the_one (Some c) last e = (c, refl, eqb-true c.generation last e)
 
 -- If `last` is given and an extent is listed, the superblock that counts has this generation.
-pub by_last : (accepted : Acceptance) (last : ℕ) (pages : List SuperblockPage) (found : Scrubbed) → accepted.last ≡ Some last →
-    reclaimed accepted pages found ≢ [] → IsListedByLast last accepted pages found
-by_last accepted last pages found given some = by (is_clear accepted pages found) refl
+pub by_last : (accepted : Acceptance) (last : ℕ) (pages : List SuperblockPage) (loose : LooseValue) (found : Scrubbed) →
+    accepted.last ≡ Some last → reclaimed accepted pages loose found ≢ [] → IsListedByLast last accepted pages loose found
+by_last accepted last pages loose found given some = by (is_clear accepted pages loose found) refl
   where
-    listed : is_clear accepted pages found ≡ true → IsListedByLast last accepted pages found
+    listed : is_clear accepted pages loose found ≡ true → IsListedByLast last accepted pages loose found
     listed clear =
-        let of = of_last (is_accepted (accepted_in accepted found)) accepted.last pages found clear in
+        let of = of_last (is_accepted (accepted_in accepted found)) accepted.last pages loose found clear in
         let counted : counts_as found.choice last ≡ true =
         none_of_last accepted found last (last_doubts found.choice accepted.last) (ap (last_doubts found.choice) given) of in
         let one = the_one found.choice.superblock last counted in
@@ -59,10 +60,10 @@ by_last accepted last pages found given some = by (is_clear accepted pages found
           is = one.1;
           generation = one.2;
           each =
-              all_weaker (is_accepted (accepted_in accepted found)) (λ d. is_named accepted.lines d || is_settled_by_last d) (doubts_for accepted pages found)
+              all_weaker (is_accepted (accepted_in accepted found)) (λ d. is_named accepted.lines d || is_settled_by_last d) (doubts_for accepted pages loose found)
               (λ d. settled_or_not (is_named accepted.lines d) (accepted_in accepted found).is_last (is_settled_by_last d)) clear;
         }
 
-    by : (b : Bool) → is_clear accepted pages found ≡ b → IsListedByLast last accepted pages found
+    by : (b : Bool) → is_clear accepted pages loose found ≡ b → IsListedByLast last accepted pages loose found
     by true clear = listed clear
     by false doubt = absurd (some (ap (λ (t : Bool). if t then found.candidates else []) doubt))

@@ -8,23 +8,27 @@ pub mod MoveLines
 pub mod RoomLines
 -- doubts, and what follows if none of a kind is accepted
 pub mod RunDoubts
-pub mod RemainsDoubts
 pub mod SpareDoubts
 pub mod DoubtParts
 pub mod LastLaw
-pub mod RemainsLaw
 pub mod SpareLaw
+pub mod LooseLaw
+pub mod LooseDoubts
 -- the whole text, and that reclaiming is safe
 pub mod Clear
+-- the best copies of locators
+pub mod BestCopies
 -- what a reset keeps
 pub mod ResetForms
 pub mod CarriedNames
 pub mod SameExtents
+pub mod LooseFrames
+pub mod RisenTexts
 pub mod Reset
-pub mod ResetSpares
+pub mod ResetCopies
 -- what a copy into room keeps
 pub mod NextPlaces
-pub mod SparedTexts
+pub mod KeptExtents
 pub mod CopiedExtents
 pub mod CopyLaw
 -- sound disks

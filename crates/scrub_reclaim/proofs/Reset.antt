@@ -1,5 +1,5 @@
 -- What is named on a disk is the same after a reset of extents that no named locator points into.
-use Rattle.std.proofs.Common.{◌≡◌, ◌≢◌, ◌⊎◌, inl, inr, ◌==◌, ◌&&◌, ◌||◌, ◌-◌, ℕ, zero, suc, map, if◌then◌else◌, Bool, is_none, true, false, Option, Some, None, List, [], ◌∷◌, ◌+◌, length, get_or, arith, refl, sym, ◌∙◌, ap, subst}
+use Rattle.std.proofs.Common.{◌≡◌, ◌≢◌, ◌⊎◌, inl, inr, ◌==◌, ◌&&◌, ◌||◌, ◌-◌, ℕ, zero, suc, map, if◌then◌else◌, Bool, is_none, true, false, Option, Some, None, List, [], ◌∷◌, ◌+◌, ◌≤◌, length, get_or, arith, refl, sym, ◌∙◌, ap, subst}
 use Rattle.std.proofs.Math.Path.{ap₂, fun_ext}
 use Rattle.std.specs.Bool.{⊤}
 use Rattle.std.specs.List.{All, AllZip, Contains, count_by, enumerate_from, list_any, slice_get}
@@ -23,7 +23,8 @@ use Rattle.scrub_check.specs.Candidates.{CandidateValue}
 use Rattle.scrub_check.specs.Checked.{is_hidden}
 use Rattle.scrub_check.specs.ChunkForms.{form_at}
 use Rattle.scrub_check.specs.Runs.{ReadRunsValue}
-use Rattle.scrub_check.specs.Spares.{spares_by}
+use Rattle.scrub_check.specs.Spares.{spares_by, spares_of}
+use Rattle.scrub_loose.specs.Loose.{AreLoose, IsSearched, LooseValue, best_of, loose_of}
 use Rattle.scrub_report.specs.Answer.{AnswerValue, IsScrubAnswer}
 use Rattle.scrub_report.specs.Index.{index_entries}
 use Rattle.scrub_found.specs.Resets.{IsPlanBut, IsScrubbedBut}
@@ -31,13 +32,17 @@ use Rattle.scrub_found.specs.Scrubbed.{Scrubbed, IsScrubbed}
 use Rattle.scrub_found.proofs.OneReader.{one_plan}
 use Rattle.scrub_found.proofs.OneScrub.{one_scrub}
 use Rattle.scrub_listings.specs.Manifest.{IsManifest, IsManifestBut, after_status_in, hidden_runs, is_of_read_run, is_of_shard, is_whole, is_whole_by, lost_runs, manifest_text, of_shards, text_by}
+use Rattle.scrub_reclaim.specs.Copy.{IsSameButRisen, rank}
 use Rattle.scrub_reclaim.specs.Doubts.{Acceptance}
 use Rattle.scrub_reclaim.specs.Reclaimable.{IsMoved, MoveValue, reclaimed}
 use Rattle.scrub_reclaim.specs.Reset.{IsAfterReset, IsForeseen, IsListedWithoutMoves, IsPlanAfterReset, IsPlanIn, IsReclaimed, NameTheSame}
+use Rattle.scrub_reclaim.proofs.BestCopies.{as_good, first_of, loose_among, none_in_nil}
 use Rattle.scrub_reclaim.proofs.CarriedNames.{named_alike}
 use Rattle.scrub_reclaim.proofs.Clear.{safe_to_reclaim}
-use Rattle.scrub_reclaim.proofs.ResetForms.{IsAlikeIn, same_after, same_form, same_frames, text_agrees}
-use Rattle.scrub_reclaim.proofs.SameExtents.{HaveTheSameForms, IsTheSame, carries, how_many, in_disk, no_pointer, pointer_behind, same_numbers, scans_alike}
+use Rattle.scrub_reclaim.proofs.LooseFrames.{carried_over}
+use Rattle.scrub_reclaim.proofs.ResetForms.{IsAlikeIn, same_form, same_frames, text_agrees}
+use Rattle.scrub_reclaim.proofs.RisenTexts.{manifests_rise}
+use Rattle.scrub_reclaim.proofs.SameExtents.{AreAlike, HaveTheSameForms, IsTheSame, carries, how_many, in_disk, no_pointer, planned_there, pointer_behind, same_numbers, same_planned, scans_alike}
 
 -- ---- nothing named points into an extent that is reset
 
@@ -51,7 +56,7 @@ none_into image accepted e x c there into = none move (subst (λ (ms : List Move
 
     is : IsMoved x.found.checked x.candidate c
     is =
-        (All-contains (λ (d : Checked). d.locator.extent ≡ x.candidate.extent → IsMoved x.found.checked x.candidate d) x.found.checked c (All-contains (λ (a : CandidateValue). All (λ (d : Checked). d.locator.extent ≡ a.extent → IsMoved x.found.checked a d) x.found.checked) (reclaimed accepted x.pages x.found) x.candidate (safe_to_reclaim image accepted x.pages x.found x.scrubbed) x.listed) there (into ∙ sym x.extent_is))
+        (All-contains (λ (d : Checked). d.locator.extent ≡ x.candidate.extent → IsMoved x.found.checked x.candidate d) x.found.checked c (All-contains (λ (a : CandidateValue). All (λ (d : Checked). d.locator.extent ≡ a.extent → IsMoved x.found.checked a d) x.found.checked) (reclaimed accepted x.pages x.loose x.found) x.candidate (safe_to_reclaim image accepted x.pages x.loose x.found x.scrubbed) x.listed) there (into ∙ sym x.extent_is))
 
     move : MoveValue
     move = record { named = c; bytes = is.chunk.bytes }
@@ -81,12 +86,12 @@ module _ (extents : List ℕ) (before after : Image) (found rest : Scrubbed) (x 
   old_plan : IsPlanIn before found.plan
   old_plan = record { choice = found.choice; chosen = x.choice; follows = x.plan }
 
-  plans_of : IsPlanAfterReset extents found.plan rest.plan
+  pub plans_of : IsPlanAfterReset extents found.plan rest.plan
   plans_of =
       subst (λ (p : PlanValue). IsPlanAfterReset extents p rest.plan) (one_plan_in before r.old found.plan r.was old_plan)
       (subst (λ (q : PlanValue). IsPlanAfterReset extents r.old q) (one_plan_in after r.new rest.plan r.is (record { choice = rest.choice; chosen = y.choice; follows = y.plan })) r.plans)
 
-  the_same : (e : ℕ) → ¬ Contains extents e → IsTheSame before after found.plan rest.plan e
+  pub the_same : (e : ℕ) → ¬ Contains extents e → IsTheSame before after found.plan rest.plan e
   the_same e other = record {
     sizes = r.sizes;
     retired = plans_of.retired;
@@ -95,10 +100,24 @@ module _ (extents : List ℕ) (before after : Image) (found rest : Scrubbed) (x 
         let there = in_disk before found.plan old_plan e w is in inr (fun_ext (λ p. r.bytes e p there.0 there.1 other));
   }
 
-  scans : AllZip (IsAlikeIn (λ e. ¬ Contains extents e)) found.all rest.all
+  pub scans : AllZip (IsAlikeIn (λ e. ¬ Contains extents e)) found.all rest.all
   scans =
       scans_alike before after found.plan rest.plan (λ e. ¬ Contains extents e) the_same found.all rest.all
       (same_numbers [] [] before after found rest r.sizes plans_of.retired x y) x.all y.all
+
+  -- A loose frame of another extent stays one.
+  pub loose_stays : (v w : LooseValue) → AreLoose [] before found.plan v → AreLoose [] after rest.plan w → (s : Standing) →
+      ¬ Contains extents s.extent → Contains v.frames s → Contains w.frames s
+  loose_stays v w l m s other there =
+      let searched : IsSearched [] found.plan s.extent = ((l.frames s).0 there).searched in
+      let in_disk = planned_there [] before found x s.extent searched.in_use in
+      let alike : AreAlike before after s.extent = record { sizes = r.sizes; bytes = fun_ext (λ p. r.bytes s.extent p in_disk.0 in_disk.1 other) } in
+      carried_over [] [] found.plan rest.plan s alike v w l m
+      (λ h. record {
+        in_use = subst (λ (ns : List ℕ). Contains ns s.extent) (sym (same_planned [] [] before after found rest r.sizes plans_of.retired x y)) h.in_use;
+        stays = h.stays;
+      })
+      there
 
 -- ---- what is named is the same
 
@@ -113,16 +132,17 @@ module _ (resets others : List ℕ) (before after : Image) (found rest : Scrubbe
       (λ i d below. carries (get_or found.checked i d).locator (same i d below)) forms
 
 -- the same manifest, if the same follows the status of each named locator
-pub same_text : (found rest : Scrubbed) → NameTheSame found rest →
-    All (λ (c : Checked). after_status_in rest.all c ≡ after_status_in found.all c) found.checked → manifest_text rest ≡ manifest_text found
-same_text found rest same after =
+pub same_text : (found rest : Scrubbed) (loose others : List Standing) → NameTheSame found rest →
+    All (λ (c : Checked). after_status_in rest.all others c ≡ after_status_in found.all loose c) found.checked →
+    manifest_text rest others ≡ manifest_text found loose
+same_text found rest loose others same after =
     (λ i. of (same.superblock i) (same.retired i) (same.read i) (same.bindings i) (same.checked i))
-    ∙ text_agrees (after_status_in found.all) (after_status_in rest.all) found.plan.has_superblock found.plan.retired (lost_runs found) (hidden_runs found) found.bindings (of_shards found.checked)
-    (All-filter (λ c. is_of_shard c.owner) (λ (c : Checked). after_status_in rest.all c ≡ after_status_in found.all c) found.checked after)
+    ∙ text_agrees (after_status_in found.all loose) (after_status_in rest.all others) found.plan.has_superblock found.plan.retired (lost_runs found) (hidden_runs found) found.bindings (of_shards found.checked)
+    (All-filter (λ c. is_of_shard c.owner) (λ (c : Checked). after_status_in rest.all others c ≡ after_status_in found.all loose c) found.checked after)
   where
     of : Bool → List ℕ → ReadRunsValue → List BindingValue → List Checked → List ℕ
     of has retired read bindings checked =
-        text_by (after_status_in rest.all) has retired (count_by is_none read.runs) (count_by (λ c. is_hidden c.status && is_of_read_run read.runs c.owner) checked) bindings (of_shards checked)
+        text_by (after_status_in rest.all others) has retired (count_by is_none read.runs) (count_by (λ c. is_hidden c.status && is_of_read_run read.runs c.owner) checked) bindings (of_shards checked)
 
 -- and the same verdict
 pub same_verdict : (found rest : Scrubbed) → NameTheSame found rest → is_whole rest ≡ is_whole found
@@ -278,31 +298,57 @@ module _ (extents : List ℕ) (before after : Image) (found rest : Scrubbed) (x 
       scans_alike before after found.plan rest.plan (λ e. ⊤) (λ e known. foreseen e) found.all rest.all
       (same_numbers extents [] before after found rest f.reset.sizes retired_now x y) x.all y.all
 
-  form_now : (l : Locator) → form_at rest.all l ≡ form_at found.all l
+  -- The chunk of a locator has the same form.
+  pub form_now : (l : Locator) → form_at rest.all l ≡ form_at found.all l
   form_now l = same_form l (λ e. ⊤) found.all rest.all scans_now tt
 
-  named_as_foreseen : NameTheSame found rest
+  -- The same is named.
+  pub named_as_foreseen : NameTheSame found rest
   named_as_foreseen =
       name_the_same extents [] before after found rest x y (plans.has ∙ sym without.2.has) (plans.runs ∙ sym without.2.runs)
       retired_now (λ i d below. foreseen (get_or found.checked i d).locator.extent)
       (λ i d below sound. form_now (get_or found.checked i d).locator)
 
-  text_now : manifest_text rest ≡ manifest_text found
-  text_now =
-      same_text found rest named_as_foreseen
-      (λ i d below.
-      same_after found.all rest.all (get_or found.checked i d) (λ sound. form_now (get_or found.checked i d).locator)
-      (ap (λ (ss : List Standing). length (spares_by ss (get_or found.checked i d)) == 0) (same_frames found.all rest.all scans_now)))
+  -- A loose frame is one after the reset, too: its extent isn't reset.
+  loose_now : (v w : LooseValue) → AreLoose extents before found.plan v → AreLoose [] after rest.plan w → (s : Standing) →
+      Contains v.frames s → Contains w.frames s
+  loose_now v w l m s there =
+      let searched : IsSearched extents found.plan s.extent = ((l.frames s).0 there).searched in
+      let in_disk = planned_there extents before found x s.extent searched.in_use in
+      let alike : AreAlike before after s.extent = record { sizes = f.reset.sizes; bytes = fun_ext (λ p. f.reset.bytes s.extent p in_disk.0 in_disk.1 searched.stays) } in
+      carried_over extents [] found.plan rest.plan s alike v w l m
+      (λ h. record {
+        in_use = subst (λ (ns : List ℕ). Contains ns s.extent) (sym (same_planned extents [] before after found rest f.reset.sizes retired_now x y)) h.in_use;
+        stays = λ among. none_in_nil s.extent among;
+      })
+      there
 
--- The manifest under resets, before a reset that is foreseen, is that of the disk after it, and so is the verdict.
+  spares_now : (c : Checked) → spares_of rest.all c ≡ spares_of found.all c
+  spares_now c = ap (λ (ss : List Standing). spares_by ss c) (same_frames found.all rest.all scans_now)
+
+  -- The best copy of a locator is as good as it was foreseen, or better.
+  pub best_as_foreseen : (loose others : LooseValue) → AreLoose extents before found.plan loose → AreLoose [] after rest.plan others →
+      (c : Checked) → rank (best_of found.all loose.frames c) ≤ rank (best_of rest.all others.frames c)
+  best_as_foreseen loose others l m c =
+      as_good c found.all rest.all loose.frames others.frames
+      (λ some none. some (sym (spares_now c) ∙ none))
+      (λ some.
+      let one = first_of (loose_of found.all loose.frames c) some in
+      (one.0, one.1, loose_now loose others l m one.0 (loose_among c found.all rest.all loose.frames others.frames one.0 one.1).2))
+
+-- The manifest under resets, before a reset that is foreseen, is that of the disk after it, but that words for best copies may have
+-- risen, and so is the verdict.
 pub as_foreseen : (extents : List ℕ) (before after : Image) (a b : List ℕ) (v w : Bool) → IsForeseen extents before after →
-    IsManifestBut extents before a v → IsManifest after b w → (a ≡ b) × (v ≡ w)
-as_foreseen extents before after a b v w f x y = (
-  x.text_is ∙ sym (text_now extents before after x.found y.found x.scrubbed y.scrubbed f) ∙ sym y.text_is,
-  x.verdict
-      ∙ sym (same_verdict x.found y.found (named_as_foreseen extents before after x.found y.found x.scrubbed y.scrubbed f))
-      ∙ sym y.verdict,
-)
+    IsManifestBut extents before a v → IsManifest after b w → IsSameButRisen a b × (v ≡ w)
+as_foreseen extents before after a b v w f x y =
+    let same : NameTheSame x.found y.found = named_as_foreseen extents before after x.found y.found x.scrubbed y.scrubbed f in (
+      subst (λ (t : List ℕ). IsSameButRisen t b) (sym x.text_is)
+          (subst (λ (t : List ℕ). IsSameButRisen (manifest_text x.found x.loose.frames) t) (sym y.text_is)
+          (manifests_rise x.found y.found x.loose.frames y.loose.frames same
+          (λ i d below sound. form_now extents before after x.found y.found x.scrubbed y.scrubbed f (get_or x.found.checked i d).locator)
+          (λ i d below. best_as_foreseen extents before after x.found y.found x.scrubbed y.scrubbed f x.loose y.loose x.are_loose y.are_loose (get_or x.found.checked i d)))),
+      x.verdict ∙ sym (same_verdict x.found y.found same) ∙ sym y.verdict,
+    )
 
 -- ---- the law
 

@@ -1,12 +1,11 @@
 -- Two scans of the same extents, some of which have the same items: the same forms of chunks in these, the same spares, and so
 -- the same lines of a manifest.
-use Rattle.std.proofs.Common.{◌≡◌, ◌≢◌, ◌⊎◌, inl, inr, ◌==◌, ◌∷◌, [], ◌++◌, ◌+◌, ℕ, suc, Bool, true, false, cond, if◌then◌else◌, Option, Some, List, length, codes, arith, refl, sym, ◌∙◌, ap, subst}
+use Rattle.std.proofs.Common.{◌≡◌, ◌⊎◌, inl, inr, ◌==◌, ◌∷◌, [], ◌++◌, ◌+◌, ℕ, Bool, true, false, cond, if◌then◌else◌, Option, Some, List, length, codes, arith, refl, sym, ◌∙◌, ap, subst}
 use Rattle.std.specs.Bool.{⊤}
 use Rattle.std.proofs.Math.Path.{ap₂, fun_ext}
 use Rattle.std.specs.List.{All, AllZip, Contains, enumerate_from, filter, filter_map, find, flat_map}
 use Rattle.std.specs.Option.{option_and_then}
 use Rattle.std.proofs.lemmas.Bool.{eqb-true}
-use Rattle.std.proofs.lemmas.Grind.{common_steps}
 use Rattle.std.proofs.lemmas.List.Elements.{All-cons, All-contains, All-contains_itself, All-filter, All-head, All-tail, Contains-append_cases, Contains-append_left, Contains-append_right, filter_passes}
 use Rattle.list_facts.proofs.Elements.{Contains-filter, nil_has_no_first, same_behind_first, same_first}
 use Rattle.scrub_frame.specs.declared.form.Form.{Form}
@@ -16,6 +15,7 @@ use Rattle.scrub_scan.specs.declared.item.Item.TheVariants.{Chunk, Pad, Torn, No
 use Rattle.scrub_scan.specs.declared.standing.Standing.{Standing}
 use Rattle.scrub_scan.specs.AllFindings.{entry_of, extent_numbers}
 use Rattle.scrub_scan.specs.Item.{start_of}
+use Rattle.scrub_scan.specs.Line.{spaced}
 use Rattle.scrub_scan.specs.Scanned.{Scanned}
 use Rattle.scrub_merge.specs.Binding.{BindingValue}
 use Rattle.scrub_check.specs.declared.statuses.checked.Checked.{Checked}
@@ -23,8 +23,10 @@ use Rattle.scrub_check.specs.declared.statuses.status.Status.{Status}
 use Rattle.scrub_check.specs.declared.statuses.status.Status.TheVariants.{OutOfRange, Retired, PastPointer, Unreadable, NoFrame, WrongUuid, WrongLength, WrongDigest, Hidden, Sound}
 use Rattle.scrub_check.specs.Checked.{is_dangling, is_owned_by, is_sound}
 use Rattle.scrub_check.specs.ChunkForms.{form_at, form_of}
-use Rattle.scrub_check.specs.Spares.{asks_for_spares, frame_of_item, frames, frames_in, is_copy_of, spares_by, spares_of}
-use Rattle.scrub_listings.specs.Manifest.{after_status_in, form_text, looked_for, numbered_line, numbered_text, retired_line, runs_line, text_by, total_line}
+use Rattle.scrub_check.specs.Spares.{asks_for_spares, frame_of_item, frames, frames_in, is_copy_of, spares_by}
+use Rattle.scrub_loose.specs.declared.copies.BestCopy.{BestCopy}
+use Rattle.scrub_loose.specs.Loose.{best_of}
+use Rattle.scrub_listings.specs.Manifest.{after_status_in, copy_word, form_text, looked_for, numbered_line, numbered_text, retired_line, runs_line, text_by, total_line}
 
 -- ---- two scans of the same extents
 
@@ -171,59 +173,31 @@ module _ (c : Checked) (xs ys : List Standing) where
           too
       by false there too = there
 
--- A number above 0 is not 0.
-pub not_none : (n : ℕ) → (suc n == 0) ≡ false
-not_none n = grind (arith, common_steps)
-
--- there are spares in both or in neither
-pub same_none : (c : Checked) (xs ys : List Standing) → ((s : Standing) → Contains ys s → Contains xs s) →
-    (spares_by xs c ≢ [] → (s : Standing) × Contains (spares_by ys c) s) →
-    (length (spares_by ys c) == 0) ≡ (length (spares_by xs c) == 0)
-same_none c xs ys was stays = by (spares_by xs c) (spares_by ys c) refl refl
-  where
-    empty : (s : Standing) → Contains [] s → ⊥
-    empty s there = omega (arith, there.1)
-
-    some : (s : Standing) (ss : List Standing) → (s ∷ ss) ≡ [] → ⊥
-    some s ss e = nil_has_no_first s ss (sym e)
-
-    by : (us vs : List Standing) → spares_by xs c ≡ us → spares_by ys c ≡ vs → (length vs == 0) ≡ (length us == 0)
-    by [] [] old new = refl
-    by (u ∷ us) (v ∷ vs) old new = not_none (length vs) ∙ sym (not_none (length us))
-    by [] (v ∷ vs) old new =
-        let there : Contains (spares_by ys c) v = subst (λ (ss : List Standing). Contains ss v) (sym new) (0, omega arith, refl) in
-        absurd (empty v (subst (λ (ss : List Standing). Contains ss v) old (spare_too c ys xs v there (was v (spare_among c ys xs v there)))))
-    by (u ∷ us) [] old new =
-        let one : (s : Standing) × Contains (spares_by ys c) s = stays (λ none. some u us (sym old ∙ none)) in
-        absurd (empty one.0 (subst (λ (ss : List Standing). Contains ss one.0) new one.1))
-
 -- ---- the lines
 
--- what follows a locator's status, by the status, the form of its chunk, and whether there are no spares
-abbrev after_by : Locator → Status → Option Form → Bool → List ℕ
-after_by l status o none =
-    if is_sound status then form_text o
-    else looked_for l ++ (if is_dangling status then (if none then codes " none" else codes " spare") else [])
+-- what follows a locator's status, by the status, the form of its chunk, and its best copy
+abbrev after_by : Locator → Status → Option Form → BestCopy → List ℕ
+after_by l status o best = if is_sound status then form_text o else looked_for l ++ (if is_dangling status then spaced (copy_word best) else [])
 
 -- without a sound chunk the form doesn't matter
-unsound : (l : Locator) (s : Status) (o p : Option Form) (a b : Bool) → is_sound s ≡ false → a ≡ b → after_by l s o a ≡ after_by l s p b
+unsound : (l : Locator) (s : Status) (o p : Option Form) (a b : BestCopy) → is_sound s ≡ false → a ≡ b → after_by l s o a ≡ after_by l s p b
 unsound l s o p a b is same =
-    ap (λ (t : Bool). if t then form_text o else looked_for l ++ (if is_dangling s then (if a then codes " none" else codes " spare") else [])) is
-    ∙ ap (λ (t : Bool). looked_for l ++ (if is_dangling s then (if t then codes " none" else codes " spare") else [])) same
-    ∙ ap (λ (t : Bool). if t then form_text p else looked_for l ++ (if is_dangling s then (if b then codes " none" else codes " spare") else [])) (sym is)
+    ap (λ (t : Bool). if t then form_text o else looked_for l ++ (if is_dangling s then spaced (copy_word a) else [])) is
+    ∙ ap (λ (x : BestCopy). looked_for l ++ (if is_dangling s then spaced (copy_word x) else [])) same
+    ∙ ap (λ (t : Bool). if t then form_text p else looked_for l ++ (if is_dangling s then spaced (copy_word b) else [])) (sym is)
 
--- If its form and whether it has spares are the same, the same follows a locator's status.
-pub same_after : (fs gs : List Scanned) (c : Checked) → (c.status ≡ Sound → form_at gs c.locator ≡ form_at fs c.locator) →
-    (length (spares_of gs c) == 0) ≡ (length (spares_of fs c) == 0) → after_status_in gs c ≡ after_status_in fs c
-same_after fs gs c form spares = by c.status refl
+-- If its form and its best copy are the same, the same follows a locator's status.
+pub same_after : (fs gs : List Scanned) (loose others : List Standing) (c : Checked) →
+    (c.status ≡ Sound → form_at gs c.locator ≡ form_at fs c.locator) → best_of gs others c ≡ best_of fs loose c →
+    after_status_in gs others c ≡ after_status_in fs loose c
+same_after fs gs loose others c form best = by c.status refl
   where
     other : (s : Status) → is_sound s ≡ false →
-        after_by c.locator s (form_at gs c.locator) (length (spares_of gs c) == 0) ≡ after_by c.locator s (form_at fs c.locator) (length (spares_of fs c) == 0)
-    other s is =
-        unsound c.locator s (form_at gs c.locator) (form_at fs c.locator) (length (spares_of gs c) == 0) (length (spares_of fs c) == 0) is spares
+        after_by c.locator s (form_at gs c.locator) (best_of gs others c) ≡ after_by c.locator s (form_at fs c.locator) (best_of fs loose c)
+    other s is = unsound c.locator s (form_at gs c.locator) (form_at fs c.locator) (best_of gs others c) (best_of fs loose c) is best
 
     by : (s : Status) → c.status ≡ s →
-        after_by c.locator s (form_at gs c.locator) (length (spares_of gs c) == 0) ≡ after_by c.locator s (form_at fs c.locator) (length (spares_of fs c) == 0)
+        after_by c.locator s (form_at gs c.locator) (best_of gs others c) ≡ after_by c.locator s (form_at fs c.locator) (best_of fs loose c)
     by Sound is = ap form_text (form is)
     by OutOfRange is = other OutOfRange refl
     by Retired is = other Retired refl

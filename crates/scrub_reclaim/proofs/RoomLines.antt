@@ -1,10 +1,11 @@
 -- What the code finds of an extent's room, by sorted numbers and by the last item.
 use Rattle.std.proofs.Common.{◌≡◌, ◌≢◌, ◌⊎◌, ◌==◌, ◌&&◌, ◌||◌, ◌++◌, ◌-◌, ◌<◌, ◌≤◌, ◌+◌, ◌*◌, ◌/◌, ◌%◌, ℕ, zero, suc, Bool, true, false, cond, not, nat_lt, Option, Some, None, List, [], ◌∷◌, length, get_or, arith, refl, sym, ◌∙◌, ap, subst, append-nil, inl, inr, if◌then◌else◌}
+use Rattle.std.proofs.Math.Path.{ap₂}
 use Rattle.std.specs.Option.{option_map_or}
 use Rattle.std.specs.List.{All, flat_map, list_all, list_any, slice_get}
 use Rattle.std.specs.List.Sorted.{IsPermutation}
 use Rattle.std.proofs.Math.Nat.{mod-lt, mul-mod_left}
-use Rattle.std.proofs.lemmas.Bool.{cases_lt, eq-eqb, eqb-true, false≢true, ltb-false}
+use Rattle.std.proofs.lemmas.Bool.{and_parts, cases_lt, eq-eqb, eqb-true, false≢true, ltb-false}
 use Rattle.std.proofs.lemmas.List.Sorted.{list_any-IsPermutation}
 use Rattle.std.proofs.lemmas.Nat.{div-add-mod'}
 use Rattle.std.proofs.lemmas.Option.{none-some, same_Some}
@@ -19,9 +20,11 @@ use Rattle.scrub_check.specs.Candidates.{has_sound_alone}
 use Rattle.scrub_check.specs.Live.{is_chunk}
 use Rattle.scrub_check.proofs.Reclaimable.{named_by_sound_alone}
 use Rattle.scrub_check.specs.steps.LocatorIndex.{AreBarredExtents}
+use Rattle.scrub_loose.specs.Loose.{LooseValue}
 use Rattle.scrub_found.specs.Scrubbed.{Scrubbed, IsScrubbed, is_clean_extent, is_clean_item}
-use Rattle.scrub_reclaim.specs.Room.{IsRoom, ends_in_chunk, has_room, is_listed_as, is_zero_to, may_grow, next_place, place_in, room_fits, room_in, room_if, room_line, room_where, rooms_where}
-use Rattle.scrub_reclaim.specs.steps.Room.{may_grow_by, room_text}
+use Rattle.scrub_reclaim.specs.Room.{IsRoom, ends_in_chunk, has_room, is_closed, is_listed_as, is_zero_to, may_grow, next_place, offers_room, place_in, room_fits, room_in, room_if, room_line, room_where, rooms_where}
+use Rattle.scrub_reclaim.specs.steps.KeptCopies.{AreShut}
+use Rattle.scrub_reclaim.specs.steps.Room.{may_grow_by, may_take_by, room_text}
 
 -- ---- which extents
 
@@ -31,44 +34,63 @@ pub grows_by : (checked : List Checked) (unsound : List ℕ) (f : Scanned) → A
 grows_by checked unsound f are =
     ap (λ (s : Bool). is_clean_extent f && s) (sym (named_by_sound_alone checked unsound f.extent are))
 
--- an extent that doesn't grow has no line
-pub closed : (is_listed : Bool) (g : Geometry) (checked : List Checked) (unsound : List ℕ) (f : Scanned) (old : List ℕ) (r : Bool) →
-    AreBarredExtents checked unsound → r ≡ may_grow_by unsound f → r ≡ false → old ≡ old ++ room_if is_listed g checked f
-closed is_listed g checked unsound f old r are is barred =
-    sym (append-nil old)
-    ∙ ap (λ (t : Bool). old ++ (if t && room_fits g f then room_line is_listed f.extent (place_in g f) (room_in g f) else [])) (sym barred ∙ is ∙ grows_by checked unsound f are)
+-- The same with the numbers of closed extents.
+takes_by : (all : List Scanned) (loose : LooseValue) (checked : List Checked) (barred shut : List ℕ) (f : Scanned) →
+    AreShut all loose checked barred shut →
+    may_take_by barred shut f ≡ (not (is_closed all loose checked f.extent) && may_grow checked f)
+takes_by all loose checked barred shut f are =
+    ap₂ (λ (a b : Bool). not a && b) (are.shut f.extent) (grows_by checked barred f are.unsound)
 
--- and one that does has its own
-pub open_line : (is_listed : Bool) (g : Geometry) (checked : List Checked) (unsound : List ℕ) (f : Scanned) (r : Bool) →
-    AreBarredExtents checked unsound → r ≡ may_grow_by unsound f → r ≡ true → room_text is_listed g f ≡ room_if is_listed g checked f
-open_line is_listed g checked unsound f r are is free =
-    ap (λ (t : Bool). if t && room_fits g f then room_line is_listed f.extent (place_in g f) (room_in g f) else []) (sym free ∙ is ∙ grows_by checked unsound f are)
+-- what isn't offered has no line
+no_line_of : (a m r : Bool) (line old : List ℕ) → (a && m) ≡ false → old ≡ old ++ (if a && (m && r) then line else [])
+no_line_of false m r line old none = sym (append-nil old)
+no_line_of true false r line old none = sym (append-nil old)
+no_line_of true true r line old none = absurd (false≢true (sym none))
 
--- an extent that isn't listed as wanted has no line
-pub passed_over : (is_listed : Bool) (g : Geometry) (checked : List Checked) (listed : List ℕ) (f : Scanned) (r : Bool) (old : List ℕ) →
-    r ≡ is_listed_as is_listed listed f.extent → r ≡ false → old ≡ old ++ room_where is_listed g checked listed f
-passed_over is_listed g checked listed f r old is other =
-    sym (append-nil old) ∙ ap (λ (t : Bool). old ++ (if t then room_if is_listed g checked f else [])) (sym other ∙ is)
+line_of : (a m r : Bool) (line : List ℕ) → (a && m) ≡ true → (if r then line else []) ≡ (if a && (m && r) then line else [])
+line_of false m r line some = absurd (false≢true some)
+line_of true false r line some = absurd (false≢true some)
+line_of true true r line some = refl
 
--- and any other one may
-pub taken_in : (is_listed : Bool) (g : Geometry) (checked : List Checked) (listed : List ℕ) (f : Scanned) (r : Bool) →
-    r ≡ is_listed_as is_listed listed f.extent → r ≡ true → room_if is_listed g checked f ≡ room_where is_listed g checked listed f
-taken_in is_listed g checked listed f r is wanted =
-    ap (λ (t : Bool). if t then room_if is_listed g checked f else []) (sym wanted ∙ is)
+module _ (is_listed : Bool) (g : Geometry) (all : List Scanned) (loose : LooseValue) (checked : List Checked) where
+  -- An extent into which nothing may be put has no line.
+  pub closed : (barred shut : List ℕ) (f : Scanned) (old : List ℕ) (r : Bool) → AreShut all loose checked barred shut →
+      r ≡ may_take_by barred shut f → r ≡ false → old ≡ old ++ room_if is_listed g all loose checked f
+  closed barred shut f old r are is none =
+      no_line_of (not (is_closed all loose checked f.extent)) (may_grow checked f) (room_fits g f) (room_line is_listed f.extent (place_in g f) (room_in g f)) old
+      (sym (takes_by all loose checked barred shut f are) ∙ sym is ∙ none)
 
--- the order of the listed numbers doesn't matter
-pub in_any_order : (is_listed : Bool) (g : Geometry) (all : List Scanned) (checked : List Checked) (numbers sorted : List ℕ) →
-    IsPermutation numbers sorted → rooms_where is_listed g all checked sorted ≡ rooms_where is_listed g all checked numbers
-in_any_order is_listed g all checked numbers sorted same =
-    let among : (e : ℕ) → list_any (λ n. n == e) sorted ≡ list_any (λ n. n == e) numbers =
-    λ e. sym (list_any-IsPermutation (λ n. n == e) numbers sorted same) in
-    let as_wanted : (b : Bool) (e : ℕ) → is_listed_as b sorted e ≡ is_listed_as b numbers e = wanted among in
-    λ i. flat_map (λ f. if as_wanted is_listed f.extent i then room_if is_listed g checked f else []) all
-  where
-    wanted : ((e : ℕ) → list_any (λ n. n == e) sorted ≡ list_any (λ n. n == e) numbers) → (b : Bool) (e : ℕ) →
-        is_listed_as b sorted e ≡ is_listed_as b numbers e
-    wanted among true e = among e
-    wanted among false e = ap not (among e)
+  -- Any other has its own, if it has room.
+  pub open_line : (barred shut : List ℕ) (f : Scanned) (r : Bool) → AreShut all loose checked barred shut →
+      r ≡ may_take_by barred shut f → r ≡ true → room_text is_listed g f ≡ room_if is_listed g all loose checked f
+  open_line barred shut f r are is free =
+      line_of (not (is_closed all loose checked f.extent)) (may_grow checked f) (room_fits g f) (room_line is_listed f.extent (place_in g f) (room_in g f))
+      (sym (takes_by all loose checked barred shut f are) ∙ sym is ∙ free)
+
+  -- An extent that isn't listed as wanted has no line.
+  pub passed_over : (listed : List ℕ) (f : Scanned) (r : Bool) (old : List ℕ) →
+      r ≡ is_listed_as is_listed listed f.extent → r ≡ false → old ≡ old ++ room_where is_listed g all loose checked listed f
+  passed_over listed f r old is other =
+      sym (append-nil old) ∙ ap (λ (t : Bool). old ++ (if t then room_if is_listed g all loose checked f else [])) (sym other ∙ is)
+
+  -- Any other may have one.
+  pub taken_in : (listed : List ℕ) (f : Scanned) (r : Bool) → r ≡ is_listed_as is_listed listed f.extent → r ≡ true →
+      room_if is_listed g all loose checked f ≡ room_where is_listed g all loose checked listed f
+  taken_in listed f r is wanted = ap (λ (t : Bool). if t then room_if is_listed g all loose checked f else []) (sym wanted ∙ is)
+
+  -- The order of the listed numbers doesn't matter.
+  pub in_any_order : (numbers sorted : List ℕ) → IsPermutation numbers sorted →
+      rooms_where is_listed g all loose checked sorted ≡ rooms_where is_listed g all loose checked numbers
+  in_any_order numbers sorted same =
+      let among : (e : ℕ) → list_any (λ n. n == e) sorted ≡ list_any (λ n. n == e) numbers =
+      λ e. sym (list_any-IsPermutation (λ n. n == e) numbers sorted same) in
+      let as_wanted : (b : Bool) (e : ℕ) → is_listed_as b sorted e ≡ is_listed_as b numbers e = wanted among in
+      λ i. flat_map (λ f. if as_wanted is_listed f.extent i then room_if is_listed g all loose checked f else []) all
+    where
+      wanted : ((e : ℕ) → list_any (λ n. n == e) sorted ≡ list_any (λ n. n == e) numbers) → (b : Bool) (e : ℕ) →
+          is_listed_as b sorted e ≡ is_listed_as b numbers e
+      wanted among true e = among e
+      wanted among false e = ap not (among e)
 
 -- ---- the last item
 
@@ -218,24 +240,28 @@ shows_room image found x i d below roomy =
 
 -- ---- what a line shows
 
--- an extent with a line has room
-has_line : (is_listed : Bool) (g : Geometry) (checked : List Checked) (f : Scanned) → room_if is_listed g checked f ≢ [] →
-    has_room g checked f ≡ true
-has_line is_listed g checked f some = by (has_room g checked f) some
-  where
-    by : (b : Bool) → (if b then room_line is_listed f.extent (place_in g f) (room_in g f) else []) ≢ [] → b ≡ true
-    by true there = refl
-    by false there = absurd (there refl)
+module _ (is_listed : Bool) (g : Geometry) (all : List Scanned) (loose : LooseValue) (checked : List Checked) (f : Scanned)
+    (some : room_if is_listed g all loose checked f ≢ []) where
+  -- an extent with a line has room that is offered
+  has_line : offers_room g all loose checked f ≡ true
+  has_line = by (offers_room g all loose checked f) some
+    where
+      by : (b : Bool) → (if b then room_line is_listed f.extent (place_in g f) (room_in g f) else []) ≢ [] → b ≡ true
+      by true there = refl
+      by false there = absurd (there refl)
 
--- If an extent has a line, it has its number, its place, and how many bytes there are behind the place.
-pub line_named : (is_listed : Bool) (g : Geometry) (checked : List Checked) (f : Scanned) → room_if is_listed g checked f ≢ [] →
-    room_if is_listed g checked f ≡ room_line is_listed f.extent (place_in g f) (room_in g f)
-line_named is_listed g checked f some =
-    ap (λ (t : Bool). if t then room_line is_listed f.extent (place_in g f) (room_in g f) else []) (has_line is_listed g checked f some)
+  -- If an extent has a line, it has its number, its place, and how many bytes there are behind the place.
+  pub line_named : room_if is_listed g all loose checked f ≡ room_line is_listed f.extent (place_in g f) (room_in g f)
+  line_named = ap (λ (t : Bool). if t then room_line is_listed f.extent (place_in g f) (room_in g f) else []) has_line
+
+  -- and it has room
+  line_roomy : has_room g checked f ≡ true
+  line_roomy = (and_parts (not (is_closed all loose checked f.extent)) (has_room g checked f) has_line).1
 
 -- An extent with a line has room in the image.
-pub line_shows_room : (image : Image) (found : Scrubbed) (is_listed : Bool) → IsScrubbed image found →
-    All (λ f. room_if is_listed found.plan.geometry found.checked f ≢ [] →
+pub line_shows_room : (image : Image) (found : Scrubbed) (loose : LooseValue) (is_listed : Bool) → IsScrubbed image found →
+    All (λ f. room_if is_listed found.plan.geometry found.all loose found.checked f ≢ [] →
     IsRoom image f.extent f.pointer (place_in found.plan.geometry f)) found.all
-line_shows_room image found is_listed x i d below some =
-    shows_room image found x i d below (has_line is_listed found.plan.geometry found.checked (get_or found.all i d) some)
+line_shows_room image found loose is_listed x i d below some =
+    shows_room image found x i d below
+    (line_roomy is_listed found.plan.geometry found.all loose found.checked (get_or found.all i d) some)

@@ -1,10 +1,10 @@
 -- What is found in an extent is the same on two images with the same bytes and the same pointer there.
 use Rattle.std.proofs.Common.{◌≡◌, ◌≢◌, ◌⊎◌, inl, inr, ◌==◌, ◌<◌, ◌≤◌, ◌*◌, ◌-◌, ℕ, zero, suc, if◌then◌else◌, Bool, true, false, Option, Some, None, IfSome, MatchBool, MatchOption, List, [], ◌∷◌, ◌+◌, length, arith, refl, sym, ◌∙◌, ap, subst}
-use Rattle.std.specs.List.{All, AllZip, list_any, slice_get}
+use Rattle.std.specs.List.{All, AllZip, Contains, list_any, slice_get}
 use Rattle.std.proofs.lemmas.List.{length-replicate}
 use Rattle.std.proofs.lemmas.Option.{same_Some, slice_get_within}
 use Rattle.std.proofs.lemmas.Grind.{common_steps}
-use Rattle.std.proofs.lemmas.List.Elements.{All-head}
+use Rattle.std.proofs.lemmas.List.Elements.{All-contains, All-head}
 use Rattle.scrub_disk.specs.declared.geometry.Geometry.{Geometry}
 use Rattle.scrub_disk.specs.Image.{Image, image_byte}
 use Rattle.scrub_frame.specs.declared.locator.Locator.{Locator}
@@ -12,7 +12,8 @@ use Rattle.scrub_super.specs.Contents.{Contents}
 use Rattle.scrub_super.specs.Plan.{PlanValue, pointer_of}
 use Rattle.scrub_super.specs.steps.PlanParts.{IsPlanBy, IsPlanWithout}
 use Rattle.scrub_super.proofs.PlanParts.{plan_parts}
-use Rattle.scrub_super.specs.Planned.{extents_in_use}
+use Rattle.scrub_super.specs.Planned.{ArePlanned, extents_in_use}
+use Rattle.scrub_super.proofs.Plans.{in_use_planned}
 use Rattle.scrub_super.specs.Record.{AreContents}
 use Rattle.scrub_super.proofs.NewestRecords.{superblock_fits}
 use Rattle.scrub_scan.specs.declared.item.Item.{Item}
@@ -40,14 +41,16 @@ use Rattle.scrub_reclaim.proofs.ResetForms.{IsAlikeIn, along}
 -- ---- what rests on one extent alone
 
 -- two images have the same sizes, and the same bytes in extent e
-record AreAlike (image other : Image) (e : ℕ) : Type 0 where
-  sizes : other.geometry ≡ image.geometry
-  bytes : image_byte other e ≡ image_byte image e
+pub record AreAlike (image other : Image) (e : ℕ) : Type 0 where
+  pub sizes : other.geometry ≡ image.geometry
+  pub bytes : image_byte other e ≡ image_byte image e
 
-alike_back : {image other : Image} {e : ℕ} → AreAlike image other e → AreAlike other image e
+-- and so the other way round
+pub alike_back : {image other : Image} {e : ℕ} → AreAlike image other e → AreAlike other image e
 alike_back a = record { sizes = sym a.sizes; bytes = sym a.bytes }
 
-same_extent : {image other : Image} {e : ℕ} (w : ℕ) → AreAlike image other e → extent_of image e w ≡ extent_of other e w
+-- Such an extent is the same under each pointer.
+pub same_extent : {image other : Image} {e : ℕ} (w : ℕ) → AreAlike image other e → extent_of image e w ≡ extent_of other e w
 same_extent w a = λ i. record { byte = sym a.bytes i; page = (sym a.sizes i).page; pointer = w }
 
 -- A locator in range of a disk is in range of a disk of the same sizes.
@@ -311,16 +314,35 @@ scans_alike image other old new K same fs gs numbers x y =
     (λ f g number p q. record { extent = number; items = λ known. alike_items image other old new f g number p q (same f.extent known) })
     fs gs numbers (scanned_by image old fs x) (scanned_by other new gs y)
 
+-- The same extents are planned, with resets or without.
+pub same_planned : (resets others : List ℕ) (image other : Image) (s t : Scrubbed) → other.geometry ≡ image.geometry →
+    t.plan.retired ≡ s.plan.retired → IsScrubbedBut resets image s → IsScrubbedBut others other t → t.plan.planned ≡ s.plan.planned
+same_planned resets others image other s t sizes retired x y =
+    let old : IsWholeScan image s.plan s.all = whole_but resets s.choice s.plan image s.all x.choice x.plan x.all in
+    let new : IsWholeScan other t.plan t.all = whole_but others t.choice t.plan other t.all y.choice y.plan y.all in
+    new.planned
+    ∙ ap (λ (g : Geometry). extents_in_use g.extents t.plan.retired) sizes
+    ∙ ap (extents_in_use image.geometry.extents) retired
+    ∙ sym old.planned
+
 -- the same extents are scanned
 pub same_numbers : (resets others : List ℕ) (image other : Image) (s t : Scrubbed) → other.geometry ≡ image.geometry →
     t.plan.retired ≡ s.plan.retired → IsScrubbedBut resets image s → IsScrubbedBut others other t → extent_numbers t.all ≡ extent_numbers s.all
 same_numbers resets others image other s t sizes retired x y =
-    let old : IsWholeScan image s.plan s.all = whole_but resets s.choice s.plan image s.all x.choice x.plan x.all in
-    let new : IsWholeScan other t.plan t.all = whole_but others t.choice t.plan other t.all y.choice y.plan y.all in
-    y.all.extents ∙ new.planned
-    ∙ ap (λ (g : Geometry). extents_in_use g.extents t.plan.retired) sizes
-    ∙ ap (extents_in_use image.geometry.extents) retired
-    ∙ sym old.planned ∙ sym x.all.extents
+    y.all.extents ∙ same_planned resets others image other s t sizes retired x y ∙ sym x.all.extents
+
+-- a planned extent is one of the disk, and not extent 0
+pub planned_there : (resets : List ℕ) (image : Image) (s : Scrubbed) → IsScrubbedBut resets image s → (e : ℕ) → Contains s.plan.planned e →
+    (e ≢ 0) × (e < image.geometry.extents)
+planned_there resets image s x e there =
+    let whole : IsWholeScan image s.plan s.all = whole_but resets s.choice s.plan image s.all x.choice x.plan x.all in
+    let are : ArePlanned image.geometry.extents (extents_in_use image.geometry.extents s.plan.retired) =
+    in_use_planned image.geometry.extents s.plan.retired in
+    let in_use : Contains (extents_in_use image.geometry.extents s.plan.retired) e = subst (λ (ns : List ℕ). Contains ns e) whole.planned there in
+    let from_one : 1 ≤ e = All-contains (λ n. 1 ≤ n) (extents_in_use image.geometry.extents s.plan.retired) e are.from_one in_use in (
+      λ none. omega (arith, none, from_one),
+      All-contains (λ n. n < image.geometry.extents) (extents_in_use image.geometry.extents s.plan.retired) e are.below in_use,
+    )
 
 -- the chunks to which sound locators point have the same form
 abbrev pub HaveTheSameForms : Scrubbed → Scrubbed → Type 0

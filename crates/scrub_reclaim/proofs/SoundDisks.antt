@@ -1,6 +1,7 @@
 -- A disk that is sound is clean, nothing is missing of it, no page of extent 0 is lost, damaged or stray, and each doubt is a
 -- tail.
 use Rattle.std.proofs.Common.{◌≡◌, ◌<◌, ◌+◌, ◌==◌, ◌&&◌, ◌||◌, ◌++◌, ◌∷◌, [], ℕ, suc, Bool, true, false, not, cond, List, Option, Some, None, MatchOption, is_none, is_some, length, get_or, map, nat_lt, arith, refl, sym, ap, ◌∙◌, if◌then◌else◌}
+use Rattle.std.proofs.Math.Path.{ap₂}
 use Rattle.std.specs.Cmp.Derive.{both_true}
 use Rattle.std.specs.List.{AllZip, Contains, cons_option, count_by, enumerate_from, filter, filter_map, flat_map, list_all, list_any, range_with_len, zip}
 use Rattle.std.specs.Option.{option_map, option_to_list}
@@ -33,7 +34,8 @@ use Rattle.scrub_check.specs.declared.statuses.status.Status.TheVariants.{Sound 
 use Rattle.scrub_check.specs.Checked.{dangling, hidden, is_dangling, is_hidden, is_sound}
 use Rattle.scrub_check.specs.Runs.{HasRunIn}
 use Rattle.scrub_check.specs.Candidates.{CandidateValue}
-use Rattle.scrub_check.specs.Spares.{copies_of, spares_of}
+use Rattle.scrub_check.specs.Spares.{copies_of, is_copy_of, spares_of}
+use Rattle.scrub_loose.specs.Loose.{LooseValue, is_gone}
 use Rattle.scrub_scan.specs.declared.standing.Standing.{Standing}
 use Rattle.scrub_found.specs.Scrubbed.{IsScrubbed, Scrubbed, is_clean_disk, is_clean_choice, is_clean_extent, is_clean_item, is_clean_list}
 use Rattle.scrub_found.proofs.CleanLists.{sound_alone}
@@ -43,7 +45,7 @@ use Rattle.scrub_listings.specs.Manifest.{IsManifest, hidden_runs, is_of_read_ru
 use Rattle.scrub_listings.specs.Summary.{IsSummary, counts_as, is_behind, is_sound_verdict, one_if, verdict, verdict_by}
 use Rattle.scrub_reclaim.specs.declared.doubts.Doubt.{Doubt}
 use Rattle.scrub_reclaim.specs.declared.doubts.Doubt.TheVariants.{Last, NoSuperblock, Tail, Tie}
-use Rattle.scrub_reclaim.specs.Doubts.{Acceptance, choice_doubts, doubts, ends_past, gone_count, is_accepted, is_gone, is_last, is_named, last_doubt, last_doubts, page_ranges, range_doubts, remains_by, run_lost, spare_doubt, spare_doubts_of, staying, superblock_damaged, superblock_lost, superblock_stray, tail_doubts, tail_lost_doubts}
+use Rattle.scrub_reclaim.specs.Doubts.{Acceptance, choice_doubts, crowded_doubt, crowded_doubts, doubts, ends_past, is_accepted, is_last, is_named, last_doubt, last_doubts, loose_doubt, loose_doubts_of, outside, page_ranges, range_doubts, run_lost, spare_doubt, spare_doubts_of, staying, superblock_damaged, superblock_lost, superblock_stray, tail_doubts, tail_lost_doubts}
 use Rattle.scrub_reclaim.specs.AllRight.{IsAllRight, is_quiet, is_tail}
 use Rattle.scrub_reclaim.specs.Reclaimable.{AreReclaimLines, accepted_in, doubts_for, is_clear}
 use Rattle.scrub_super.proofs.PageLaws.{held_unless_odd, one_list_of_pages}
@@ -132,22 +134,29 @@ no_spare_doubt all checked extents c e =
     (sound_only c.status e) in
     ap (λ (ss : List Standing). spare_doubt c.owner ss (staying checked extents ss)) none
 
--- nor is its chunk one that isn't found
-not_gone : (all : List Scanned) (c : Checked) → is_sound c.status ≡ true → not (is_gone all c) ≡ true
+-- nor is its payload gone
+not_gone : (all : List Scanned) (c : Checked) → is_sound c.status ≡ true → is_gone all c ≡ false
 not_gone all c e =
-    ap (λ (t : Status). not (nat_lt 0 c.locator.length && (is_dangling t && length (spares_of all c) == 0))) (sound_only c.status e)
-    ∙ by (nat_lt 0 c.locator.length)
-  where
-    by : (b : Bool) → not (b && false) ≡ true
-    by true = refl
-    by false = refl
+    ap (λ (t : Status). (is_dangling t && nat_lt 0 c.locator.length) && (length (spares_of all c) == 0)) (sound_only c.status e)
 
--- so there are no remains
-no_remains : (all : List Scanned) (checked : List Checked) (extents : List ℕ) → list_all (λ c. is_sound c.status) checked ≡ true →
-    remains_by extents (gone_count all checked) all ≡ []
-no_remains all checked extents sound =
-    ap (λ (n : ℕ). remains_by extents n all)
-    (none_counted (is_gone all) checked (all_weaker (λ c. is_sound c.status) (λ c. not (is_gone all c)) checked (not_gone all) sound))
+-- so there are no loose copies of it
+no_loose_doubt : (all : List Scanned) (frames : List Standing) (extents : List ℕ) (c : Checked) → is_sound c.status ≡ true →
+    loose_doubts_of all frames extents c ≡ []
+no_loose_doubt all frames extents c e =
+    ap (λ (ss : List Standing). loose_doubt c.owner ss (outside extents ss))
+    (ap (λ (b : Bool). if b then filter (is_copy_of c.locator) frames else []) (not_gone all c e))
+
+-- and nothing is said of crowded extents
+no_crowded_doubts : (all : List Scanned) (crowded : List ℕ) (checked : List Checked) (candidates : List CandidateValue) →
+    list_all (λ c. is_sound c.status) checked ≡ true → crowded_doubts all crowded checked candidates ≡ []
+no_crowded_doubts all crowded checked candidates sound =
+    ap (λ (b : Bool). flat_map (crowded_doubt (map (λ a. a.extent) candidates)) (if b then crowded else [])) (none_gone checked sound)
+  where
+    none_gone : (cs : List Checked) → list_all (λ c. is_sound c.status) cs ≡ true → list_any (is_gone all) cs ≡ false
+    none_gone [] e = refl
+    none_gone (c ∷ cs) e =
+        let parts = and_parts (is_sound c.status) (list_all (λ c. is_sound c.status) cs) e in
+        ap₂ (λ (a b : Bool). a || b) (not_gone all c parts.0) (none_gone cs parts.1)
 
 -- ---- the last superblock
 
@@ -319,9 +328,9 @@ module _ (image : Image) (pages : List SuperblockPage) (found : Scrubbed) (x : I
       by None e = absurd (false≢true e)
       by (Some c) e = ap (λ (b : Bool). let none : List Doubt = [] in none ++ (if b then Tie ∷ [] else [])) no_tie
 
-  tails : list_all is_tail (doubts last pages found) ≡ true
-  tails =
-      let parts : doubts last pages found ≡ [] ++ [] ++ [] ++ [] ++ [] ++ [] ++ [] ++ [] ++ flat_map tail_doubts found.all ++ [] =
+  tails : (loose : LooseValue) → list_all is_tail (doubts last pages loose found) ≡ true
+  tails loose =
+      let parts : doubts last pages loose found ≡ [] ++ [] ++ [] ++ [] ++ [] ++ [] ++ [] ++ [] ++ [] ++ flat_map tail_doubts found.all ++ [] =
       (λ i. no_choice_doubt i
       ++ no_last found.choice last counts i
       ++ no_page_doubt superblock_lost pages 0 no_lost quiet i
@@ -330,42 +339,50 @@ module _ (image : Image) (pages : List SuperblockPage) (found : Scrubbed) (x : I
       ++ no_run_doubts image found.plan found.plan.runs found.read.runs found.read.states 0 x.read.same x.read.each runs_are i
       ++ flat_map_of_none (spare_doubts_of found.all found.checked (map (λ (a : CandidateValue). a.extent) found.candidates)) (λ (c : Checked). is_sound c.status) found.checked
       (no_spare_doubt found.all found.checked (map (λ (a : CandidateValue). a.extent) found.candidates)) sound_are i
-      ++ no_remains found.all found.checked (map (λ (a : CandidateValue). a.extent) found.candidates) sound_are i
+      ++ flat_map_of_none (loose_doubts_of found.all loose.frames (map (λ (a : CandidateValue). a.extent) found.candidates)) (λ (c : Checked). is_sound c.status) found.checked
+      (no_loose_doubt found.all loose.frames (map (λ (a : CandidateValue). a.extent) found.candidates)) sound_are i
+      ++ no_crowded_doubts found.all loose.crowded found.checked found.candidates sound_are i
       ++ flat_map tail_doubts found.all
       ++ flat_map_of_none (tail_lost_doubts found.plan.geometry.page) is_clean_extent found.all (no_tail_lost found.plan.geometry.page) extents_are i) in
       ap (list_all is_tail) parts
       ∙ list_all-append is_tail (flat_map tail_doubts found.all) []
       ∙ both_true (tails_only found.all) refl
 
-  all_right : IsAllRight last pages found
-  all_right = record { clean = clean; whole = whole; quiet = quiet; tails = tails }
+  all_right : (loose : LooseValue) → IsAllRight last pages loose found
+  all_right loose = record { clean = clean; whole = whole; quiet = quiet; tails = tails loose }
 
 -- If the verdict is sound, what is found is clean, whole and quiet, and each doubt is a tail.
-pub sound_is_right : (last : Option ℕ) (image : Image) (pages : List SuperblockPage) (found : Scrubbed) → IsScrubbed image found →
-    AreSuperblockPages image pages → is_sound_verdict (verdict last found pages) ≡ true → IsAllRight last pages found
-sound_is_right last image pages found x held is = by (is_clean_disk found) (list_any is_odd pages || is_behind last found.choice) refl refl is
+pub sound_is_right : (last : Option ℕ) (image : Image) (pages : List SuperblockPage) (loose : LooseValue) (found : Scrubbed) →
+    IsScrubbed image found → AreSuperblockPages image pages → is_sound_verdict (verdict last found pages) ≡ true →
+    IsAllRight last pages loose found
+sound_is_right last image pages loose found x held is =
+    by (is_clean_disk found) (list_any is_odd pages || is_behind last found.choice) refl refl is
   where
     by : (clean doubt : Bool) → is_clean_disk found ≡ clean → (list_any is_odd pages || is_behind last found.choice) ≡ doubt →
-        is_sound_verdict (verdict_by clean doubt) ≡ true → IsAllRight last pages found
+        is_sound_verdict (verdict_by clean doubt) ≡ true → IsAllRight last pages loose found
     by true true c o e = absurd (false≢true e)
     by true false c o e =
         let parts = or_parts (list_any is_odd pages) (is_behind last found.choice) o in
-        all_right image pages found x held c parts.0 last parts.1
+        all_right image pages found x held c parts.0 last parts.1 loose
     by false doubt c o e = absurd (false≢true e)
 
 -- ---- what the commands say of it
 
+-- some loose frames
+none_at_all : LooseValue
+none_at_all = record { frames = []; crowded = [] }
+
 module _ (last : Option ℕ) (image : Image) (summary : List ℕ) (x : IsSummary last image summary true) where
-  right : IsAllRight last x.pages x.found
-  right = sound_is_right last image x.pages x.found x.scrubbed x.held (sym x.verdict_is)
+  right : (loose : LooseValue) → IsAllRight last x.pages loose x.found
+  right loose = sound_is_right last image x.pages loose x.found x.scrubbed x.held (sym x.verdict_is)
 
   -- If the summary says that the disk is sound, the report says that it is clean.
   pub sound_is_clean : (answer : AnswerValue) → IsScrubAnswer image answer → answer.is_clean ≡ true
-  sound_is_clean answer a = a.clean ∙ ap is_clean_disk (one_scrub image a.found x.found a.scrubbed x.scrubbed) ∙ right.clean
+  sound_is_clean answer a = a.clean ∙ ap is_clean_disk (one_scrub image a.found x.found a.scrubbed x.scrubbed) ∙ (right none_at_all).clean
 
   -- If the summary says that the disk is sound, nothing is missing of its manifest.
   pub sound_is_whole : (text : List ℕ) (whole : Bool) → IsManifest image text whole → whole ≡ true
-  sound_is_whole text whole m = m.verdict ∙ ap is_whole (one_scrub image m.found x.found m.scrubbed x.scrubbed) ∙ right.whole
+  sound_is_whole text whole m = m.verdict ∙ ap is_whole (one_scrub image m.found x.found m.scrubbed x.scrubbed) ∙ (right none_at_all).whole
 
 -- If the summary says that the disk is sound, records hold each nonzero readable byte of extent 0.
 pub sound_is_held : (last : Option ℕ) (image : Image) (summary : List ℕ) (q : ℕ) (bytes : List ℕ) → IsSummary last image summary true →
@@ -373,7 +390,7 @@ pub sound_is_held : (last : Option ℕ) (image : Image) (summary : List ℕ) (q 
 sound_is_held last image summary q bytes x here readable =
     let page : SuperblockPage = get_or x.pages q Lost in
     let within : q < length x.pages = omega (arith, here, x.held.count) in
-    let even : is_odd page ≡ false = even_if_quiet page (AllPass-from_list_all is_quiet x.pages (right last image summary x).quiet q Lost within) in
+    let even : is_odd page ≡ false = even_if_quiet page (AllPass-from_list_all is_quiet x.pages (right last image summary x none_at_all).quiet q Lost within) in
     held_unless_odd image q page bytes (x.held.each q page (slice_get-get_or x.pages q Lost within)) even readable
 
 -- a verdict that is sound is no other
@@ -387,12 +404,12 @@ pub sound_is_clear : (last : ℕ) (image : Image) (summary : List ℕ) (accepted
     IsSummary (Some last) image summary true → accepted.last ≡ Some last → AreReclaimLines image accepted text clear → clear ≡ true
 sound_is_clear last image summary accepted text clear x given c =
     c.verdict
-    ∙ (λ i. is_clear accepted (one_list_of_pages image c.pages x.pages c.held x.held i) (one_scrub image c.found x.found c.scrubbed x.scrubbed i))
+    ∙ (λ i. is_clear accepted (one_list_of_pages image c.pages x.pages c.held x.held i) c.loose (one_scrub image c.found x.found c.scrubbed x.scrubbed i))
     ∙ ap (λ (ds : List Doubt). list_all (is_accepted (accepted_in accepted x.found)) ds) are
-    ∙ all_weaker is_tail (is_accepted (accepted_in accepted x.found)) (doubts (Some last) x.pages x.found) tail_accepted (right (Some last) image summary x).tails
+    ∙ all_weaker is_tail (is_accepted (accepted_in accepted x.found)) (doubts (Some last) x.pages c.loose x.found) tail_accepted (right (Some last) image summary x c.loose).tails
   where
-    are : doubts_for accepted x.pages x.found ≡ doubts (Some last) x.pages x.found
-    are = ap (λ (o : Option ℕ). doubts o x.pages x.found) given
+    are : doubts_for accepted x.pages c.loose x.found ≡ doubts (Some last) x.pages c.loose x.found
+    are = ap (λ (o : Option ℕ). doubts o x.pages c.loose x.found) given
 
     known : is_last accepted.last x.found.choice ≡ true
     known =

@@ -11,6 +11,7 @@ use Rattle.scrub_check.specs.declared.statuses.checked.Checked.{Checked}
 use Rattle.scrub_check.specs.Candidates.{CandidateValue}
 use Rattle.scrub_check.specs.Live.{has_sound_at}
 use Rattle.scrub_check.specs.Spares.{spares_of}
+use Rattle.scrub_loose.specs.Loose.{LooseValue}
 use Rattle.scrub_found.specs.Scrubbed.{Scrubbed}
 use Rattle.scrub_reclaim.specs.Doubts.{Acceptance, frame_bytes, is_spare}
 use Rattle.scrub_reclaim.specs.declared.doubts.Doubt.{Doubt}
@@ -35,12 +36,13 @@ numbered (a ∷ candidates) (suc k) d below =
     (numbered candidates k d (omega (arith, below)))
 
 -- so those that aren't among them are others
-others : (candidates : List CandidateValue) (e : ℕ) → list_any (λ n. n == e) (map (λ a. a.extent) candidates) ≡ false →
+pub others : (candidates : List CandidateValue) (e : ℕ) → list_any (λ n. n == e) (map (λ a. a.extent) candidates) ≡ false →
     All (λ a. a.extent ≢ e) candidates
 others candidates e none k d below same =
     false≢true (sym none ∙ subst (λ (n : ℕ). list_any (λ m. m == n) (map (λ a. a.extent) candidates) ≡ true) same (numbered candidates k d below))
 
-module _ (accepted : Acceptance) (pages : List SuperblockPage) (found : Scrubbed) (refused : AcceptsNoSpare accepted pages found) where
+module _ (accepted : Acceptance) (pages : List SuperblockPage) (loose : LooseValue) (found : Scrubbed)
+    (refused : AcceptsNoSpare accepted pages loose found) where
   abbrev numbers : List ℕ
   numbers = map (λ a. a.extent) found.candidates
 
@@ -70,18 +72,18 @@ module _ (accepted : Acceptance) (pages : List SuperblockPage) (found : Scrubbed
           (others found.candidates s.extent
           (false_from_not (list_any (λ n. n == s.extent) numbers) (ap (λ (t : Bool). not (not t && list_any (λ n. n == s.extent) numbers)) (sym dead) ∙ passes)))
 
-  kept : is_clear accepted pages found ≡ true → KeepsSpares found found.candidates
+  kept : is_clear accepted pages loose found ≡ true → KeepsSpares found found.candidates
   kept clear k d below has = by (spares_of found.all c) (staying found.checked numbers (spares_of found.all c)) refl refl (of_one (is_accepted (accepted_in accepted found)) clear)
       (of_one (λ x. not (is_spare x && is_accepted (accepted_in accepted found) x)) refused)
     where
       c : Checked
       c = get_or found.checked k d
 
-      of_one : (p : Doubt → Bool) → list_all p (doubts_for accepted pages found) ≡ true →
+      of_one : (p : Doubt → Bool) → list_all p (doubts_for accepted pages loose found) ≡ true →
           list_all p (spare_doubt c.owner (spares_of found.all c) (staying found.checked numbers (spares_of found.all c))) ≡ true
       of_one p all =
           let there : Contains found.checked c = All-contains_itself found.checked k d below in
-          each_part p (spare_doubts_of found.all found.checked numbers) found.checked there.0 c there.1 there.2 (of_spares p accepted.last pages found all)
+          each_part p (spare_doubts_of found.all found.checked numbers) found.checked there.0 c there.1 there.2 (of_spares p accepted.last pages loose found all)
 
       by : (ss ts : List Standing) → spares_of found.all c ≡ ss → staying found.checked numbers (spares_of found.all c) ≡ ts →
           list_all (is_accepted (accepted_in accepted found)) (spare_doubt c.owner ss ts) ≡ true →
@@ -104,9 +106,9 @@ module _ (accepted : Acceptance) (pages : List SuperblockPage) (found : Scrubbed
       }
 
   -- If no spare is accepted, each locator with spares has one that is live or in no listed extent.
-  pub spares_kept : KeepsSpares found (reclaimed accepted pages found)
-  spares_kept = by (is_clear accepted pages found) refl
+  pub spares_kept : KeepsSpares found (reclaimed accepted pages loose found)
+  spares_kept = by (is_clear accepted pages loose found) refl
     where
-      by : (b : Bool) → is_clear accepted pages found ≡ b → KeepsSpares found (if b then found.candidates else [])
+      by : (b : Bool) → is_clear accepted pages loose found ≡ b → KeepsSpares found (if b then found.candidates else [])
       by true e = kept e
       by false e = any_will_do

@@ -1,5 +1,5 @@
 -- Copying chunks into room: what an image keeps then, and what its manifest says before and after.
-use Rattle.std.specs.Prelude.{◌≡◌, ◌≢◌, ◌⊎◌, ◌<◌, ◌≤◌, ◌+◌, ◌++◌, ℕ, ⊤, true, List, [], ◌∷◌, Some, None, All, Contains, codes, map}
+use Rattle.std.specs.Prelude.{◌≡◌, ◌≢◌, ◌⊎◌, ◌<◌, ◌≤◌, ◌+◌, ◌++◌, ℕ, ⊤, true, List, [], ◌∷◌, Some, None, All, Contains, map}
 use Rattle.std.specs.Prelude.{length as len}
 use Rattle.std.specs.List.{AllZip, flat_map}
 use Rattle.sha2.specs.Sha256.{sha256}
@@ -9,12 +9,17 @@ use Rattle.scrub_frame.specs.Frame.{frame_overhead}
 use Rattle.scrub_scan.specs.declared.item.Item.{Item}
 use Rattle.scrub_scan.specs.declared.item.Item.TheVariants.{Chunk}
 use Rattle.scrub_scan.specs.Extent.{Extent, extent_of, FrameAt}
+use Rattle.scrub_scan.specs.Line.{spaced}
 use Rattle.scrub_scan.specs.Scanned.{Scanned}
 use Rattle.scrub_super.specs.Plan.{PlanValue, pointer_of}
 use Rattle.scrub_check.specs.Live.{is_chunk}
+use Rattle.scrub_loose.specs.declared.copies.BestCopy.{BestCopy}
+use Rattle.scrub_loose.specs.declared.copies.BestCopy.TheVariants.{Nowhere, Loose, Spare}
+use Rattle.scrub_loose.specs.Loose.{AreLoose, LooseValue}
 use Rattle.scrub_found.specs.Scrubbed.{Scrubbed, IsScrubbed}
+use Rattle.scrub_listings.specs.Manifest.{copy_word}
 use Rattle.scrub_reclaim.specs.Reset.{IsPlanIn}
-use Rattle.scrub_reclaim.specs.Room.{has_room, place_in}
+use Rattle.scrub_reclaim.specs.Room.{offers_room, place_in}
 
 -- ---- what a copy keeps
 
@@ -22,11 +27,13 @@ use Rattle.scrub_reclaim.specs.Room.{has_room, place_in}
 pub record HasRoomAt (image : Image) (e place : ℕ) : Type 0 where
   pub found : Scrubbed
   pub scrubbed : IsScrubbed image found
+  pub loose : LooseValue
+  pub are_loose : AreLoose [] image found.plan loose
   pub scanned : Scanned
   pub among : Contains found.all scanned
   pub extent_is : scanned.extent ≡ e
   pub place_is : place ≡ place_in found.plan.geometry scanned
-  pub fits : has_room found.plan.geometry found.checked scanned ≡ true
+  pub fits : offers_room found.plan.geometry found.all loose found.checked scanned ≡ true
 
 -- an extent, and a place in it
 pub record RoomValue : Type 0 where
@@ -63,17 +70,27 @@ pub record IsAfterCopies (rooms : List RoomValue) (before after : Image) : Type 
 
 -- ---- what is the same
 
--- two parts of texts are equal, or the word `none` at the end of the line became `spare`
-abbrev pub IsSameOrSpared : List ℕ → List ℕ → Type 0
-IsSameOrSpared a b = (b ≡ a) ⊎ ((front : List ℕ) × (a ≡ front ++ codes " none" ++ 10 ∷ []) × (b ≡ front ++ codes " spare" ++ 10 ∷ []))
+-- from least to greatest: there is no copy, a loose one, a spare
+abbrev pub rank : BestCopy → ℕ
+rank Nowhere = 0
+rank Loose = 1
+rank Spare = 2
 
--- two texts are one, but that lines that end in the word `none` may end in `spare`
-pub record IsSameButSpares (a b : List ℕ) : Type 0 where
+-- two parts of texts are equal, or the word for the best copy at the end of the line rose, from `none` to `loose` or `spare`, or from
+-- `loose` to `spare`
+abbrev pub IsSameOrRisen : List ℕ → List ℕ → Type 0
+IsSameOrRisen a b =
+    (b ≡ a) ⊎
+    ((front : List ℕ) × (was is : BestCopy) × (rank was < rank is) ×
+    (a ≡ front ++ spaced (copy_word was) ++ 10 ∷ []) × (b ≡ front ++ spaced (copy_word is) ++ 10 ∷ []))
+
+-- two texts are one, but that the words for best copies at the ends of lines may have risen
+pub record IsSameButRisen (a b : List ℕ) : Type 0 where
   pub parts : List (List ℕ)
   pub others : List (List ℕ)
   pub a_is : a ≡ flat_map (λ part. part) parts
   pub b_is : b ≡ flat_map (λ part. part) others
-  pub each : AllZip IsSameOrSpared parts others
+  pub each : AllZip IsSameOrRisen parts others
 
 -- ---- what was written is found
 

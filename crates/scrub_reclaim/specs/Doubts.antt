@@ -1,19 +1,17 @@
--- What may have hidden a newer superblock, a newer binding, or a chunk past a write pointer: the doubts of a disk, in the
--- order of their lines.
-use Rattle.std.specs.Prelude.{◌≡◌, ◌≢◌, ◌≤◌, ◌+◌, ◌-◌, ◌*◌, ◌==◌, ◌&&◌, ◌||◌, ℕ, ⊤, All, Bool, true, false, not, codes, List, [], ◌∷◌, ◌++◌, Option, Some, None, find, is_none, nat_lt, map, if◌then◌else◌}
+-- What may have hidden a newer superblock, a newer binding, or a chunk past a write pointer, and what a reset might take the last copy
+-- of: the doubts of a disk, in the order of their lines.
+use Rattle.std.specs.Prelude.{◌≡◌, ◌≢◌, ◌≤◌, ◌+◌, ◌-◌, ◌*◌, ◌==◌, ◌&&◌, ◌||◌, ℕ, ⊤, All, Bool, true, false, not, codes, List, [], ◌∷◌, ◌++◌, Option, Some, None, is_none, nat_lt, map, if◌then◌else◌}
 use Rattle.std.specs.Fmt.{decimal}
 use Rattle.std.specs.Str.{bytes_eq}
 use Rattle.scrub_scan.specs.Line.{spaced}
 use Rattle.std.specs.Option.{option_map, option_map_or, option_to_list}
-use Rattle.std.specs.List.{count_by, enumerate_from, filter, filter_map, flat_map, list_all, list_any, range_with_len}
+use Rattle.std.specs.List.{enumerate_from, filter, filter_map, flat_map, list_all, list_any, range_with_len}
 use Rattle.scrub_frame.specs.Frame.{frame_overhead}
 use Rattle.scrub_super.specs.declared.pages.SuperblockPage.{SuperblockPage}
 use Rattle.scrub_super.specs.declared.pages.SuperblockPage.TheVariants.{Lost, Damaged}
 use Rattle.scrub_super.specs.Chosen.{Choice}
 use Rattle.scrub_super.specs.Pages.{is_stray}
-use Rattle.scrub_scan.specs.Item.{start_of}
 use Rattle.scrub_scan.specs.Scanned.{Scanned}
-use Rattle.scrub_scan.specs.declared.item.Item.{Item}
 use Rattle.scrub_scan.specs.declared.standing.Standing.{Standing}
 use Rattle.scrub_check.specs.declared.named.Owner.{Owner}
 use Rattle.scrub_check.specs.declared.statuses.checked.Checked.{Checked}
@@ -22,13 +20,13 @@ use Rattle.scrub_check.specs.Live.{has_sound_at}
 use Rattle.scrub_check.specs.Spares.{spares_by, spares_of}
 use Rattle.scrub_check.specs.declared.runs.RunState.{RunState}
 use Rattle.scrub_check.specs.declared.runs.RunState.TheVariants.{Read}
+use Rattle.scrub_loose.specs.Loose.{LooseValue, is_gone, loose_of}
 use Rattle.scrub_found.specs.Scrubbed.{Scrubbed}
 use Rattle.scrub_found.specs.Texts.{owner_text, state_text}
 use Rattle.scrub_listings.specs.Locators.{place_words}
-use Rattle.scrub_listings.specs.Manifest.{is_without_spare}
-use Rattle.scrub_listings.specs.Summary.{counts_as, is_noise, is_torn}
+use Rattle.scrub_listings.specs.Summary.{counts_as}
 use Rattle.scrub_reclaim.specs.declared.doubts.Doubt.{Doubt}
-use Rattle.scrub_reclaim.specs.declared.doubts.Doubt.TheVariants.{NoSuperblock, Tie, Last, SuperblockLost, SuperblockDamaged, SuperblockStray, RunLost, Spare, Remains, Tail, TailLost}
+use Rattle.scrub_reclaim.specs.declared.doubts.Doubt.TheVariants.{NoSuperblock, Tie, Last, SuperblockLost, SuperblockDamaged, SuperblockStray, RunLost, Spare, Loose, Crowded, Tail, TailLost}
 use Rattle.scrub_reclaim.specs.declared.page_ranges.PageRange.{PageRange}
 
 -- ---- neighbouring pages
@@ -156,42 +154,54 @@ spare_doubts all checked candidates = flat_map (spare_doubts_of all checked (map
 abbrev pub spare_doubts_by : List Standing → List Standing → Checked → List Doubt
 spare_doubts_by found stay c = spare_doubt c.owner (spares_by found c) (spares_by stay c)
 
--- ---- remains
+-- ---- loose copies
 
--- the chunk of a named locator isn't found: the locator dangles, its length isn't 0, and it has no spare
-abbrev pub is_gone : List Scanned → Checked → Bool
-is_gone all c = nat_lt 0 c.locator.length && is_without_spare all c
+-- the frame is in one of these extents
+abbrev pub is_in : List ℕ → Standing → Bool
+is_in extents s = list_any (λ n. n == s.extent) extents
 
--- how many named locators there are whose chunk isn't found
-abbrev pub gone_count : List Scanned → List Checked → ℕ
-gone_count all checked = count_by (is_gone all) checked
+-- the frames that are in none of these extents
+abbrev pub outside : List ℕ → List Standing → List Standing
+outside extents ss = filter (λ s. not (is_in extents s)) ss
 
--- in the item a chunk may begin that is none of the items: it is torn or noise
-abbrev pub is_remains : Item → Bool
-is_remains item = is_torn item || is_noise item
+-- the doubt that the loose copies of this owner's locator make if none of them stays: the first of them
+abbrev pub loose_doubt : Owner → List Standing → List Standing → List Doubt
+loose_doubt owner [] stay = []
+loose_doubt owner (s ∷ ss) [] = Loose s.extent s.offset s.length s.uuid owner (frame_bytes s) ∷ []
+loose_doubt owner (s ∷ ss) (t ∷ ts) = []
 
--- the doubt that a scanned extent makes in which a chunk may begin that isn't found, by how many aren't found
-abbrev pub remains_in : ℕ → Scanned → List Doubt
-remains_in count f = option_to_list (option_map (λ item. Remains f.extent (start_of item) count) (find is_remains f.findings.items))
+-- the doubt that a named locator's loose copies make, if it has some, and all of them are in these extents
+abbrev pub loose_doubts_of : List Scanned → List Standing → List ℕ → Checked → List Doubt
+loose_doubts_of all loose extents c = loose_doubt c.owner (loose_of all loose c) (outside extents (loose_of all loose c))
 
--- that doubt, if the extent is among these
-abbrev pub remains_among : List ℕ → ℕ → Scanned → List Doubt
-remains_among extents count f = if list_any (λ n. n == f.extent) extents then remains_in count f else []
+-- the doubts that loose copies make if the candidates are reset, by named locator
+abbrev pub loose_doubts : List Scanned → List Standing → List Checked → List CandidateValue → List Doubt
+loose_doubts all loose checked candidates = flat_map (loose_doubts_of all loose (map (λ a. a.extent) candidates)) checked
 
--- the doubts of the extents in which such a chunk may begin, if there is one and these extents are reset, ascending
-abbrev pub remains_by : List ℕ → ℕ → List Scanned → List Doubt
-remains_by extents count all = if count == 0 then [] else flat_map (remains_among extents count) all
+-- ---- crowded extents
 
--- the doubts that remains make if the candidates are reset
-abbrev pub remains_doubts : List Scanned → List Checked → List CandidateValue → List Doubt
-remains_doubts all checked candidates = remains_by (map (λ a. a.extent) candidates) (gone_count all checked) all
+-- the payload of one of these named locators is gone
+abbrev pub is_any_gone : List Scanned → List Checked → Bool
+is_any_gone all checked = list_any (is_gone all) checked
+
+-- the crowded extents in which no copy was looked for: none, unless a payload is gone
+abbrev pub crowded_now : List Scanned → List ℕ → List Checked → List ℕ
+crowded_now all crowded checked = if is_any_gone all checked then crowded else []
+
+-- the doubt of a crowded extent, if it is among these
+abbrev pub crowded_doubt : List ℕ → ℕ → List Doubt
+crowded_doubt extents e = if list_any (λ n. n == e) extents then Crowded e ∷ [] else []
+
+-- the doubts that crowded extents make if the candidates are reset, while a payload is gone
+abbrev pub crowded_doubts : List Scanned → List ℕ → List Checked → List CandidateValue → List Doubt
+crowded_doubts all crowded checked candidates = flat_map (crowded_doubt (map (λ a. a.extent) candidates)) (crowded_now all crowded checked)
 
 -- ---- all of them
 
 -- all doubts, by kind, from a choice, the generation of the last superblock that was written if it is given, the pages of extent
--- 0, the states of the runs, the bytes of a page, the scanned extents, the named locators and the candidates
-abbrev pub doubts_in : Choice → Option ℕ → List SuperblockPage → List RunState → ℕ → List Scanned → List Checked → List CandidateValue → List Doubt
-doubts_in choice last pages states page all checked candidates =
+-- 0, the states of the runs, the bytes of a page, the scanned extents, the loose frames, the named locators and the candidates
+abbrev pub doubts_in : Choice → Option ℕ → List SuperblockPage → List RunState → ℕ → List Scanned → LooseValue → List Checked → List CandidateValue → List Doubt
+doubts_in choice last pages states page all loose checked candidates =
     choice_doubts choice
     ++ last_doubts choice last
     ++ page_doubts superblock_lost pages
@@ -199,14 +209,15 @@ doubts_in choice last pages states page all checked candidates =
     ++ page_doubts superblock_stray pages
     ++ run_doubts states
     ++ spare_doubts all checked candidates
-    ++ remains_doubts all checked candidates
+    ++ loose_doubts all loose.frames checked candidates
+    ++ crowded_doubts all loose.crowded checked candidates
     ++ flat_map tail_doubts all
     ++ flat_map (tail_lost_doubts page) all
 
 -- all doubts of what was found on a disk: by kind, and within a kind by page, run, or extent and page
-abbrev pub doubts : Option ℕ → List SuperblockPage → Scrubbed → List Doubt
-doubts last pages found =
-    doubts_in found.choice last pages found.read.states found.plan.geometry.page found.all found.checked found.candidates
+abbrev pub doubts : Option ℕ → List SuperblockPage → LooseValue → Scrubbed → List Doubt
+doubts last pages loose found =
+    doubts_in found.choice last pages found.read.states found.plan.geometry.page found.all loose found.checked found.candidates
 
 -- ---- their texts
 
@@ -226,7 +237,9 @@ doubt_text (SuperblockStray q) = codes "superblock-stray" ++ spaced (decimal q)
 doubt_text (RunLost k state) = codes "run-lost" ++ spaced (decimal k) ++ spaced (state_text state)
 doubt_text (Spare extent offset size uuid owner bytes) =
     codes "spare" ++ spaced (place_words extent offset size uuid) ++ spaced (owner_text owner) ++ spaced (decimal bytes)
-doubt_text (Remains extent offset count) = codes "remains" ++ spaced (decimal extent) ++ spaced (decimal offset) ++ spaced (decimal count)
+doubt_text (Loose extent offset size uuid owner bytes) =
+    codes "loose" ++ spaced (place_words extent offset size uuid) ++ spaced (owner_text owner) ++ spaced (decimal bytes)
+doubt_text (Crowded extent) = codes "crowded" ++ spaced (decimal extent)
 doubt_text (Tail extent first count) = codes "tail" ++ spaced (decimal extent) ++ spaced (decimal first) ++ spaced (decimal count)
 doubt_text (TailLost extent first last) = codes "tail-lost" ++ spaced (decimal extent) ++ spaced (decimal first) ++ spaced (decimal last)
 
@@ -257,10 +270,15 @@ abbrev pub is_spare : Doubt → Bool
 is_spare (Spare extent offset size uuid owner bytes) = true
 is_spare _ = false
 
--- the doubt is one that remains make
-abbrev pub is_of_remains : Doubt → Bool
-is_of_remains (Remains extent offset count) = true
-is_of_remains _ = false
+-- the doubt is one that loose copies make
+abbrev pub is_loose : Doubt → Bool
+is_loose (Loose extent offset size uuid owner bytes) = true
+is_loose _ = false
+
+-- the doubt is one that a crowded extent makes
+abbrev pub is_crowded : Doubt → Bool
+is_crowded (Crowded extent) = true
+is_crowded _ = false
 
 -- the doubt is none if the superblock that counts is the last one that was written, and nothing was written after it
 abbrev pub is_settled_by_last : Doubt → Bool
@@ -272,7 +290,7 @@ is_settled_by_last _ = false
 
 -- the doubt may be accepted
 abbrev pub may_be_accepted : Doubt → Bool
-may_be_accepted d = is_settled_by_last d || is_spare d || is_of_remains d
+may_be_accepted d = is_settled_by_last d || is_spare d || is_loose d || is_crowded d
 
 -- one of the lines has the text of the doubt, which may be accepted
 abbrev pub is_named : List (List ℕ) → Doubt → Bool

@@ -1,7 +1,6 @@
 -- For public clauses.
 pub mod Doubts
 pub mod Reclaimable
-pub mod Remains
 pub mod Reset
 pub mod Room
 pub mod Copy

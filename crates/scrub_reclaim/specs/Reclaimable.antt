@@ -14,13 +14,14 @@ use Rattle.scrub_scan.specs.declared.standing.Standing.{Standing}
 use Rattle.scrub_check.specs.Candidates.{CandidateValue}
 use Rattle.scrub_check.specs.Live.{has_sound_at}
 use Rattle.scrub_check.specs.Spares.{spares_of}
+use Rattle.scrub_loose.specs.Loose.{AreLoose, LooseValue, loose_of}
 use Rattle.scrub_report.specs.Report.{report_text}
 use Rattle.scrub_found.specs.Scrubbed.{Scrubbed, IsScrubbed}
 use Rattle.scrub_found.specs.Texts.{owner_text}
 use Rattle.scrub_listings.specs.Locators.{place_text}
 use Rattle.scrub_reclaim.specs.declared.doubts.Doubt.{Doubt}
-use Rattle.scrub_reclaim.specs.Doubts.{Acceptance, Accepted, accepted_on, are_accepted, doubt_text, doubts, is_accepted, is_named, is_settled_by_last, is_spare}
-use Rattle.scrub_reclaim.specs.Room.{room_lines}
+use Rattle.scrub_reclaim.specs.Doubts.{Acceptance, Accepted, accepted_on, are_accepted, doubt_text, doubts, is_accepted, is_any_gone, is_crowded, is_loose, is_named, is_settled_by_last, is_spare}
+use Rattle.scrub_reclaim.specs.Room.{room_if, room_lines}
 
 -- ---- the lines of doubts
 
@@ -83,30 +84,32 @@ all_candidate_lines checked candidates = flat_map (candidate_lines checked) cand
 -- ---- the whole text
 
 -- the doubts of what was found, with that of the last generation if it is given
-abbrev pub doubts_for : Acceptance → List SuperblockPage → Scrubbed → List Doubt
-doubts_for a pages found = doubts a.last pages found
+abbrev pub doubts_for : Acceptance → List SuperblockPage → LooseValue → Scrubbed → List Doubt
+doubts_for a pages loose found = doubts a.last pages loose found
 
 -- what is accepted of the doubts of what was found
 abbrev pub accepted_in : Acceptance → Scrubbed → Accepted
 accepted_in a found = accepted_on a found.choice
 
 -- each doubt was accepted
-abbrev pub is_clear : Acceptance → List SuperblockPage → Scrubbed → Bool
-is_clear a pages found = are_accepted (accepted_in a found) (doubts_for a pages found)
+abbrev pub is_clear : Acceptance → List SuperblockPage → LooseValue → Scrubbed → Bool
+is_clear a pages loose found = are_accepted (accepted_in a found) (doubts_for a pages loose found)
 
 -- the extents to reclaim: all candidates if each doubt was accepted, or else none
-abbrev pub reclaimed : Acceptance → List SuperblockPage → Scrubbed → List CandidateValue
-reclaimed accepted pages found = if is_clear accepted pages found then found.candidates else []
+abbrev pub reclaimed : Acceptance → List SuperblockPage → LooseValue → Scrubbed → List CandidateValue
+reclaimed accepted pages loose found = if is_clear accepted pages loose found then found.candidates else []
 
 -- the lines of extents with room, if there are extents to reclaim, or else nothing
-abbrev pub rooms_for : List CandidateValue → Scrubbed → List ℕ
-rooms_for candidates found = if length candidates == 0 then [] else room_lines found.plan.geometry found.all found.checked candidates
+abbrev pub rooms_for : List CandidateValue → LooseValue → Scrubbed → List ℕ
+rooms_for candidates loose found =
+    if length candidates == 0 then [] else room_lines found.plan.geometry found.all loose found.checked candidates
 
 -- the lines of the doubts, then those of the extents to reclaim, and then those of extents with room
-abbrev pub reclaim_text : Acceptance → List SuperblockPage → Scrubbed → List ℕ
-reclaim_text accepted pages found =
-    doubt_lines (accepted_in accepted found) (doubts_for accepted pages found) ++ all_candidate_lines found.checked (reclaimed accepted pages found)
-    ++ rooms_for (reclaimed accepted pages found) found
+abbrev pub reclaim_text : Acceptance → List SuperblockPage → LooseValue → Scrubbed → List ℕ
+reclaim_text accepted pages loose found =
+    doubt_lines (accepted_in accepted found) (doubts_for accepted pages loose found)
+    ++ all_candidate_lines found.checked (reclaimed accepted pages loose found)
+    ++ rooms_for (reclaimed accepted pages loose found) loose found
 
 -- the text is the lines of the doubts, of the extents to reclaim and of those with room, of what is found in an image; and the
 -- truth value says whether each doubt was accepted, so that no line begins with `doubt`
@@ -115,8 +118,10 @@ pub record AreReclaimLines (image : Image) (accepted : Acceptance) (text : List 
   pub scrubbed : IsScrubbed image found
   pub pages : List SuperblockPage
   pub held : AreSuperblockPages image pages
-  pub text_is : text ≡ reclaim_text accepted pages found
-  pub verdict : clear ≡ is_clear accepted pages found
+  pub loose : LooseValue
+  pub are_loose : AreLoose [] image found.plan loose
+  pub text_is : text ≡ reclaim_text accepted pages loose found
+  pub verdict : clear ≡ is_clear accepted pages loose found
 
 -- ---- what follows
 
@@ -127,9 +132,11 @@ pub record AreOfCandidates (image : Image) (accepted : Acceptance) (report text 
   pub scrubbed : IsScrubbed image found
   pub pages : List SuperblockPage
   pub held : AreSuperblockPages image pages
+  pub loose : LooseValue
+  pub are_loose : AreLoose [] image found.plan loose
   pub report_is : report ≡ report_text found
   pub text_is :
-      text ≡ doubt_lines (accepted_in accepted found) (doubts_for accepted pages found) ++ all_candidate_lines found.checked (if clear then found.candidates else []) ++ rooms_for (if clear then found.candidates else []) found
+      text ≡ doubt_lines (accepted_in accepted found) (doubts_for accepted pages loose found) ++ all_candidate_lines found.checked (if clear then found.candidates else []) ++ rooms_for (if clear then found.candidates else []) loose found
 
 -- a named locator is sound and points to a chunk that a candidate keeps, and with the bytes of the chunk's frame it is among the
 -- candidate's moves
@@ -145,12 +152,21 @@ abbrev pub AreMoved : List Checked → List CandidateValue → Type 0
 AreMoved checked candidates = All (λ a. All (λ c. c.locator.extent ≡ a.extent → IsMoved checked a c) checked) candidates
 
 -- no doubt of a kind was accepted
-abbrev pub AcceptsNone : (Doubt → Bool) → Acceptance → List SuperblockPage → Scrubbed → Type 0
-AcceptsNone is_of_kind a pages found = list_all (λ d. not (is_of_kind d && is_accepted (accepted_in a found) d)) (doubts_for a pages found) ≡ true
+abbrev pub AcceptsNone : (Doubt → Bool) → Acceptance → List SuperblockPage → LooseValue → Scrubbed → Type 0
+AcceptsNone is_of_kind a pages loose found =
+    list_all (λ d. not (is_of_kind d && is_accepted (accepted_in a found) d)) (doubts_for a pages loose found) ≡ true
 
 -- no spare was accepted: no line begins with `accepted spare`
-abbrev pub AcceptsNoSpare : Acceptance → List SuperblockPage → Scrubbed → Type 0
-AcceptsNoSpare a pages found = AcceptsNone is_spare a pages found
+abbrev pub AcceptsNoSpare : Acceptance → List SuperblockPage → LooseValue → Scrubbed → Type 0
+AcceptsNoSpare a pages loose found = AcceptsNone is_spare a pages loose found
+
+-- no loose copy was accepted: no line begins with `accepted loose`
+abbrev pub AcceptsNoLoose : Acceptance → List SuperblockPage → LooseValue → Scrubbed → Type 0
+AcceptsNoLoose a pages loose found = AcceptsNone is_loose a pages loose found
+
+-- no crowded extent was accepted: no line begins with `accepted crowded`
+abbrev pub AcceptsNoCrowded : Acceptance → List SuperblockPage → LooseValue → Scrubbed → Type 0
+AcceptsNoCrowded a pages loose found = AcceptsNone is_crowded a pages loose found
 
 -- a named locator has a spare that is live or in none of these extents
 pub record HasSafeSpare (found : Scrubbed) (listed : List CandidateValue) (c : Checked) : Type 0 where
@@ -162,12 +178,37 @@ pub record HasSafeSpare (found : Scrubbed) (listed : List CandidateValue) (c : C
 abbrev pub KeepsSpares : Scrubbed → List CandidateValue → Type 0
 KeepsSpares found listed = All (λ c. spares_of found.all c ≢ [] → HasSafeSpare found listed c) found.checked
 
+-- an extent has no line of room, whether it is listed or not
+abbrev pub HasNoRoomLine : LooseValue → Scrubbed → ℕ → Type 0
+HasNoRoomLine loose found e =
+    (is_listed : Bool) → All (λ f. f.extent ≡ e → room_if is_listed found.plan.geometry found.all loose found.checked f ≡ []) found.all
+
+-- a named locator has a loose copy in none of these extents, in an extent without a line of room
+pub record HasSafeLoose (loose : LooseValue) (found : Scrubbed) (listed : List CandidateValue) (c : Checked) : Type 0 where
+  pub copy : Standing
+  pub among : Contains (loose_of found.all loose.frames c) copy
+  pub stays : All (λ a. a.extent ≢ copy.extent) listed
+  pub unwritten : HasNoRoomLine loose found copy.extent
+
+-- each named locator that has a loose copy has one in none of these extents, in an extent without a line of room
+abbrev pub KeepsLoose : LooseValue → Scrubbed → List CandidateValue → Type 0
+KeepsLoose loose found listed = All (λ c. loose_of found.all loose.frames c ≢ [] → HasSafeLoose loose found listed c) found.checked
+
+-- a crowded extent is none of these, and has no line of room
+pub record IsLeftAlone (loose : LooseValue) (found : Scrubbed) (listed : List CandidateValue) (e : ℕ) : Type 0 where
+  pub stays : All (λ a. a.extent ≢ e) listed
+  pub unwritten : HasNoRoomLine loose found e
+
+-- while a payload is gone, each crowded extent is none of these, and has no line of room
+abbrev pub KeepsCrowded : LooseValue → Scrubbed → List CandidateValue → Type 0
+KeepsCrowded loose found listed = is_any_gone found.all found.checked ≡ true → All (IsLeftAlone loose found listed) loose.crowded
+
 -- ---- by the generation of the last superblock
 
 -- the superblock that counts has this generation, and each doubt is accepted by a line with its text, or is of a kind that the last
 -- superblock settles
-pub record IsListedByLast (last : ℕ) (a : Acceptance) (pages : List SuperblockPage) (found : Scrubbed) : Type 0 where
+pub record IsListedByLast (last : ℕ) (a : Acceptance) (pages : List SuperblockPage) (loose : LooseValue) (found : Scrubbed) : Type 0 where
   pub counts : Contents
   pub is : found.choice.superblock ≡ Some counts
   pub generation : counts.generation ≡ last
-  pub each : list_all (λ d. is_named a.lines d || is_settled_by_last d) (doubts_for a pages found) ≡ true
+  pub each : list_all (λ d. is_named a.lines d || is_settled_by_last d) (doubts_for a pages loose found) ≡ true

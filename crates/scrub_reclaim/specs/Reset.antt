@@ -8,9 +8,10 @@ use Rattle.scrub_super.specs.Plan.{PlanValue, plan_of, pointer_of}
 use Rattle.scrub_check.specs.Candidates.{CandidateValue}
 use Rattle.scrub_check.specs.ChunkForms.{form_at}
 use Rattle.scrub_check.specs.declared.statuses.status.Status.TheVariants.{Sound}
+use Rattle.scrub_loose.specs.Loose.{AreLoose, LooseValue}
 use Rattle.scrub_found.specs.Scrubbed.{Scrubbed, IsScrubbed}
 use Rattle.scrub_reclaim.specs.Doubts.{Acceptance}
-use Rattle.scrub_reclaim.specs.Reclaimable.{AcceptsNoSpare, moves, reclaimed}
+use Rattle.scrub_reclaim.specs.Reclaimable.{AcceptsNoLoose, AcceptsNoSpare, moves, reclaimed}
 
 -- ---- which extents may be reset
 
@@ -20,8 +21,10 @@ pub record IsListedWithoutMoves (image : Image) (accepted : Acceptance) (e : ℕ
   pub scrubbed : IsScrubbed image found
   pub pages : List SuperblockPage
   pub held : AreSuperblockPages image pages
+  pub loose : LooseValue
+  pub are_loose : AreLoose [] image found.plan loose
   pub candidate : CandidateValue
-  pub listed : Contains (reclaimed accepted pages found) candidate
+  pub listed : Contains (reclaimed accepted pages loose found) candidate
   pub extent_is : candidate.extent ≡ e
   pub unmoved : moves found.checked candidate ≡ []
 
@@ -58,15 +61,18 @@ pub record IsForeseen (extents : List ℕ) (before after : Image) : Type 0 where
   pub reset : IsAfterReset extents before after
   pub are : All (λ e. pointer_of reset.new e ≡ Some 0) extents
 
--- each of these extents is listed among those to reclaim of an image with nothing to move out of it first, and no spare was
--- accepted
-pub record AreListedWithoutSpares (accepted : Acceptance) (extents : List ℕ) (image : Image) : Type 0 where
+-- each of these extents is listed among those to reclaim of an image with nothing to move out of it first, and no copy was given
+-- up: neither a spare nor a loose copy was accepted
+pub record AreListedKeepingCopies (accepted : Acceptance) (extents : List ℕ) (image : Image) : Type 0 where
   pub found : Scrubbed
   pub scrubbed : IsScrubbed image found
   pub pages : List SuperblockPage
   pub held : AreSuperblockPages image pages
+  pub loose : LooseValue
+  pub are_loose : AreLoose [] image found.plan loose
   pub listed : All (IsListedWithoutMoves image accepted) extents
-  pub spares : AcceptsNoSpare accepted pages found
+  pub spares : AcceptsNoSpare accepted pages loose found
+  pub loose_copies : AcceptsNoLoose accepted pages loose found
 
 -- these extents were reset, and each had been listed among those to reclaim with nothing to move out of it first
 pub record IsReclaimed (accepted : Acceptance) (extents : List ℕ) (before after : Image) : Type 0 where

@@ -6,6 +6,7 @@ use Rattle.std.specs.Option.{option_map_or}
 use Rattle.scrub_disk.specs.declared.geometry.Geometry.{Geometry}
 use Rattle.scrub_disk.specs.Image.{Image, image_byte, extent_bytes}
 use Rattle.scrub_scan.specs.declared.item.Item.{Item}
+use Rattle.scrub_scan.specs.declared.standing.Standing.{Standing}
 use Rattle.scrub_scan.specs.Extent.{extent_of}
 use Rattle.scrub_scan.specs.Findings.{is_nonzero}
 use Rattle.scrub_scan.specs.Line.{spaced}
@@ -14,7 +15,9 @@ use Rattle.scrub_scan.specs.Tiling.{IsTiling}
 use Rattle.scrub_check.specs.declared.statuses.checked.Checked.{Checked}
 use Rattle.scrub_check.specs.Candidates.{CandidateValue, has_sound_alone}
 use Rattle.scrub_check.specs.Live.{is_chunk}
+use Rattle.scrub_loose.specs.Loose.{LooseValue, loose_of}
 use Rattle.scrub_found.specs.Scrubbed.{is_clean_extent, is_clean_item}
+use Rattle.scrub_reclaim.specs.Doubts.{crowded_now}
 
 -- the last of some items is a chunk, of either form
 abbrev pub ends_in_chunk : List Item → Bool
@@ -55,6 +58,18 @@ room_fits g f = is_zero_to (place_in g f) f && not (nat_lt (room_in g f) 38)
 abbrev pub has_room : Geometry → List Checked → Scanned → Bool
 has_room g checked f = may_grow checked f && room_fits g f
 
+-- the extent holds a loose copy of one of these named locators
+abbrev pub holds_loose : List Scanned → List Standing → List Checked → ℕ → Bool
+holds_loose all loose checked e = list_any (λ c. list_any (λ s. s.extent == e) (loose_of all loose c)) checked
+
+-- nothing may be put into the extent: it holds a loose copy of a named locator, or it is crowded while a payload is gone
+abbrev pub is_closed : List Scanned → LooseValue → List Checked → ℕ → Bool
+is_closed all loose checked e = holds_loose all loose.frames checked e || list_any (λ n. n == e) (crowded_now all loose.crowded checked)
+
+-- a scanned extent has room that is offered: it has room, and isn't closed
+abbrev pub offers_room : Geometry → List Scanned → LooseValue → List Checked → Scanned → Bool
+offers_room g all loose checked f = not (is_closed all loose checked f.extent) && has_room g checked f
+
 -- the first word of the line of an extent with room, by whether the extent is listed to be reclaimed
 abbrev pub room_word : Bool → List ℕ
 room_word true = codes "last-room"
@@ -65,28 +80,29 @@ abbrev pub room_line : Bool → ℕ → ℕ → ℕ → List ℕ
 room_line is_listed extent place bytes =
     room_word is_listed ++ spaced (decimal extent) ++ spaced (decimal place) ++ spaced (decimal bytes) ++ 10 ∷ []
 
--- the line of a scanned extent, if it has room, or else nothing
-abbrev pub room_if : Bool → Geometry → List Checked → Scanned → List ℕ
-room_if is_listed g checked f =
-    if has_room g checked f then room_line is_listed f.extent (place_in g f) (room_in g f) else []
+-- the line of a scanned extent, if it has room that is offered, or else nothing
+abbrev pub room_if : Bool → Geometry → List Scanned → LooseValue → List Checked → Scanned → List ℕ
+room_if is_listed g all loose checked f =
+    if offers_room g all loose checked f then room_line is_listed f.extent (place_in g f) (room_in g f) else []
 
 -- the extent is among the listed ones, or it isn't, as wanted
 abbrev pub is_listed_as : Bool → List ℕ → ℕ → Bool
 is_listed_as true listed e = list_any (λ n. n == e) listed
 is_listed_as false listed e = not (list_any (λ n. n == e) listed)
 
--- the line of a scanned extent that is listed, or isn't, as wanted, if it has room, or else nothing
-abbrev pub room_where : Bool → Geometry → List Checked → List ℕ → Scanned → List ℕ
-room_where is_listed g checked listed f = if is_listed_as is_listed listed f.extent then room_if is_listed g checked f else []
+-- the line of a scanned extent that is listed, or isn't, as wanted, if it has room that is offered, or else nothing
+abbrev pub room_where : Bool → Geometry → List Scanned → LooseValue → List Checked → List ℕ → Scanned → List ℕ
+room_where is_listed g all loose checked listed f =
+    if is_listed_as is_listed listed f.extent then room_if is_listed g all loose checked f else []
 
--- the lines of the scanned extents with room that are listed, or aren't, as wanted, ascending
-abbrev pub rooms_where : Bool → Geometry → List Scanned → List Checked → List ℕ → List ℕ
-rooms_where is_listed g all checked listed = flat_map (room_where is_listed g checked listed) all
+-- the lines of the scanned extents with such room that are listed, or aren't, as wanted, ascending
+abbrev pub rooms_where : Bool → Geometry → List Scanned → LooseValue → List Checked → List ℕ → List ℕ
+rooms_where is_listed g all loose checked listed = flat_map (room_where is_listed g all loose checked listed) all
 
--- the lines of the extents with room that aren't listed, and then those of the listed ones
-abbrev pub room_lines : Geometry → List Scanned → List Checked → List CandidateValue → List ℕ
-room_lines g all checked candidates =
-    rooms_where false g all checked (map (λ a. a.extent) candidates) ++ rooms_where true g all checked (map (λ a. a.extent) candidates)
+-- the lines of the extents with such room that aren't listed, and then those of the listed ones
+abbrev pub room_lines : Geometry → List Scanned → LooseValue → List Checked → List CandidateValue → List ℕ
+room_lines g all loose checked candidates =
+    rooms_where false g all loose checked (map (λ a. a.extent) candidates) ++ rooms_where true g all loose checked (map (λ a. a.extent) candidates)
 
 -- ---- what is there
 

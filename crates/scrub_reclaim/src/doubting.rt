@@ -3,20 +3,21 @@
 ghost use Rattle.std.specs.Prelude.{◌≡◌, ◌++◌, IfOk, OnOk};
 ghost use Rattle.std.specs.List.{filter_map, flat_map};
 ghost use Rattle.scrub_scan.specs.Scanned.{scanned};
+ghost use Rattle.scrub_loose.specs.Loose.{LooseValue};
 ghost use Rattle.scrub_found.specs.Judged.{run_states};
 ghost use Rattle.scrub_reclaim.specs.Doubts.{choice_doubts, ends_past, lost_past, page_doubts};
 ghost use Rattle.scrub_reclaim.specs.Doubts.{last_doubt, last_doubts, range_doubts, run_doubts, run_lost};
 ghost use Rattle.scrub_reclaim.specs.Doubts.{superblock_damaged, superblock_lost, superblock_stray};
 ghost use Rattle.scrub_reclaim.specs.Doubts.{tail_doubts, tail_lost_doubts};
-ghost use Rattle.scrub_reclaim.specs.steps.Gathered.{AreLists, doubts_of};
+ghost use Rattle.scrub_reclaim.specs.steps.Gathered.{AreKeptOf, AreLists, doubts_of};
 ghost use Rattle.scrub_reclaim.specs.steps.PageDoubts.{page_doubt};
 
 use crate::doubts::Doubt;
 use crate::gathered::Gathered;
+use crate::loose_doubts::{add_crowded, add_loose};
 use crate::page_ranges::{PageRange, join_pages};
-use crate::remains::add_remains;
 use crate::spare_doubts::add_spares;
-use scrub_check::{RunState, Spares};
+use scrub_check::RunState;
 use scrub_disk::{OutOfMemory, PageSource};
 use scrub_found::RunRow;
 use scrub_listings::summary::counts_as;
@@ -270,15 +271,16 @@ pub(crate) fn doubts_of<D: PageSource>(
     gathered: &Gathered<'_, D>,
 ) -> Result<Vec<Doubt>, OutOfMemory>
     requires { AreLists gathered.now }
-    ensures { IfOk result (λ v. v.items ≡ doubts_of last pages.now gathered.now) }
+    ensures { (loose : LooseValue) → AreKeptOf loose gathered.now →
+        IfOk result (λ v. v.items ≡ doubts_of last pages.now loose gathered.now) }
 {
     let judged = &gathered.judged;
     let (chosen, all) = (&judged.scan.chosen, &judged.scan.all);
     let page = judged.scan.plan.geometry().page();
     let mut doubts = record_doubts(alloc, last, pages, chosen, &judged.runs)?;
-    let spares = Spares::of(alloc, all, &judged.checked)?;
-    add_spares(alloc, &mut doubts, &spares, gathered)?;
-    add_remains(&mut doubts, &spares, gathered)?;
+    add_spares(alloc, &mut doubts, gathered)?;
+    add_loose(alloc, &mut doubts, gathered)?;
+    add_crowded(&mut doubts, &gathered.listed, gathered.copies.crowded())?;
     add_tails(&mut doubts, all)?;
     add_lost_tails(alloc, &mut doubts, page, all)?;
     Ok(doubts)

@@ -6,7 +6,7 @@ ghost use Rattle.std.specs.Prelude.{if◌then◌else◌};
 ghost use Rattle.std.specs.List.{list_any};
 ghost use Rattle.std.specs.Str.{bytes_eq};
 ghost use Rattle.scrub_scan.specs.Line.{spaced};
-ghost use Rattle.scrub_reclaim.specs.declared.doubts.Doubt.TheVariants.{Last, Spare};
+ghost use Rattle.scrub_reclaim.specs.declared.doubts.Doubt.TheVariants.{Last, Loose, Spare};
 ghost use Rattle.scrub_reclaim.specs.Doubts.{accepted_on, are_accepted, doubt_text, generation_text};
 ghost use Rattle.scrub_reclaim.specs.Doubts.{is_accepted, is_last, is_named, is_settled_by_last};
 ghost use Rattle.scrub_reclaim.specs.Doubts.{may_be_accepted};
@@ -23,7 +23,7 @@ use std::fmt::Write;
 use std::marker::Model;
 use uuid::Uuid;
 
-/// What may have hidden something that a disk holds, or what a reset would take the last spare of.
+/// What may have hidden something that a disk holds, or what a reset would take the last copy of.
 #[derive(Clone, Copy)]
 pub enum Doubt {
     /// No superblock counts.
@@ -65,12 +65,20 @@ pub enum Doubt {
         owner: Owner,
         bytes: u64,
     },
-    /// The chunks of so many named locators aren't found, and one may begin in an extent that may be
-    /// reclaimed: that one's first torn or noise item is at this offset.
-    Remains {
+    /// The loose copies of this owner's locator, the first of which is this frame of so many bytes, are in
+    /// extents that may be reclaimed.
+    Loose {
         extent: u32,
         offset: u32,
-        count: usize,
+        length: u32,
+        uuid: Uuid,
+        owner: Owner,
+        bytes: u64,
+    },
+    /// A payload is gone, and in this extent, which may be reclaimed, no copy of it was looked for: the
+    /// extent is crowded.
+    Crowded {
+        extent: u32,
     },
     /// An extent has this many nonzero bytes at or past its write pointer, the first of them at this
     /// offset.
@@ -101,6 +109,21 @@ fn append_spare_text(
 {
     let owner = owner_text(alloc, owner)?;
     write!(text, "spare {place} {owner} {bytes}")
+}
+
+/// Appends the text of the doubt that a loose copy at this place makes, whose frame takes so many bytes.
+fn append_loose_text(
+    alloc: Global,
+    text: &mut String,
+    place: &PlaceText,
+    owner: Owner,
+    bytes: u64,
+) -> Result<(), OutOfMemory>
+    ensures { OnOk result (string_bytes text.new ≡ string_bytes text.old ++
+        doubt_text (Loose place.now.extent place.now.offset place.now.length place.now.uuid owner bytes)) }
+{
+    let owner = owner_text(alloc, owner)?;
+    write!(text, "loose {place} {owner} {bytes}")
 }
 
 /// Appends the generation that counts, or `none`.
@@ -153,11 +176,23 @@ pub fn append_doubt_text(alloc: Global, text: &mut String, doubt: &Doubt) -> Res
             };
             append_spare_text(alloc, text, &place, owner, bytes)
         }
-        Doubt::Remains {
+        Doubt::Loose {
             extent,
             offset,
-            count,
-        } => write!(text, "remains {extent} {offset} {count}"),
+            length,
+            uuid,
+            owner,
+            bytes,
+        } => {
+            let place = PlaceText {
+                extent,
+                offset,
+                length,
+                uuid,
+            };
+            append_loose_text(alloc, text, &place, owner, bytes)
+        }
+        Doubt::Crowded { extent } => write!(text, "crowded {extent}"),
         Doubt::Tail {
             extent,
             offset,
@@ -271,7 +306,11 @@ fn is_settled_by_last(doubt: &Doubt) -> bool
 fn may_be_accepted(doubt: &Doubt) -> bool
     ensures { result ≡ may_be_accepted doubt.now }
 {
-    is_settled_by_last(doubt) || matches!(doubt, Doubt::Spare { .. } | Doubt::Remains { .. })
+    is_settled_by_last(doubt)
+        || matches!(
+            doubt,
+            Doubt::Spare { .. } | Doubt::Loose { .. } | Doubt::Crowded { .. }
+        )
 }
 
 /// Whether a text is among lines.

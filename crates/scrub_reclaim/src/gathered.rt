@@ -1,5 +1,5 @@
-//! What the lines are made of: the judged locators of a disk, what they say of places and extents, and the
-//! candidates. Each is made once, here.
+//! What the lines are made of: the judged locators of a disk, what they say of places and extents, the
+//! candidates, and the copies of what is lost. Each is made once, here.
 
 ghost use Rattle.std.specs.Prelude.{◌≡◌, IfOk, map};
 ghost use Rattle.std.specs.List.Sorted.{IsPermutation};
@@ -9,6 +9,7 @@ ghost use Rattle.scrub_reclaim.specs.steps.Gathered.{IsGatheredOn};
 use scrub_check::{Candidate, ExtentSet, LocatorIndex, candidates_by};
 use scrub_disk::{OutOfMemory, PageSource};
 use scrub_found::{Judged, Scan, judged_of};
+use scrub_loose::Copies;
 use std::alloc::Global;
 use std::thread::Threads;
 
@@ -23,6 +24,8 @@ pub(crate) struct Gathered<'d, D: PageSource> {
     pub candidates: Vec<Candidate>,
     /// The same extents by number.
     pub listed: ExtentSet,
+    /// The spares and the loose copies of these locators, and the crowded extents.
+    pub copies: Copies,
 }
 
 /// The numbers of the extents of candidates, in their order.
@@ -49,15 +52,18 @@ pub(crate) fn gathered_of<'d, R: Threads + Sync, D: PageSource>(
     requires { IsScan (D.image scan.disk.now) scan }
     ensures { IfOk result (IsGatheredOn (D.image scan.entry.disk.now)) }
 {
+    let disk = scan.disk;
     let judged = judged_of(rt, alloc, scan)?;
     let locators = LocatorIndex::by_threads(rt, alloc, &judged.checked)?;
     let (plan, all) = (&judged.scan.plan, &judged.scan.all);
     let candidates = candidates_by(alloc, plan, all, &locators, judged.in_doubt)?;
     let listed = extents_of(alloc, &candidates)?;
+    let copies = Copies::of(rt, alloc, disk, plan, all, &[], &judged.checked)?;
     Ok(Gathered {
         judged,
         locators,
         candidates,
         listed,
+        copies,
     })
 }

@@ -3,14 +3,15 @@
 #![tactic(auto)]
 
 mod acting;
+mod closed;
 mod copying;
 pub mod doubting;
 pub mod doubts;
 mod gathered;
+mod loose_doubts;
 mod moves;
 mod page_ranges;
 pub mod reclaiming;
-mod remains;
 mod resetting;
 pub mod room;
 mod sound_disks;
@@ -22,7 +23,7 @@ pub use doubts::Acceptance;
 pub use page_ranges::neighbouring_pages_are_joined;
 pub use reclaiming::{
     a_line_shows_room, a_reset_loses_nothing, each_image_has_a_reclaim_listing, list_reclaimable,
-    listed_by_last, no_remains_are_taken, no_spare_is_taken, one_reclaim_listing,
+    listed_by_last, no_loose_copy_is_taken, no_spare_is_taken, one_reclaim_listing,
     reclaimed_are_candidates, reclaiming_is_safe,
 };
 pub use resetting::a_reset_is_foreseen;

@@ -11,23 +11,27 @@ ghost use Rattle.scrub_super.specs.declared.pages.SuperblockPage.{SuperblockPage
 ghost use Rattle.scrub_super.specs.Pages.{AreSuperblockPages};
 ghost use Rattle.scrub_scan.specs.Scanned.{Scanned};
 ghost use Rattle.scrub_check.specs.declared.statuses.checked.Checked.{Checked};
+ghost use Rattle.scrub_loose.specs.Loose.{LooseValue};
 ghost use Rattle.scrub_found.specs.Judged.{IsScan};
 ghost use Rattle.scrub_found.specs.Scrubbed.{Scrubbed, IsScrubbed};
 ghost use Rattle.scrub_found.specs.Takings.{AreTakingsBy};
 ghost use Rattle.scrub_report.specs.Answer.{AnswerValue, IsScrubAnswer};
 ghost use Rattle.scrub_report.specs.Report.{IsReport};
 ghost use Rattle.scrub_listings.specs.Manifest.{IsManifest, IsManifestBut};
+ghost use Rattle.scrub_reclaim.specs.Copy.{IsSameButRisen};
 ghost use Rattle.scrub_reclaim.specs.Doubts.{Acceptance};
-ghost use Rattle.scrub_reclaim.specs.steps.Gathered.{AreLists, lines_if};
+ghost use Rattle.scrub_reclaim.specs.steps.Gathered.{AreKeptOf, AreLists, lines_if};
 ghost use Rattle.scrub_reclaim.specs.steps.Moves.{AreRisingPlaces, PointAlike, kept_lines, move_text};
-ghost use Rattle.scrub_reclaim.specs.Reclaimable.{AcceptsNoSpare, KeepsSpares, AreMoved, AreOfCandidates};
+ghost use Rattle.scrub_reclaim.specs.Reclaimable.{AcceptsNoCrowded, AcceptsNoLoose, AcceptsNoSpare};
+ghost use Rattle.scrub_reclaim.specs.Reclaimable.{AreMoved, AreOfCandidates};
+ghost use Rattle.scrub_reclaim.specs.Reclaimable.{KeepsCrowded, KeepsLoose, KeepsSpares};
 ghost use Rattle.scrub_reclaim.specs.Reclaimable.{AreReclaimLines, IsListedByLast};
 ghost use Rattle.scrub_reclaim.specs.Reclaimable.{all_candidate_lines, candidate_lines, is_clear};
 ghost use Rattle.scrub_reclaim.specs.Reclaimable.{reclaim_line, reclaimed};
-ghost use Rattle.scrub_reclaim.specs.Remains.{AcceptsNoRemains, KeepsRemains};
-ghost use Rattle.scrub_reclaim.specs.Reset.{AreListedWithoutSpares, IsReclaimed, NameTheSame};
+ghost use Rattle.scrub_reclaim.specs.Reset.{AreListedKeepingCopies, IsAfterReset, IsReclaimed, NameTheSame};
 ghost use Rattle.scrub_reclaim.specs.Room.{IsRoom, place_in, room_if, room_in, room_line};
 
+use crate::closed::closed_extents;
 use crate::doubting::doubts_of;
 use crate::doubts::{Acceptance, doubt_lines};
 use crate::gathered::{Gathered, gathered_of};
@@ -148,7 +152,8 @@ fn append_reclaimed<D: PageSource>(
     gathered: &Gathered<'_, D>,
 ) -> Result<(), OutOfMemory>
     requires { AreLists gathered.now }
-    ensures { OnOk result (string_bytes text.new ≡ string_bytes text.old ++ lines_if is_clear gathered.now) }
+    ensures { (loose : LooseValue) → AreKeptOf loose gathered.now →
+        OnOk result (string_bytes text.new ≡ string_bytes text.old ++ lines_if is_clear loose gathered.now) }
 {
     if !is_clear {
         return Ok(());
@@ -160,7 +165,8 @@ fn append_reclaimed<D: PageSource>(
     append_candidates(alloc, text, &judged.checked, listed, &gathered.candidates)?;
     let geometry = judged.scan.plan.geometry();
     let barred = gathered.locators.barred();
-    append_rooms(text, geometry, &judged.scan.all, barred, listed)
+    let closed = closed_extents(alloc, &gathered.copies)?;
+    append_rooms(text, geometry, &judged.scan.all, barred, &closed, listed)
 }
 
 /// What can be reclaimed of a scanned disk, whose extent 0 has these pages.
@@ -196,7 +202,8 @@ fn listing_of<R: Threads + Sync, D: PageSource>(
 /// locator into it, by the chunk that it points to, whose payload takes LENGTH and whose frame takes BYTES.
 /// If there is a candidate, then comes `room EXTENT OFFSET BYTES` for each other extent that a chunk can be
 /// put into, with the place for it and the bytes from there to the end of the extent, and `last-room EXTENT
-/// OFFSET BYTES` for each such candidate. Free, offset, length and bytes are in bytes.
+/// OFFSET BYTES` for each such candidate; but none for an extent with a loose copy of a named locator, nor,
+/// while a payload is gone, for a crowded one. Free, offset, length and bytes are in bytes.
 ///
 /// It scans as `scrub` does, with this many workers (0 to 64) beside the caller. The only fault is
 /// `OutOfMemory`, returned once every started worker has ended.
@@ -237,50 +244,60 @@ pub fn reclaimed_are_candidates()
 /// A law: no move is forgotten. Each named locator into an extent to reclaim is sound, points to a chunk to
 /// keep, and is among the moves, with the bytes of the chunk's frame. Each move has a line.
 pub fn reclaiming_is_safe()
-    ensures { (image : Image) (accepted : Acceptance) (pages : List SuperblockPage) (found : Scrubbed) →
-        IsScrubbed image found →
-        AreMoved found.checked (reclaimed accepted pages found) }
+    ensures { (image : Image) (accepted : Acceptance) (pages : List SuperblockPage) (loose : LooseValue)
+        (found : Scrubbed) → IsScrubbed image found →
+        AreMoved found.checked (reclaimed accepted pages loose found) }
 {}
 
 /// A law: where no line begins with `accepted spare`, each named locator that has a spare has one that is
 /// live or in an extent that isn't to be reclaimed. So no reset takes the last spare of a named locator. A
 /// copy that is no item of a tiling is no spare.
 pub fn no_spare_is_taken()
-    ensures { (accepted : Acceptance) (pages : List SuperblockPage) (found : Scrubbed) →
-        AcceptsNoSpare accepted pages found → KeepsSpares found (reclaimed accepted pages found) }
+    ensures { (accepted : Acceptance) (pages : List SuperblockPage) (loose : LooseValue) (found : Scrubbed) →
+        AcceptsNoSpare accepted pages loose found →
+        KeepsSpares found (reclaimed accepted pages loose found) }
+{}
+
+/// A law: where no line begins with `accepted loose`, each named locator that has a loose copy has one in an
+/// extent that isn't to be reclaimed, and that has no line `room` or `last-room`. Where no line begins with
+/// `accepted crowded` and a payload is gone, no crowded extent is to be reclaimed, and none has such a line.
+/// With `no_spare_is_taken`: no reset takes the last whole copy of a lost payload, and none is written over.
+pub fn no_loose_copy_is_taken()
+    ensures loose { (accepted : Acceptance) (pages : List SuperblockPage) (loose : LooseValue)
+        (found : Scrubbed) → AcceptsNoLoose accepted pages loose found →
+        KeepsLoose loose found (reclaimed accepted pages loose found) }
+    ensures crowded { (accepted : Acceptance) (pages : List SuperblockPage) (loose : LooseValue)
+        (found : Scrubbed) → AcceptsNoCrowded accepted pages loose found →
+        KeepsCrowded loose found (reclaimed accepted pages loose found) }
 {}
 
 /// A law: where the generation of the last superblock is given, and an extent is to be reclaimed, the
 /// superblock that counts has that generation. Each doubt is accepted by a line of its own, or is of a kind
 /// that the last superblock settles: a damaged or stray page of extent 0, or a tail, readable or not.
 pub fn listed_by_last()
-    ensures { (accepted : Acceptance) (last : ℕ) (pages : List SuperblockPage) (found : Scrubbed) →
-        accepted.last ≡ Some last → reclaimed accepted pages found ≢ [] →
-        IsListedByLast last accepted pages found }
-{}
-
-/// A law: where no line begins with `doubt` or `accepted remains`, a copy of a chunk that isn't found begins
-/// in an extent to reclaim only inside a chunk, after its start. A copy is a whole frame that ends at or
-/// before the write pointer. So no reset takes such a copy that lies between the chunks.
-pub fn no_remains_are_taken()
-    ensures { (image : Image) (accepted : Acceptance) (pages : List SuperblockPage) (found : Scrubbed) →
-        IsScrubbed image found → is_clear accepted pages found ≡ true →
-        AcceptsNoRemains accepted pages found → KeepsRemains image accepted pages found }
+    ensures { (accepted : Acceptance) (last : ℕ) (pages : List SuperblockPage) (loose : LooseValue)
+        (found : Scrubbed) → accepted.last ≡ Some last → reclaimed accepted pages loose found ≢ [] →
+        IsListedByLast last accepted pages loose found }
 {}
 
 /// A law: a reset loses nothing that is named. Let extents be listed without a `move` line, and be reset.
 /// Then the same index runs are read, with the same bindings, and each named locator has the same status as
 /// before and, if that is sound, a chunk of the same form, whatever these extents hold now. So the image has
-/// the same index as before. If no line begins with `accepted spare` either, the image has the same manifest
-/// with these resets as without them, and the same exit status.
+/// the same index as before. If no line begins with `accepted spare` or `accepted loose` either, the image
+/// has the same manifest with these resets as without them, and the same exit status; and after the reset,
+/// whatever these extents hold then, the manifest is the same, but that the last words of lines may have
+/// risen: from `none` to `loose` or `spare`, or from `loose` to `spare`.
 pub fn a_reset_loses_nothing()
     ensures named { (accepted : Acceptance) (extents : List ℕ) (before after : Image)
         (found rest : Scrubbed) →
         IsReclaimed accepted extents before after → IsScrubbed before found → IsScrubbed after rest →
         NameTheSame found rest }
-    ensures spares { (accepted : Acceptance) (extents : List ℕ) (image : Image) (a b : List ℕ) (v w : Bool) →
-        AreListedWithoutSpares accepted extents image → IsManifestBut extents image a v →
+    ensures copies { (accepted : Acceptance) (extents : List ℕ) (image : Image) (a b : List ℕ) (v w : Bool) →
+        AreListedKeepingCopies accepted extents image → IsManifestBut extents image a v →
         IsManifest image b w → (a ≡ b) × (v ≡ w) }
+    ensures manifest { (accepted : Acceptance) (extents : List ℕ) (before after : Image) (a b : List ℕ)
+        (v w : Bool) → AreListedKeepingCopies accepted extents before → IsAfterReset extents before after →
+        IsManifest before a v → IsManifest after b w → IsSameButRisen a b × (v ≡ w) }
     ensures index { (accepted : Acceptance) (extents : List ℕ) (before after : Image) (a b : AnswerValue) →
         IsReclaimed accepted extents before after → IsScrubAnswer before a → IsScrubAnswer after b →
         a.index ≡ b.index }
@@ -291,11 +308,13 @@ pub fn a_reset_loses_nothing()
 /// pointer, if that is at a page boundary or directly after a chunk, or else the next page boundary. From the
 /// pointer to the place no byte that can be read is other than zero, and 38 bytes or more fit from there on.
 pub fn a_line_shows_room()
-    ensures line { (is_listed : Bool) (geometry : Geometry) (checked : List Checked) (f : Scanned) →
-        room_if is_listed geometry checked f ≢ [] → room_if is_listed geometry checked f ≡
+    ensures line { (is_listed : Bool) (geometry : Geometry) (all : List Scanned) (loose : LooseValue)
+        (checked : List Checked) (f : Scanned) → room_if is_listed geometry all loose checked f ≢ [] →
+        room_if is_listed geometry all loose checked f ≡
         room_line is_listed f.extent (place_in geometry f) (room_in geometry f) }
-    ensures room { (image : Image) (found : Scrubbed) (is_listed : Bool) → IsScrubbed image found →
-        All (λ f. room_if is_listed found.plan.geometry found.checked f ≢ [] →
+    ensures room { (image : Image) (found : Scrubbed) (loose : LooseValue) (is_listed : Bool) →
+        IsScrubbed image found →
+        All (λ f. room_if is_listed found.plan.geometry found.all loose found.checked f ≢ [] →
         IsRoom image f.extent f.pointer (place_in found.plan.geometry f)) found.all }
 {}
 

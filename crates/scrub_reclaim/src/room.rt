@@ -3,13 +3,14 @@
 
 ghost use Rattle.std.specs.Prelude.{◌≡◌, ◌<◌, ◌++◌, List, OnOk, map, string_bytes};
 ghost use Rattle.std.specs.List.Sorted.{IsPermutation};
-ghost use Rattle.scrub_scan.specs.Scanned.{scanned};
+ghost use Rattle.scrub_scan.specs.Scanned.{Scanned, scanned};
 ghost use Rattle.scrub_check.specs.declared.statuses.checked.Checked.{Checked};
 ghost use Rattle.scrub_check.specs.Candidates.{CandidateValue};
-ghost use Rattle.scrub_check.specs.steps.LocatorIndex.{AreBarredExtents};
+ghost use Rattle.scrub_loose.specs.Loose.{LooseValue};
 ghost use Rattle.scrub_reclaim.specs.Room.{ends_in_chunk, is_listed_as, is_zero_to, next_place, room_if};
 ghost use Rattle.scrub_reclaim.specs.Room.{room_line, room_lines, room_where, rooms_where};
-ghost use Rattle.scrub_reclaim.specs.steps.Room.{may_grow_by, room_text};
+ghost use Rattle.scrub_reclaim.specs.steps.KeptCopies.{AreShut};
+ghost use Rattle.scrub_reclaim.specs.steps.Room.{may_grow_by, may_take_by, room_text};
 
 use scrub_check::{ExtentSet, is_chunk};
 use scrub_disk::{Geometry, OutOfMemory, PageSource};
@@ -23,6 +24,17 @@ pub fn may_grow<D: PageSource>(barred: &ExtentSet, found: &ExtentResult<'_, D>) 
     ensures { result ≡ may_grow_by barred.now (scanned found.now) }
 {
     is_clean_extent(found) && !barred.has(found.extent())
+}
+
+/// Whether a chunk can be put into an extent that isn't among the closed ones either.
+fn may_take<D: PageSource>(
+    barred: &ExtentSet,
+    closed: &ExtentSet,
+    found: &ExtentResult<'_, D>,
+) -> bool
+    ensures { result ≡ may_take_by barred.now closed.now (scanned found.now) }
+{
+    !closed.has(found.extent()) && may_grow(barred, found)
 }
 
 /// Whether the last of some items is a chunk.
@@ -91,19 +103,21 @@ fn append_room<D: PageSource>(
     append_line(text, is_listed, found.extent(), place, bytes)
 }
 
-/// Appends the line of an extent, if it has room.
+/// Appends the line of an extent, if it has room that is offered.
 fn append_room_if<D: PageSource>(
     text: &mut String,
     is_listed: bool,
     geometry: Geometry,
     barred: &ExtentSet,
+    closed: &ExtentSet,
     found: &ExtentResult<'_, D>,
 ) -> Result<(), OutOfMemory>
-    ensures { (checked : List Checked) → AreBarredExtents checked barred.now →
+    ensures { (extents : List Scanned) (loose : LooseValue) (checked : List Checked) →
+        AreShut extents loose checked barred.now closed.now →
         OnOk result (string_bytes text.new ≡ string_bytes text.old ++
-        room_if is_listed geometry checked (scanned found.now)) }
+        room_if is_listed geometry extents loose checked (scanned found.now)) }
 {
-    if !may_grow(barred, found) {
+    if !may_take(barred, closed, found) {
         return Ok(());
     }
     append_room(text, is_listed, geometry, found)
@@ -116,58 +130,64 @@ fn is_listed_as(is_listed: bool, listed: &ExtentSet, extent: u32) -> bool
     listed.has(extent) == is_listed
 }
 
-/// Appends the line of an extent that is listed, or isn't, as wanted, if it has room.
+/// Appends the line of an extent that is listed, or isn't, as wanted, if it has room that is offered.
 fn append_room_where<D: PageSource>(
     text: &mut String,
     is_listed: bool,
     geometry: Geometry,
     barred: &ExtentSet,
+    closed: &ExtentSet,
     listed: &ExtentSet,
     found: &ExtentResult<'_, D>,
 ) -> Result<(), OutOfMemory>
-    ensures { (checked : List Checked) → AreBarredExtents checked barred.now →
+    ensures { (extents : List Scanned) (loose : LooseValue) (checked : List Checked) →
+        AreShut extents loose checked barred.now closed.now →
         OnOk result (string_bytes text.new ≡ string_bytes text.old ++
-        room_where is_listed geometry checked listed.now (scanned found.now)) }
+        room_where is_listed geometry extents loose checked listed.now (scanned found.now)) }
 {
     if !is_listed_as(is_listed, listed, found.extent()) {
         return Ok(());
     }
-    append_room_if(text, is_listed, geometry, barred, found)
+    append_room_if(text, is_listed, geometry, barred, closed, found)
 }
 
-/// Appends the lines of the extents with room that are listed, or aren't, as wanted, ascending.
+/// Appends the lines of the extents with such room that are listed, or aren't, as wanted, ascending.
 fn append_rooms_where<D: PageSource>(
     text: &mut String,
     is_listed: bool,
     geometry: Geometry,
     barred: &ExtentSet,
+    closed: &ExtentSet,
     listed: &ExtentSet,
     all: &AllFindings<'_, D>,
 ) -> Result<(), OutOfMemory>
-    ensures { (checked : List Checked) → AreBarredExtents checked barred.now →
+    ensures { (loose : LooseValue) (checked : List Checked) →
+        AreShut all.now.extents loose checked barred.now closed.now →
         OnOk result (string_bytes text.new ≡ string_bytes text.old ++
-        rooms_where is_listed geometry all.now.extents checked listed.now) }
+        rooms_where is_listed geometry all.now.extents loose checked listed.now) }
 {
     for found in all.results() {
-        append_room_where(text, is_listed, geometry, barred, listed, found)?;
+        append_room_where(text, is_listed, geometry, barred, closed, listed, found)?;
     }
     Ok(())
 }
 
-/// Appends the lines of the extents with room that aren't candidates, and then those of the candidates, whose
-/// extents are listed.
+/// Appends the lines of the extents with such room that aren't candidates, and then those of the candidates,
+/// whose extents are listed.
 pub(crate) fn append_rooms<D: PageSource>(
     text: &mut String,
     geometry: Geometry,
     all: &AllFindings<'_, D>,
     barred: &ExtentSet,
+    closed: &ExtentSet,
     listed: &ExtentSet,
 ) -> Result<(), OutOfMemory>
-    ensures { (checked : List Checked) (candidates : List CandidateValue) →
-        AreBarredExtents checked barred.now → IsPermutation (map (λ a. a.extent) candidates) listed.now →
+    ensures { (loose : LooseValue) (checked : List Checked) (candidates : List CandidateValue) →
+        AreShut all.now.extents loose checked barred.now closed.now →
+        IsPermutation (map (λ a. a.extent) candidates) listed.now →
         OnOk result (string_bytes text.new ≡
-        string_bytes text.old ++ room_lines geometry all.now.extents checked candidates) }
+        string_bytes text.old ++ room_lines geometry all.now.extents loose checked candidates) }
 {
-    append_rooms_where(text, false, geometry, barred, listed, all)?;
-    append_rooms_where(text, true, geometry, barred, listed, all)
+    append_rooms_where(text, false, geometry, barred, closed, listed, all)?;
+    append_rooms_where(text, true, geometry, barred, closed, listed, all)
 }

@@ -4,6 +4,7 @@ ghost use Rattle.std.specs.Prelude.{◌≡◌, ◌<◌, ℕ, Bool, true, List, O
 ghost use Rattle.scrub_disk.specs.Image.{Image};
 ghost use Rattle.scrub_super.specs.declared.pages.SuperblockPage.{SuperblockPage};
 ghost use Rattle.scrub_super.specs.Pages.{AreHeldBytes, AreSuperblockPages};
+ghost use Rattle.scrub_loose.specs.Loose.{LooseValue};
 ghost use Rattle.scrub_found.specs.Scrubbed.{IsScrubbed, Scrubbed};
 ghost use Rattle.scrub_report.specs.Answer.{AnswerValue, IsScrubAnswer};
 ghost use Rattle.scrub_listings.specs.Manifest.{IsManifest};
@@ -18,10 +19,9 @@ ghost use Rattle.scrub_reclaim.specs.AllRight.{IsAllRight};
 /// generation of the last superblock, no doubt is left where that is given, so that `reclaimable` ends with
 /// status 0.
 pub fn a_sound_disk_is_all_right()
-    ensures found { (last : Option ℕ) (image : Image) (pages : List SuperblockPage) (found : Scrubbed) →
-        IsScrubbed image found →
-        AreSuperblockPages image pages → is_sound_verdict (verdict last found pages) ≡ true →
-        IsAllRight last pages found }
+    ensures found { (last : Option ℕ) (image : Image) (pages : List SuperblockPage) (loose : LooseValue)
+        (found : Scrubbed) → IsScrubbed image found → AreSuperblockPages image pages →
+        is_sound_verdict (verdict last found pages) ≡ true → IsAllRight last pages loose found }
     ensures clean { (last : Option ℕ) (image : Image) (summary : List ℕ) → IsSummary last image summary true →
         (answer : AnswerValue) → IsScrubAnswer image answer → answer.is_clean ≡ true }
     ensures whole { (last : Option ℕ) (image : Image) (summary : List ℕ) → IsSummary last image summary true →

@@ -68,7 +68,7 @@ fn staying(
 }
 
 /// How many bytes a frame takes.
-fn frame_bytes(spare: &Standing) -> u64
+pub(crate) fn frame_bytes(spare: &Standing) -> u64
     ensures { result ≡ frame_bytes spare.now }
 {
     spare.length as u64 + spare.form.overhead() as u64
@@ -123,19 +123,19 @@ fn add_all(
     Ok(())
 }
 
-/// Adds the doubts that these spares of the judged locators make if the candidates are reset. Each spare is
+/// Adds the doubts that the spares of the judged locators make if the candidates are reset. Each spare is
 /// looked at once.
 pub(crate) fn add_spares<D: PageSource>(
     alloc: Global,
     doubts: &mut Vec<Doubt>,
-    spares: &Spares,
     gathered: &Gathered<'_, D>,
 ) -> Result<(), OutOfMemory>
     requires { AreLists gathered.now }
-    ensures { (all : List Scanned) → AreSpares all gathered.now.judged.checked.items spares.now →
+    ensures { (all : List Scanned) → AreSpares all gathered.now.judged.checked.items gathered.now.copies.spares →
         OnOk result (doubts.new.items ≡ doubts.old.items ++
         spare_doubts all gathered.now.judged.checked.items gathered.now.candidates.items) }
 {
+    let spares = gathered.copies.all_spares();
     let safe = staying(alloc, &gathered.locators, &gathered.listed, spares.all())?;
     let stay = Spares::among(safe)?;
     add_all(doubts, spares, &stay, &gathered.judged.checked)

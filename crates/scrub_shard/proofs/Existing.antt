@@ -1,9 +1,10 @@
 -- There is an answer for each shard of an image, and so there is an archive of all of them.
-use Rattle.std.proofs.Common.{◌≡◌, ◌⊎◌, ◌<◌, ◌++◌, ◌∷◌, [], ℕ, suc, Bool, true, false, List, MatchBool, Option, Some, None, Contains, length, map, refl, arith, ap, inl, inr}
+use Rattle.std.proofs.Common.{◌≡◌, ◌⊎◌, ◌<◌, ◌∷◌, [], ℕ, suc, Bool, true, false, List, MatchBool, Option, Some, None, Contains, length, map, refl, arith, ap, inl, inr}
 use Rattle.std.specs.List.{All, AllZip, flat_map, position}
 use Rattle.std.proofs.lemmas.List.Elements.{All-cons, All-head, All-nil}
 use Rattle.list_facts.proofs.Decisions.{some_element}
 use Rattle.scrub_disk.specs.Image.{Image}
+use Rattle.scrub_super.proofs.PlansFit.{plan_fits}
 use Rattle.scrub_scan.specs.declared.standing.Standing.{Standing}
 use Rattle.scrub_scan.specs.Standing.{Stands}
 use Rattle.scrub_run.specs.declared.shard_id.ShardId.{ShardId}
@@ -13,25 +14,29 @@ use Rattle.scrub_check.specs.declared.statuses.checked.Checked.{Checked}
 use Rattle.scrub_check.specs.Checked.{is_dangling}
 use Rattle.scrub_check.specs.ChunkRun.{HasPayloadThere, StandsThere}
 use Rattle.scrub_check.specs.Named.{named_by_shard}
-use Rattle.scrub_check.specs.Spares.{frames, spares_by}
+use Rattle.scrub_check.specs.Spares.{frames}
 use Rattle.scrub_check.specs.WholeScan.{IsWholeScan}
 use Rattle.scrub_check.proofs.StatusThere.{some_checked}
+use Rattle.scrub_loose.specs.Copies.{CopiesValue, copies_by}
+use Rattle.scrub_loose.specs.Loose.{AreLoose, LooseValue}
+use Rattle.scrub_loose.proofs.LooseThere.{some_loose}
 use Rattle.scrub_found.specs.Scrubbed.{IsScrubbed, Scrubbed}
 use Rattle.scrub_found.proofs.Existing.{some_scrub}
 use Rattle.scrub_found.proofs.ResetPlans.{whole_but}
-use Rattle.scrub_shard.specs.Archive.{Answered, IsArchive, archive_of, archive_members, run_remarks, shard_remarks, superblock_remarks}
+use Rattle.scrub_listings.proofs.Existing.{some_remarks}
+use Rattle.scrub_shard.specs.Archive.{Answered, IsArchive, all_remarks, archive_of, archive_members}
 use Rattle.scrub_shard.specs.Shard.{HasFirstPayload, IsAnswerIn, IsEntryAnswer, IsMapped, IsShardAnswer, Mapped, asks_for_nothing}
 use Rattle.scrub_shard.specs.steps.Payloads.{AreReadable, HasPayloadUnlessLost, HasPayloadLeft, IsAnswerWith, IsPayloadBy, is_lost_by}
 use Rattle.scrub_shard.specs.declared.archiving.Remark.{Remark}
 use Rattle.scrub_shard.specs.declared.shard.ShardAnswer.{ShardAnswer}
 use Rattle.scrub_shard.specs.declared.shard.ShardAnswer.TheVariants.{NoSuchShard, PayloadLost, Found}
 use Rattle.scrub_shard.proofs.Answered.{answer_of, answered_in}
-use Rattle.scrub_shard.proofs.Joined.{HasItsSpares}
-use Rattle.scrub_shard.proofs.Lost.{all_can_be_read, all_left}
+use Rattle.scrub_shard.proofs.Joined.{HasItsCopies}
+use Rattle.scrub_shard.proofs.Lost.{all_can_be_read, all_left, loose_frames_stand}
 
 -- ---- payloads
 
-payload_left : (image : Image) (found : List Standing) (c : Checked) → HasPayloadLeft image found c →
+payload_left : (image : Image) (found : CopiesValue) (c : Checked) → HasPayloadLeft image found c →
     (payload : List ℕ) × IsPayloadBy image found c payload
 payload_left image found c = asked (asks_for_nothing c.locator)
   where
@@ -39,20 +44,20 @@ payload_left image found c = asked (asks_for_nothing c.locator)
     first [] some stand = absurd (omega (arith, some))
     first (s ∷ ss) some stand = let there = All-head (Stands image) s ss stand in (there.payload, there.has)
 
-    by : (b : Bool) → MatchBool b (AreReadable image (spares_by found c)) (StandsThere image c.locator) →
-        (payload : List ℕ) × MatchBool b (HasFirstPayload image (spares_by found c) payload) (HasPayloadThere image c.locator payload)
-    by true h = first (spares_by found c) h.some h.stand
+    by : (b : Bool) → MatchBool b (AreReadable image (copies_by found c)) (StandsThere image c.locator) →
+        (payload : List ℕ) × MatchBool b (HasFirstPayload image (copies_by found c) payload) (HasPayloadThere image c.locator payload)
+    by true h = first (copies_by found c) h.some h.stand
     by false h = (h.stands.payload, record { form = h.form; has = h.stands.has })
 
     asked : (b : Bool) →
         MatchBool b (Unit {0})
-        (MatchBool (is_dangling c.status) (AreReadable image (spares_by found c)) (StandsThere image c.locator)) →
+        (MatchBool (is_dangling c.status) (AreReadable image (copies_by found c)) (StandsThere image c.locator)) →
         (payload : List ℕ) × MatchBool b (payload ≡ [])
-        (MatchBool (is_dangling c.status) (HasFirstPayload image (spares_by found c) payload) (HasPayloadThere image c.locator payload))
+        (MatchBool (is_dangling c.status) (HasFirstPayload image (copies_by found c) payload) (HasPayloadThere image c.locator payload))
     asked true h = ([], refl)
     asked false h = by (is_dangling c.status) h
 
-payloads_left : (image : Image) (found : List Standing) (own : List Checked) → All (HasPayloadLeft image found) own →
+payloads_left : (image : Image) (found : CopiesValue) (own : List Checked) → All (HasPayloadLeft image found) own →
     (payloads : List (List ℕ)) × AllZip (IsPayloadBy image found) own payloads
 payloads_left image found [] left = ([], tt)
 payloads_left image found (c ∷ cs) left =
@@ -61,7 +66,7 @@ payloads_left image found (c ∷ cs) left =
     (first.0 ∷ rest.0, (first.1, rest.1))
 
 -- the answer by locators that can be read unless they are lost
-some_answer_with : (image : Image) (found : List Standing) (doubtful : Bool) (own : List Checked) → All (HasPayloadUnlessLost image found) own →
+some_answer_with : (image : Image) (found : CopiesValue) (doubtful : Bool) (own : List Checked) → All (HasPayloadUnlessLost image found) own →
     (a : ShardAnswer) × IsAnswerWith image found doubtful own a
 some_answer_with image found doubtful own readable = by (position (is_lost_by found) own) refl
   where
@@ -87,14 +92,19 @@ module _ (image : Image) (s : Scrubbed) (is : IsScrubbed image s) where
   whole : IsWholeScan image s.plan s.all
   whole = whole_but [] s.choice s.plan image s.all is.choice is.plan is.all
 
+  loose : (v : LooseValue) × AreLoose [] image s.plan v
+  loose = some_loose [] image s.plan (plan_fits image s.choice s.plan is.choice is.plan)
+
   some_answer_of : (b : BindingValue) → (a : ShardAnswer) × IsEntryAnswer image s.plan s.all b a
   some_answer_of b =
       let own = some_checked image s.plan (named_by_shard b) in
-      let same : All (HasItsSpares s.all (frames s.all)) own.0 = λ k d here. refl in
+      let v = loose.0 in
+      let found : CopiesValue = record { spares = frames s.all; loose = v.frames; crowded = [] } in
+      let same : All (HasItsCopies s.all v.frames found) own.0 = λ k d here. refl in
       let answer =
-      some_answer_with image (frames s.all) b.doubtful own.0
-      (all_can_be_read image s.plan s.all (frames s.all) own.0 whole own.1.statuses same) in
-      (answer.0, answer_of image s.plan s.all (frames s.all) b own.0 answer.0 own.1 same answer.1)
+      some_answer_with image found b.doubtful own.0
+      (all_can_be_read image s.plan s.all v.frames found own.0 whole (loose_frames_stand image s.plan v loose.1) own.1.statuses same) in
+      (answer.0, answer_of image s.plan s.all v found b own.0 answer.0 loose.1 own.1 same answer.1)
 
   some_answer_in : (id : ShardId) → (a : ShardAnswer) × IsAnswerIn image mapped id a
   unfolding mapped
@@ -138,15 +148,18 @@ unfolding mapped
 some_archive image =
     let s = some_scrub [] image in
     let answers = answers_for image s.0.bindings in
-    let are = answers_are image s.0.bindings in (
+    let are = answers_are image s.0.bindings in
+    let superblocks = some_remarks image in (
       archive_of (archive_members answers),
-      superblock_remarks s.0.plan.has_superblock ++ run_remarks s.0.read.states ++ shard_remarks answers,
+      all_remarks (mapped image s.0 s.1) superblocks.0 answers,
       record {
         found = mapped image s.0 s.1;
         mapped = are_mapped image s.0 s.1;
         answers = answers;
         answered = record { ids = are.0; each = are.1 };
         tar_is = refl;
+        superblocks = superblocks.0;
+        said_of_superblocks = superblocks.1;
         remarks_are = refl;
       },
     )

@@ -1,4 +1,4 @@
--- The payloads for the locators of a shard, one directly after another, by the spares that were found and by those that they
+-- The payloads for the locators of a shard, one directly after another, by the copies that were found and by those that they
 -- have.
 use Rattle.std.proofs.Common.{◌≡◌, ◌<◌, ◌+◌, ◌++◌, ◌∷◌, [], ℕ, List, length, get_or, take, refl, sym, ◌∙◌, ap, subst}
 use Rattle.std.specs.List.{All, AllZip, flat_map}
@@ -10,11 +10,12 @@ use Rattle.scrub_disk.specs.Image.{Image}
 use Rattle.scrub_scan.specs.declared.standing.Standing.{Standing}
 use Rattle.scrub_scan.specs.Scanned.{Scanned}
 use Rattle.scrub_check.specs.declared.statuses.checked.Checked.{Checked}
-use Rattle.scrub_check.specs.Spares.{spares_by, spares_of}
+use Rattle.scrub_loose.specs.Copies.{CopiesValue, copies_by}
+use Rattle.scrub_loose.specs.Loose.{copies_for}
 use Rattle.scrub_shard.specs.Shard.{AreBytesFor, IsPayloadFor, IsPayloadOf}
 use Rattle.scrub_shard.specs.steps.Payloads.{AreBytesBy, IsPayloadBy}
 
-module _ (image : Image) (found : List Standing) (own : List Checked) where
+module _ (image : Image) (found : CopiesValue) (own : List Checked) where
   -- one more
   pub one_more : (i : ℕ) (one : Checked) (bytes more payload : List ℕ) → i < length own → AreBytesBy image found (take i own) bytes →
       one ≡ get_or own i one → IsPayloadBy image found one payload → more ≡ bytes ++ payload →
@@ -31,25 +32,22 @@ module _ (image : Image) (found : List Standing) (own : List Checked) where
         ∙ sym (flat_map-append (λ (p : List ℕ). p) so_far.payloads (payload ∷ []));
   }
 
--- the spares that were found are those that the locator has
-abbrev pub HasItsSpares : List Scanned → List Standing → Checked → Type 0
-HasItsSpares all found c = spares_by found c ≡ spares_of all c
+-- the copies that were found are those that the locator has
+abbrev pub HasItsCopies : List Scanned → List Standing → CopiesValue → Checked → Type 0
+HasItsCopies all loose found c = copies_by found c ≡ copies_for all loose c
 
-zipped : (image : Image) (all : List Scanned) (found : List Standing) (own : List Checked) (payloads : List (List ℕ)) →
-    All (HasItsSpares all found) own → AllZip (IsPayloadBy image found) own payloads → AllZip (IsPayloadFor image all) own payloads
-zipped image all found [] [] same each = tt
-zipped image all found [] (p ∷ ps) same each = each
-zipped image all found (c ∷ cs) [] same each = each
-zipped image all found (c ∷ cs) (p ∷ ps) same each = (
-  subst (λ (ss : List Standing). IsPayloadOf image ss c p) (All-head (HasItsSpares all found) c cs same) each.0,
-  zipped image all found cs ps (All-tail (HasItsSpares all found) c cs same) each.1,
-)
+module _ (image : Image) (all : List Scanned) (loose : List Standing) (found : CopiesValue) where
+  zipped : (own : List Checked) (payloads : List (List ℕ)) → All (HasItsCopies all loose found) own →
+      AllZip (IsPayloadBy image found) own payloads → AllZip (IsPayloadFor image all loose) own payloads
+  zipped [] [] same each = tt
+  zipped [] (p ∷ ps) same each = each
+  zipped (c ∷ cs) [] same each = each
+  zipped (c ∷ cs) (p ∷ ps) same each = (
+    subst (λ (ss : List Standing). IsPayloadOf image ss c p) (All-head (HasItsCopies all loose found) c cs same) each.0,
+    zipped cs ps (All-tail (HasItsCopies all loose found) c cs same) each.1,
+  )
 
--- so the bytes by them are those of the locators
-pub bytes_are : (image : Image) (all : List Scanned) (found : List Standing) (own : List Checked) (bytes : List ℕ) →
-    All (HasItsSpares all found) own → AreBytesBy image found own bytes → AreBytesFor image all own bytes
-bytes_are image all found own bytes same by = record {
-  payloads = by.payloads;
-  each = zipped image all found own by.payloads same by.each;
-  joined = by.joined;
-}
+  -- so the bytes by them are those of the locators
+  pub bytes_are : (own : List Checked) (bytes : List ℕ) → All (HasItsCopies all loose found) own → AreBytesBy image found own bytes →
+      AreBytesFor image all loose own bytes
+  bytes_are own bytes same by = record { payloads = by.payloads; each = zipped own by.payloads same by.each; joined = by.joined }

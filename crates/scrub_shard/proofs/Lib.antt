@@ -8,6 +8,7 @@ mod Lost
 mod Answered
 mod OneAnswer
 mod Contents
+mod Nowhere
 -- archives
 mod TarHeaders
 mod Archives

@@ -1,10 +1,11 @@
 -- Which locators have no payload: the first of them, and that all others have one that can be read.
-use Rattle.std.proofs.Common.{◌≡◌, ◌⊎◌, ◌<◌, ◌≤◌, ◌+◌, ◌==◌, ◌&&◌, ◌∷◌, [], ℕ, Bool, true, false, not, List, MatchBool, Some, None, length, get_or, nat_lt, cond, if◌then◌else◌, arith, inl, inr, refl, sym, ap, subst}
-use Rattle.std.specs.List.{All, position, position_or_len}
+use Rattle.std.proofs.Common.{◌≡◌, ◌⊎◌, ◌<◌, ◌≤◌, ◌+◌, ◌==◌, ◌&&◌, ◌++◌, ◌∷◌, [], ℕ, Bool, true, false, not, List, MatchBool, Some, None, length, get_or, nat_lt, cond, if◌then◌else◌, arith, inl, inr, refl, sym, ap, subst}
+use Rattle.std.proofs.Math.Path.{ap₂}
+use Rattle.std.specs.List.{All, filter, position, position_or_len}
 use Rattle.std.proofs.lemmas.Bool.{false≢true}
 use Rattle.std.proofs.lemmas.Bool.Decides.{nat_tests}
 use Rattle.std.proofs.lemmas.Option.{none-some, same_Some}
-use Rattle.std.proofs.lemmas.List.Elements.{All-contains_itself, All-filter, All-head, All-nil, All-tail}
+use Rattle.std.proofs.lemmas.List.Elements.{All-append, All-contains_itself, All-filter, All-head, All-nil, All-tail}
 use Rattle.std.proofs.lemmas.List.Sums.{fails_before_first, passes_at_first}
 use Rattle.scrub_disk.specs.Image.{Image}
 use Rattle.scrub_super.specs.Plan.{PlanValue}
@@ -16,19 +17,21 @@ use Rattle.scrub_check.specs.declared.statuses.status.Status.{Status}
 use Rattle.scrub_check.specs.declared.statuses.status.Status.TheVariants.{OutOfRange, Retired, PastPointer, Unreadable, NoFrame, WrongUuid, WrongLength, WrongDigest, Hidden, Sound}
 use Rattle.scrub_check.specs.Checked.{HaveStatuses, is_dangling}
 use Rattle.scrub_check.specs.ChunkRun.{StandsThere}
-use Rattle.scrub_check.specs.Spares.{AreSpares, asks_for_spares, copies_of, frames, is_copy_of, spares_by, spares_of}
+use Rattle.scrub_check.specs.Spares.{asks_for_spares, copies_of, frames, is_copy_of, spares_of}
 use Rattle.scrub_check.specs.Status.{HasStatusIn}
 use Rattle.scrub_check.specs.WholeScan.{IsWholeScan}
 use Rattle.scrub_check.proofs.Payloads.{stands_there}
+use Rattle.scrub_loose.specs.Copies.{CopiesValue, copies_by}
+use Rattle.scrub_loose.specs.Loose.{AreCopies, AreLoose, LooseValue, copies_for, is_gone, loose_of}
 use Rattle.scrub_shard.specs.Shard.{asks_for_nothing, first_lost, is_payload_lost}
 use Rattle.scrub_shard.specs.steps.Payloads.{AreReadable, HasPayloadUnlessLost, HasPayloadLeft, is_lost_by}
 use Rattle.scrub_shard.proofs.Frames.{frames_stand}
-use Rattle.scrub_shard.proofs.Joined.{HasItsSpares}
+use Rattle.scrub_shard.proofs.Joined.{HasItsCopies}
 
 -- ---- the first that passes
 
 -- no element passes if there is no first that does
-pub none_passes : {X : Type 0} (p : X → Bool) (xs : List X) → position p xs ≡ None → All (λ x. p x ≡ false) xs
+none_passes : {X : Type 0} (p : X → Bool) (xs : List X) → position p xs ≡ None → All (λ x. p x ≡ false) xs
 none_passes {X} p xs none k d below = fails_before_first p xs k d (omega (arith, below, end (nat_lt (position_or_len p xs) (length xs)) refl none))
   where
     end : (b : Bool) → nat_lt (position_or_len p xs) (length xs) ≡ b → cond b (Some (position_or_len p xs)) None ≡ None →
@@ -61,19 +64,22 @@ firsts_agree p q xs same =
 
 -- ---- the locators of an entry
 
-module _ (all : List Scanned) (found : List Standing) (own : List Checked) where
-  -- each has the spares that were found for it
-  pub have_spares : AreSpares all own found → All (HasItsSpares all found) own
-  have_spares are k d below = are (get_or own k d) (All-contains_itself own k d below)
+-- each has the copies that were found for it
+pub have_copies : (image : Image) (plan : PlanValue) (all : List Scanned) (own : List Checked) (found : CopiesValue)
+    (are : AreCopies [] image plan all own found) → All (HasItsCopies all are.found.frames found) own
+have_copies image plan all own found are k d below =
+    let here = All-contains_itself own k d below in
+    ap₂ (λ (ss ts : List Standing). ss ++ ts) (are.spares (get_or own k d) here) (are.loose (get_or own k d) here)
 
-  -- so the first lost one is the same by them
-  pub same_lost : All (HasItsSpares all found) own → position (is_lost_by found) own ≡ first_lost all own
-  same_lost same =
-      firsts_agree (is_lost_by found) (is_payload_lost all) own
-      (λ k d below.
-      ap
-      (λ (ss : List Standing). not (asks_for_nothing (get_or own k d).locator) && (is_dangling (get_or own k d).status && (length ss == 0)))
-      (same k d below))
+-- so the first lost one is the same by them
+pub same_lost : (all : List Scanned) (loose : List Standing) (found : CopiesValue) (own : List Checked) →
+    All (HasItsCopies all loose found) own → position (is_lost_by found) own ≡ first_lost all loose own
+same_lost all loose found own same =
+    firsts_agree (is_lost_by found) (is_payload_lost all loose) own
+    (λ k d below.
+    ap
+    (λ (ss : List Standing). not (asks_for_nothing (get_or own k d).locator) && (is_dangling (get_or own k d).status && (length ss == 0)))
+    (same k d below))
 
 -- a locator that doesn't dangle is sound or hidden
 not_dangling : (s : Status) → is_dangling s ≡ false → (s ≡ Sound) ⊎ (s ≡ Hidden)
@@ -88,45 +94,63 @@ not_dangling WrongDigest e = absurd (false≢true (sym e))
 not_dangling Hidden e = inr refl
 not_dangling Sound e = inl refl
 
--- the spares of a locator stand in the image
-spares_stand : (image : Image) (plan : PlanValue) (all : List Scanned) (c : Checked) → IsWholeScan image plan all →
-    All (Stands image) (spares_of all c)
-spares_stand image plan all c whole = by (asks_for_spares c)
+-- the loose frames of an image stand in it
+pub loose_frames_stand : (image : Image) (plan : PlanValue) (v : LooseValue) → AreLoose [] image plan v → All (Stands image) v.frames
+loose_frames_stand image plan v are k d below = ((are.frames (get_or v.frames k d)).0 (All-contains_itself v.frames k d below)).stands
+
+-- so the copies of a locator do
+copies_stand : (image : Image) (plan : PlanValue) (all : List Scanned) (loose : List Standing) (c : Checked) → IsWholeScan image plan all →
+    All (Stands image) loose → All (Stands image) (copies_for all loose c)
+copies_stand image plan all loose c whole stand =
+    All-append (Stands image) (spares_of all c) (loose_of all loose c) (of_spares (asks_for_spares c)) (of_loose (is_gone all c))
   where
-    by : (b : Bool) → All (Stands image) (if b then copies_of all c.locator else [])
-    by true = All-filter (is_copy_of c.locator) (Stands image) (frames all) (frames_stand image plan all whole)
-    by false = All-nil (Stands image)
+    of_spares : (b : Bool) → All (Stands image) (if b then copies_of all c.locator else [])
+    of_spares true = All-filter (is_copy_of c.locator) (Stands image) (frames all) (frames_stand image plan all whole)
+    of_spares false = All-nil (Stands image)
 
--- a locator that isn't lost can be read
-pub can_be_read : (image : Image) (plan : PlanValue) (all : List Scanned) (found : List Standing) (c : Checked) →
-    IsWholeScan image plan all → HasStatusIn image plan c.locator c.status → HasItsSpares all found c → HasPayloadUnlessLost image found c
-can_be_read image plan all found c whole status same = asked (asks_for_nothing c.locator)
-  where
-    some : (ss : List Standing) → (length ss == 0) ≡ false → 0 < length ss
-    some [] e = absurd (false≢true (sym e))
-    some (s ∷ ss) e = omega arith
+    of_loose : (b : Bool) → All (Stands image) (if b then filter (is_copy_of c.locator) loose else [])
+    of_loose true = All-filter (is_copy_of c.locator) (Stands image) loose stand
+    of_loose false = All-nil (Stands image)
 
-    by : (b : Bool) → is_dangling c.status ≡ b → (b && (length (spares_by found c) == 0)) ≡ false →
-        MatchBool b (AreReadable image (spares_by found c)) (StandsThere image c.locator)
-    by true dangling e = record {
-      some = some (spares_by found c) e;
-      stand = subst (λ (ss : List Standing). All (Stands image) ss) (sym same) (spares_stand image plan all c whole);
-    }
-    by false dangling e = stands_there image plan c.locator c.status (not_dangling c.status dangling) status
+module _ (image : Image) (plan : PlanValue) (all : List Scanned) (loose : List Standing) (found : CopiesValue) where
+  -- a locator that isn't lost can be read
+  can_be_read : (c : Checked) → IsWholeScan image plan all → All (Stands image) loose → HasStatusIn image plan c.locator c.status →
+      HasItsCopies all loose found c → HasPayloadUnlessLost image found c
+  can_be_read c whole stand status same = asked (asks_for_nothing c.locator)
+    where
+      some : (ss : List Standing) → (length ss == 0) ≡ false → 0 < length ss
+      some [] e = absurd (false≢true (sym e))
+      some (s ∷ ss) e = omega arith
 
-    asked : (b : Bool) → (not b && (is_dangling c.status && (length (spares_by found c) == 0))) ≡ false →
-        MatchBool b (Unit {0})
-        (MatchBool (is_dangling c.status) (AreReadable image (spares_by found c)) (StandsThere image c.locator))
-    asked true kept = tt
-    asked false kept = by (is_dangling c.status) refl kept
+      by : (b : Bool) → is_dangling c.status ≡ b → (b && (length (copies_by found c) == 0)) ≡ false →
+          MatchBool b (AreReadable image (copies_by found c)) (StandsThere image c.locator)
+      by true dangling e = record {
+        some = some (copies_by found c) e;
+        stand = subst (λ (ss : List Standing). All (Stands image) ss) (sym same) (copies_stand image plan all loose c whole stand);
+      }
+      by false dangling e = stands_there image plan c.locator c.status (not_dangling c.status dangling) status
 
--- so is each of an entry, or of several
-pub all_can_be_read : (image : Image) (plan : PlanValue) (all : List Scanned) (found : List Standing) (own : List Checked) →
-    IsWholeScan image plan all → HaveStatuses image plan own → All (HasItsSpares all found) own → All (HasPayloadUnlessLost image found) own
-all_can_be_read image plan all found own whole statuses same k d below =
-    can_be_read image plan all found (get_or own k d) whole (statuses k d below) (same k d below)
+      asked : (b : Bool) → (not b && (is_dangling c.status && (length (copies_by found c) == 0))) ≡ false →
+          MatchBool b (Unit {0})
+          (MatchBool (is_dangling c.status) (AreReadable image (copies_by found c)) (StandsThere image c.locator))
+      asked true kept = tt
+      asked false kept = by (is_dangling c.status) refl kept
+
+  -- so is each of an entry, or of several
+  pub all_can_be_read : (own : List Checked) → IsWholeScan image plan all → All (Stands image) loose → HaveStatuses image plan own →
+      All (HasItsCopies all loose found) own → All (HasPayloadUnlessLost image found) own
+  all_can_be_read own whole stand statuses same k d below =
+      can_be_read (get_or own k d) whole stand (statuses k d below) (same k d below)
+
+-- by the copies that were found
+pub copies_can_be_read : (image : Image) (plan : PlanValue) (all : List Scanned) (own : List Checked) (found : CopiesValue) →
+    IsWholeScan image plan all → HaveStatuses image plan own → AreCopies [] image plan all own found →
+    All (HasPayloadUnlessLost image found) own
+copies_can_be_read image plan all own found whole statuses are =
+    all_can_be_read image plan all are.found.frames found own whole (loose_frames_stand image plan are.found are.are) statuses
+    (have_copies image plan all own found are)
 
 -- and each has a payload left if none is lost
-pub all_left : (image : Image) (found : List Standing) (own : List Checked) → All (HasPayloadUnlessLost image found) own →
+pub all_left : (image : Image) (found : CopiesValue) (own : List Checked) → All (HasPayloadUnlessLost image found) own →
     position (is_lost_by found) own ≡ None → All (HasPayloadLeft image found) own
 all_left image found own readable none k d below = readable k d below (none_passes (is_lost_by found) own none k d below)

@@ -21,7 +21,8 @@ use Rattle.scrub_check.specs.declared.statuses.checked.Checked.{Checked}
 use Rattle.scrub_check.specs.Checked.{is_dangling}
 use Rattle.scrub_check.specs.ChunkRun.{HasPayloadThere}
 use Rattle.scrub_check.specs.Named.{named_by_shard}
-use Rattle.scrub_check.specs.Spares.{spares_of}
+use Rattle.scrub_loose.specs.Loose.{LooseValue, copies_for}
+use Rattle.scrub_loose.proofs.OneLoose.{one_loose}
 use Rattle.scrub_check.proofs.Payloads.{one_payload}
 use Rattle.scrub_found.proofs.OneIndex.{one_list_of_checked, one_list_of_runs, read_runs_are_runs}
 use Rattle.scrub_found.proofs.OneReader.{one_plan, one_reader}
@@ -86,56 +87,57 @@ one_bound bindings id b c are x y = by x.among y.among
 
 -- ---- the bytes
 
-one_first : (image : Image) (spares : List Standing) (a b : List ℕ) → HasFirstPayload image spares a → HasFirstPayload image spares b → a ≡ b
+one_first : (image : Image) (copies : List Standing) (a b : List ℕ) → HasFirstPayload image copies a → HasFirstPayload image copies b → a ≡ b
 one_first image [] a b x y = absurd x
 one_first image (s ∷ ss) a b x y =
     (one_frame_at (extent_of image s.extent (extent_bytes image.geometry)) s.offset s.form s.uuid a s.form s.uuid b x.frame.frame y.frame.frame).2
 
-one_payload_for : (image : Image) (all : List Scanned) (c : Checked) (a b : List ℕ) → IsPayloadFor image all c a → IsPayloadFor image all c b → a ≡ b
-one_payload_for image all c a b = asked (asks_for_nothing c.locator)
-  where
-    by : (t : Bool) → MatchBool t (HasFirstPayload image (spares_of all c) a) (HasPayloadThere image c.locator a) →
-        MatchBool t (HasFirstPayload image (spares_of all c) b) (HasPayloadThere image c.locator b) → a ≡ b
-    by true x y = one_first image (spares_of all c) a b x y
-    by false x y = one_payload image c.locator a b x y
+module _ (image : Image) (all : List Scanned) (loose : List Standing) where
+  one_payload_for : (c : Checked) (a b : List ℕ) → IsPayloadFor image all loose c a → IsPayloadFor image all loose c b → a ≡ b
+  one_payload_for c a b = asked (asks_for_nothing c.locator)
+    where
+      by : (t : Bool) → MatchBool t (HasFirstPayload image (copies_for all loose c) a) (HasPayloadThere image c.locator a) →
+          MatchBool t (HasFirstPayload image (copies_for all loose c) b) (HasPayloadThere image c.locator b) → a ≡ b
+      by true x y = one_first image (copies_for all loose c) a b x y
+      by false x y = one_payload image c.locator a b x y
 
-    asked : (t : Bool) →
-        MatchBool t (a ≡ [])
-        (MatchBool (is_dangling c.status) (HasFirstPayload image (spares_of all c) a) (HasPayloadThere image c.locator a)) →
-        MatchBool t (b ≡ [])
-        (MatchBool (is_dangling c.status) (HasFirstPayload image (spares_of all c) b) (HasPayloadThere image c.locator b)) → a ≡ b
-    asked true x y = x ∙ sym y
-    asked false x y = by (is_dangling c.status) x y
+      asked : (t : Bool) →
+          MatchBool t (a ≡ [])
+          (MatchBool (is_dangling c.status) (HasFirstPayload image (copies_for all loose c) a) (HasPayloadThere image c.locator a)) →
+          MatchBool t (b ≡ [])
+          (MatchBool (is_dangling c.status) (HasFirstPayload image (copies_for all loose c) b) (HasPayloadThere image c.locator b)) → a ≡ b
+      asked true x y = x ∙ sym y
+      asked false x y = by (is_dangling c.status) x y
 
-one_list : (image : Image) (all : List Scanned) (own : List Checked) (ps qs : List (List ℕ)) → AllZip (IsPayloadFor image all) own ps →
-    AllZip (IsPayloadFor image all) own qs → ps ≡ qs
-one_list image all [] [] [] x y = refl
-one_list image all [] [] (q ∷ qs) x y = absurd y
-one_list image all [] (p ∷ ps) qs x y = absurd x
-one_list image all (c ∷ cs) [] qs x y = absurd x
-one_list image all (c ∷ cs) (p ∷ ps) [] x y = absurd y
-one_list image all (c ∷ cs) (p ∷ ps) (q ∷ qs) x y =
-    ap₂ (λ (b : List ℕ) bs. b ∷ bs) (one_payload_for image all c p q x.0 y.0) (one_list image all cs ps qs x.1 y.1)
+  one_list : (own : List Checked) (ps qs : List (List ℕ)) → AllZip (IsPayloadFor image all loose) own ps →
+      AllZip (IsPayloadFor image all loose) own qs → ps ≡ qs
+  one_list [] [] [] x y = refl
+  one_list [] [] (q ∷ qs) x y = absurd y
+  one_list [] (p ∷ ps) qs x y = absurd x
+  one_list (c ∷ cs) [] qs x y = absurd x
+  one_list (c ∷ cs) (p ∷ ps) [] x y = absurd y
+  one_list (c ∷ cs) (p ∷ ps) (q ∷ qs) x y =
+      ap₂ (λ (b : List ℕ) bs. b ∷ bs) (one_payload_for c p q x.0 y.0) (one_list cs ps qs x.1 y.1)
 
-one_bytes : (image : Image) (all : List Scanned) (own : List Checked) (a b : List ℕ) → AreBytesFor image all own a → AreBytesFor image all own b → a ≡ b
-one_bytes image all own a b x y =
-    x.joined ∙ ap (flat_map (λ (p : List ℕ). p)) (one_list image all own x.payloads y.payloads x.each y.each) ∙ sym y.joined
+  one_bytes : (own : List Checked) (a b : List ℕ) → AreBytesFor image all loose own a → AreBytesFor image all loose own b → a ≡ b
+  one_bytes own a b x y =
+      x.joined ∙ ap (flat_map (λ (p : List ℕ). p)) (one_list own x.payloads y.payloads x.each y.each) ∙ sym y.joined
 
 same_found : (a b : BytesValue) → a.bytes ≡ b.bytes → a.is_doubtful ≡ b.is_doubtful → a ≡ b
 same_found a b bytes doubt = λ i. record { bytes = bytes i; is_doubtful = doubt i }
 
 -- ---- the answer
 
-one_by : (image : Image) (all : List Scanned) (doubtful : Bool) (own : List Checked) (a b : ShardAnswer) →
-    IsAnswerBy image all doubtful own a → IsAnswerBy image all doubtful own b → a ≡ b
-one_by image all doubtful own NoSuchShard b x y = absurd x
-one_by image all doubtful own (PayloadLost n) NoSuchShard x y = absurd y
-one_by image all doubtful own (PayloadLost n) (PayloadLost m) x y = ap (λ (k : ℕ). PayloadLost k) (same_Some n m (sym x ∙ y))
-one_by image all doubtful own (PayloadLost n) (Found g) x y = absurd (none-some n (sym y.0 ∙ x))
-one_by image all doubtful own (Found f) NoSuchShard x y = absurd y
-one_by image all doubtful own (Found f) (PayloadLost n) x y = absurd (none-some n (sym x.0 ∙ y))
-one_by image all doubtful own (Found f) (Found g) x y =
-    ap (λ (v : BytesValue). Found v) (same_found f g (one_bytes image all own f.bytes g.bytes x.1 y.1) (x.2 ∙ sym y.2))
+one_by : (image : Image) (all : List Scanned) (loose : List Standing) (doubtful : Bool) (own : List Checked) (a b : ShardAnswer) →
+    IsAnswerBy image all loose doubtful own a → IsAnswerBy image all loose doubtful own b → a ≡ b
+one_by image all loose doubtful own NoSuchShard b x y = absurd x
+one_by image all loose doubtful own (PayloadLost n) NoSuchShard x y = absurd y
+one_by image all loose doubtful own (PayloadLost n) (PayloadLost m) x y = ap (λ (k : ℕ). PayloadLost k) (same_Some n m (sym x ∙ y))
+one_by image all loose doubtful own (PayloadLost n) (Found g) x y = absurd (none-some n (sym y.0 ∙ x))
+one_by image all loose doubtful own (Found f) NoSuchShard x y = absurd y
+one_by image all loose doubtful own (Found f) (PayloadLost n) x y = absurd (none-some n (sym x.0 ∙ y))
+one_by image all loose doubtful own (Found f) (Found g) x y =
+    ap (λ (v : BytesValue). Found v) (same_found f g (one_bytes image all loose own f.bytes g.bytes x.1 y.1) (x.2 ∙ sym y.2))
 
 one_of_entry : (image : Image) (m : Mapped) (id : ShardId) (a b : ShardAnswer) (v w : BindingValue) → IsMapped image m →
     IsBoundBy m.bindings id v → IsEntryAnswer image m.plan m.all v a → IsBoundBy m.bindings id w → IsEntryAnswer image m.plan m.all w b → a ≡ b
@@ -143,8 +145,10 @@ one_of_entry image m id a b v w mapped bound x also y =
     let same : w ≡ v = one_bound m.bindings id w v mapped.bindings.bindings_of_map also bound in
     let z : IsEntryAnswer image m.plan m.all v b = subst (λ (u : BindingValue). IsEntryAnswer image m.plan m.all u b) same y in
     let own : z.own ≡ x.own = one_list_of_checked image m.plan (named_by_shard v) z.own x.own z.checked x.checked in
-    one_by image m.all v.doubtful x.own a b x.answer
-    (subst (λ (cs : List Checked). IsAnswerBy image m.all v.doubtful cs b) own z.answer)
+    let loose : z.loose ≡ x.loose = one_loose [] image m.plan z.loose x.loose z.are_loose x.are_loose in
+    one_by image m.all x.loose.frames v.doubtful x.own a b x.answer
+    (subst (λ (cs : List Checked). IsAnswerBy image m.all x.loose.frames v.doubtful cs b) own
+    (subst (λ (u : LooseValue). IsAnswerBy image m.all u.frames v.doubtful z.own b) loose z.answer))
 
 one_in : (image : Image) (m : Mapped) (id : ShardId) (a b : ShardAnswer) → IsMapped image m → IsAnswerIn image m id a →
     IsAnswerIn image m id b → a ≡ b

@@ -1,5 +1,5 @@
 -- The bytes of a shard: the payloads of the locators of its entry in the shard map, one directly after another.
-use Rattle.std.specs.Prelude.{◌≡◌, ◌==◌, ◌&&◌, ℕ, Bool, List, [], ◌∷◌, Option, None, Some, MatchBool, Contains, length, not, slice_get}
+use Rattle.std.specs.Prelude.{◌≡◌, ◌<◌, ◌==◌, ◌&&◌, ℕ, Bool, true, List, [], ◌∷◌, Option, None, Some, MatchBool, Contains, length, not, slice_get}
 use Rattle.std.specs.List.{AllZip, flat_map, position}
 use Rattle.std.specs.Str.{bytes_eq}
 use Rattle.sha2.specs.Sha256.{sha256}
@@ -10,7 +10,7 @@ use Rattle.scrub_super.specs.Plan.{PlanValue, plan_of}
 use Rattle.scrub_scan.specs.declared.standing.Standing.{Standing}
 use Rattle.scrub_scan.specs.AllFindings.{AreAllFindings}
 use Rattle.scrub_scan.specs.Scanned.{Scanned}
-use Rattle.scrub_scan.specs.Standing.{HasPayload}
+use Rattle.scrub_scan.specs.Standing.{HasPayload, Stands}
 use Rattle.scrub_run.specs.declared.shard_id.ShardId.{ShardId}
 use Rattle.scrub_merge.specs.Binding.{BindingValue}
 use Rattle.scrub_merge.specs.ShardMap.{IsShardMap}
@@ -19,8 +19,9 @@ use Rattle.scrub_check.specs.Checked.{AreChecked, is_dangling}
 use Rattle.scrub_check.specs.ChunkRun.{HasPayloadThere}
 use Rattle.scrub_check.specs.Named.{named_by_shard}
 use Rattle.scrub_check.specs.Runs.{ReadRunsValue, AreReadRuns}
-use Rattle.scrub_check.specs.Spares.{frames, spares_of}
-use Rattle.scrub_listings.specs.Manifest.{is_without_spare}
+use Rattle.scrub_check.specs.Spares.{frames}
+use Rattle.scrub_loose.specs.Anywhere.{IsCrowded}
+use Rattle.scrub_loose.specs.Loose.{AreLoose, LooseValue, copies_for}
 use Rattle.scrub_shard.specs.declared.shard.ShardAnswer.{ShardAnswer}
 use Rattle.scrub_shard.specs.declared.shard.ShardAnswer.TheVariants.{NoSuchShard, PayloadLost, Found}
 
@@ -57,51 +58,54 @@ IsUnbound bindings id = (b : BindingValue) → ¬ IsBoundBy bindings id b
 abbrev pub asks_for_nothing : Locator → Bool
 asks_for_nothing l = l.length == 0 && bytes_eq l.digest (sha256 [])
 
--- the payload of the first of some spares
+-- the payload of the first of some copies
 abbrev pub HasFirstPayload : Image → List Standing → List ℕ → Type 0
 HasFirstPayload image [] payload = ⊥
 HasFirstPayload image (s ∷ ss) payload = HasPayload image s payload
 
--- the payload for a locator with these spares: no bytes if it asks for none; or else that of its chunk if the locator is sound or
--- hidden, or that of its first spare
+-- the payload for a locator with these copies: no bytes if it asks for none; or else that of its chunk if the locator is sound or
+-- hidden, or that of its first copy
 abbrev pub IsPayloadOf : Image → List Standing → Checked → List ℕ → Type 0
-IsPayloadOf image spares c payload =
+IsPayloadOf image copies c payload =
     MatchBool (asks_for_nothing c.locator) (payload ≡ [])
-    (MatchBool (is_dangling c.status) (HasFirstPayload image spares payload) (HasPayloadThere image c.locator payload))
+    (MatchBool (is_dangling c.status) (HasFirstPayload image copies payload) (HasPayloadThere image c.locator payload))
 
--- the payload for a locator, by the spares that it has
-abbrev pub IsPayloadFor : Image → List Scanned → Checked → List ℕ → Type 0
-IsPayloadFor image all c payload = IsPayloadOf image (spares_of all c) c payload
+-- the payload for a locator, by the copies that it has: its spares, or else its loose copies
+abbrev pub IsPayloadFor : Image → List Scanned → List Standing → Checked → List ℕ → Type 0
+IsPayloadFor image all loose c payload = IsPayloadOf image (copies_for all loose c) c payload
 
 -- the bytes are the payloads for these locators, one directly after another
-pub record AreBytesFor (image : Image) (all : List Scanned) (own : List Checked) (bytes : List ℕ) : Type 0 where
+pub record AreBytesFor (image : Image) (all : List Scanned) (loose : List Standing) (own : List Checked) (bytes : List ℕ) : Type 0 where
   pub payloads : List (List ℕ)
-  pub each : AllZip (IsPayloadFor image all) own payloads
+  pub each : AllZip (IsPayloadFor image all loose) own payloads
   pub joined : bytes ≡ flat_map (λ payload. payload) payloads
 
--- the payload for a locator is lost: it asks for bytes, dangles and has no spare
-abbrev pub is_payload_lost : List Scanned → Checked → Bool
-is_payload_lost all c = not (asks_for_nothing c.locator) && is_without_spare all c
+-- the payload for a locator is lost: it asks for bytes, dangles and has no copy
+abbrev pub is_payload_lost : List Scanned → List Standing → Checked → Bool
+is_payload_lost all loose c = not (asks_for_nothing c.locator) && (is_dangling c.status && length (copies_for all loose c) == 0)
 
 -- the number of the first locator whose payload is lost, from 0
-abbrev pub first_lost : List Scanned → List Checked → Option ℕ
-first_lost all own = position (is_payload_lost all) own
+abbrev pub first_lost : List Scanned → List Standing → List Checked → Option ℕ
+first_lost all loose own = position (is_payload_lost all loose) own
 
 -- ---- the answer
 
 -- the answer by the locators of the entry: their bytes, and whether the entry is doubtful; or, if one has no payload, the
 -- number of the first such
-abbrev pub IsAnswerBy : Image → List Scanned → Bool → List Checked → ShardAnswer → Type 0
-IsAnswerBy image all doubtful own NoSuchShard = ⊥
-IsAnswerBy image all doubtful own (PayloadLost number) = first_lost all own ≡ Some number
-IsAnswerBy image all doubtful own (Found found) =
-    (first_lost all own ≡ None) × AreBytesFor image all own found.bytes × (found.is_doubtful ≡ doubtful)
+abbrev pub IsAnswerBy : Image → List Scanned → List Standing → Bool → List Checked → ShardAnswer → Type 0
+IsAnswerBy image all loose doubtful own NoSuchShard = ⊥
+IsAnswerBy image all loose doubtful own (PayloadLost number) = first_lost all loose own ≡ Some number
+IsAnswerBy image all loose doubtful own (Found found) =
+    (first_lost all loose own ≡ None) × AreBytesFor image all loose own found.bytes × (found.is_doubtful ≡ doubtful)
 
--- the answer by an entry of the shard map, the plan and the scanned extents: that by its locators, with their statuses
+-- the answer by an entry of the shard map, the plan and the scanned extents: that by its locators, with their statuses, and by
+-- the loose frames of the disk
 pub record IsEntryAnswer (image : Image) (plan : PlanValue) (all : List Scanned) (b : BindingValue) (a : ShardAnswer) : Type 0 where
   pub own : List Checked
   pub checked : AreChecked image plan (named_by_shard b) own
-  pub answer : IsAnswerBy image all b.doubtful own a
+  pub loose : LooseValue
+  pub are_loose : AreLoose [] image plan loose
+  pub answer : IsAnswerBy image all loose.frames b.doubtful own a
 
 -- the answer by the shard map: that of the shard's entry, or that there is none
 abbrev pub IsAnswerIn : Image → Mapped → ShardId → ShardAnswer → Type 0
@@ -138,18 +142,34 @@ pub record HaveContentsOfEntry (image : Image) (id : ShardId) (bytes : List ℕ)
   pub bound : IsBoundBy found.bindings id entry
   pub contents : HaveContentsOf entry.locators bytes
 
--- the locator asks for bytes, or for a digest that isn't that of no bytes; and no chunk in the tilings of the scanned extents
--- has the length and the digest that it asks for
-pub record IsNowhere (all : List Scanned) (l : Locator) : Type 0 where
-  pub asks : (l.length ≡ 0) × (l.digest ≡ sha256 []) → ⊥
-  pub none : (s : Standing) → Contains (frames all) s → (s.length ≡ l.length) × (s.digest ≡ l.digest) → ⊥
+-- no frame among these has the length and the digest that the locator asks for
+abbrev pub HasNone : (Standing → Type 0) → Locator → Type 0
+HasNone Among l = (s : Standing) → Among s → (s.length ≡ l.length) × (s.digest ≡ l.digest) → ⊥
 
--- the locator of this number in the entry of the shard asks for what no chunk in a tiling has
+-- the frame is at any byte of an extent in use that isn't crowded
+pub record IsInUse (image : Image) (plan : PlanValue) (s : Standing) : Type 0 where
+  pub planned : Contains plan.planned s.extent
+  pub sparse : ¬ IsCrowded image s.extent
+  pub stands : Stands image s
+
+-- the payload for a locator is nowhere: the locator asks for bytes, or for a digest that isn't that of no bytes; it dangles; and
+-- what it asks for has no chunk in the tilings of the scanned extents, and no frame at any byte of an extent in use that
+-- isn't crowded
+pub record IsNowhere (image : Image) (plan : PlanValue) (all : List Scanned) (c : Checked) : Type 0 where
+  pub asks : (c.locator.length ≡ 0) × (c.locator.digest ≡ sha256 []) → ⊥
+  pub dangles : is_dangling c.status ≡ true
+  pub no_chunk : HasNone (Contains (frames all)) c.locator
+  pub no_frame : HasNone (IsInUse image plan) c.locator
+
+-- the payload for the locator of this number in the entry of the shard is nowhere, and that for no locator before it
 pub record IsLostInEntry (image : Image) (id : ShardId) (number : ℕ) : Type 0 where
   pub found : Mapped
   pub mapped : IsMapped image found
   pub entry : BindingValue
   pub bound : IsBoundBy found.bindings id entry
-  pub locator : Locator
-  pub is : slice_get entry.locators number ≡ Some locator
-  pub nowhere : IsNowhere found.all locator
+  pub own : List Checked
+  pub checked : AreChecked image found.plan (named_by_shard entry) own
+  pub one : Checked
+  pub is : slice_get own number ≡ Some one
+  pub nowhere : IsNowhere image found.plan found.all one
+  pub first : (k : ℕ) (c : Checked) → k < number → slice_get own k ≡ Some c → ¬ IsNowhere image found.plan found.all c

@@ -1,12 +1,13 @@
 //! Reads one shard of a disk: its entry in the shard map, and the payloads for the locators of that entry.
 
-ghost use Rattle.std.specs.Prelude.{◌≡◌, ◌≤◌, All, IfOk, List, ℕ};
+ghost use Rattle.std.specs.Prelude.{◌≡◌, ◌↔◌, ◌≤◌, All, IfOk, List, ℕ};
 ghost use Rattle.scrub_disk.specs.Image.{Image};
 ghost use Rattle.scrub_run.specs.declared.shard_id.ShardId.{ShardId};
 ghost use Rattle.scrub_check.specs.Named.{named_by_shard};
 ghost use Rattle.scrub_check.specs.WholeScan.{IsWholeScan};
 ghost use Rattle.scrub_found.specs.Takings.{AreTakingsBy};
 ghost use Rattle.scrub_found.specs.Judged.{IsScan};
+ghost use Rattle.scrub_listings.specs.Remarks.{AreSuperblockRemarks};
 ghost use Rattle.scrub_shard.specs.Bytes.{BytesValue};
 ghost use Rattle.scrub_shard.specs.Shard.{HaveContentsOfEntry, IsEntryAnswer, IsLostInEntry, IsShardAnswer};
 ghost use Rattle.scrub_shard.specs.steps.Payloads.{HasPayloadUnlessLost, IsAnswerWith};
@@ -14,9 +15,12 @@ ghost use Rattle.scrub_shard.specs.declared.shard.ShardAnswer.{ShardAnswer};
 ghost use Rattle.scrub_shard.specs.declared.shard.ShardAnswer.TheVariants.{Found, PayloadLost};
 
 use crate::payloads::{bytes_for, first_lost};
-use scrub_check::{Checked, Named, Spares, check_all, name_shard, read_all_runs};
+use crate::scanning::scan_with_remarks;
+use scrub_check::{Checked, Named, check_all, name_shard, read_all_runs};
 use scrub_disk::{OutOfMemory, PageSource};
-use scrub_found::{Scan, ScrubFault, scan_by};
+use scrub_found::{Scan, ScrubFault};
+use scrub_listings::SuperblockRemark;
+use scrub_loose::Copies;
 use scrub_merge::{Binding, merge_by_threads};
 use scrub_pool::{Gate, Takings};
 use scrub_run::ShardId;
@@ -71,10 +75,19 @@ pub enum ShardAnswer {
     /// The shard map has no such shard: its newest readable entry says deleted, or no readable run has one.
     NoSuchShard,
     /// The payload for the locator of this number, from 0 in the order of the entry, is lost: the locator asks
-    /// for bytes, dangles and has no spare. It is the first such.
+    /// for bytes, dangles and has no copy, neither a spare nor a loose one. It is the first such.
     PayloadLost(usize),
     /// The payloads of all its locators.
     Found(ShardBytes),
+}
+
+/// What is read of a shard, and what is said of the disk's superblocks beside it.
+#[derive(Drop)]
+pub struct ShardReading {
+    /// What is read of the shard.
+    pub answer: ShardAnswer,
+    /// What is said of the superblocks: of the pages of extent 0, ascending, and then that there is a tie.
+    pub remarks: Vec<SuperblockRemark>,
 }
 
 /// The locators of a shard's entry, each owned by that shard.
@@ -90,17 +103,17 @@ fn own_locators(alloc: Global, binding: &Binding) -> Result<Vec<Named>, OutOfMem
 pub(crate) fn answer_by<D: PageSource>(
     alloc: Global,
     disk: &D,
-    spares: &Spares,
+    copies: &Copies,
     own: &[Checked],
     is_doubtful: bool,
 ) -> Result<ShardAnswer, OutOfMemory>
-    requires { All (HasPayloadUnlessLost (D.image disk.now) spares.now) own.now }
-    ensures { IfOk result (IsAnswerWith (D.image disk.now) spares.now is_doubtful own.now) }
+    requires { All (HasPayloadUnlessLost (D.image disk.now) copies.now) own.now }
+    ensures { IfOk result (IsAnswerWith (D.image disk.now) copies.now is_doubtful own.now) }
 {
-    match first_lost(spares, own) {
+    match first_lost(copies, own) {
         Some(number) => Ok(ShardAnswer::PayloadLost(number)),
         None => Ok(ShardAnswer::Found(ShardBytes {
-            bytes: bytes_for(alloc, disk, spares, own)?,
+            bytes: bytes_for(alloc, disk, copies, own)?,
             is_doubtful,
         })),
     }
@@ -120,8 +133,8 @@ fn entry_answer<R: Threads + Sync, D: PageSource>(
 {
     let names = own_locators(alloc, binding)?;
     let own = check_all(rt, alloc, disk, plan, all, &names)?;
-    let spares = Spares::of(alloc, all, &own)?;
-    answer_by(alloc, disk, &spares, &own, binding.doubtful())
+    let copies = Copies::of(rt, alloc, disk, plan, all, &[], &own)?;
+    answer_by(alloc, disk, &copies, &own, binding.doubtful())
 }
 
 /// The answer for a shard of a scanned disk.
@@ -149,9 +162,11 @@ fn shard_of<R: Threads + Sync, D: PageSource>(
     }
 }
 
-/// Reads a shard of a disk, by its newest entry in the index runs that can be read, and returns which extents
-/// the caller and each worker took. It scans as `scrub` does, with this many workers (0 to 64) beside the
-/// caller. The only fault is `OutOfMemory`, returned once every started worker has ended.
+/// Reads a shard of a disk, by its newest entry in the index runs that can be read, with what is said of the
+/// superblocks, and returns which extents the caller and each worker took. It scans as `scrub` does, with this
+/// many workers (0 to 64) beside the caller. The bytes of the extents in use are read once more if a locator of
+/// the entry dangles, asks for bytes and has no spare. The only fault is `OutOfMemory`, returned once every
+/// started worker has ended.
 pub fn read_shard<D: PageSource, G: Gate, R: Threads + Wait + Sync>(
     rt: &R,
     alloc: Global,
@@ -159,14 +174,15 @@ pub fn read_shard<D: PageSource, G: Gate, R: Threads + Wait + Sync>(
     workers: u32,
     gate: &G,
     id: ShardId,
-) -> Result<(ShardAnswer, Takings), ScrubFault>
+) -> Result<(ShardReading, Takings), ScrubFault>
     requires { workers ≤ 64 }
-    ensures shard { IfOk result (λ r. IsShardAnswer (D.image disk.now) id r.0) }
+    ensures shard { IfOk result (λ r. IsShardAnswer (D.image disk.now) id r.0.answer) }
+    ensures remarks { IfOk result (λ r. AreSuperblockRemarks (D.image disk.now) r.0.remarks.items) }
     ensures takings { IfOk result (λ r. AreTakingsBy (D.image disk.now) workers r.1) }
 {
-    let (scan, takings) = scan_by(rt, alloc, disk, workers, gate)?;
+    let (scan, remarks, takings) = scan_with_remarks(rt, alloc, disk, workers, gate)?;
     let answer = shard_of(rt, alloc, scan, id)?;
-    Ok((answer, takings))
+    Ok((ShardReading { answer, remarks }, takings))
 }
 
 /// A law: there is at most one answer for each shard of an image.
@@ -182,11 +198,12 @@ pub fn bytes_are_as_the_entry_says()
         HaveContentsOfEntry image id found.bytes }
 {}
 
-/// A law: if the payload for a locator is lost, its length and SHA-256 aren't those of no bytes, and no chunk in
-/// the tiling of an extent in use has them.
+/// A law: the payload for a locator is lost exactly if it is the first of its entry whose length and SHA-256
+/// aren't those of no bytes, which dangles, and whose length and SHA-256 no chunk in the tiling of an extent in
+/// use has, and no frame at any byte of an extent in use that isn't crowded.
 pub fn a_lost_payload_is_nowhere()
-    ensures { (image : Image) (id : ShardId) (number : ℕ) → IsShardAnswer image id (PayloadLost number) →
-        IsLostInEntry image id number }
+    ensures { (image : Image) (id : ShardId) (number : ℕ) →
+        IsShardAnswer image id (PayloadLost number) ↔ IsLostInEntry image id number }
 {}
 
 /// A law: there is an answer for each shard of an image. With `one_shard_answer`, there is exactly one.

@@ -14,6 +14,7 @@ ghost use Rattle.scrub_cli.specs.Scan.{IsDiskAnswer, acceptance};
 ghost use Rattle.scrub_cli.specs.SizesListed.{AreSizesListed};
 ghost use Rattle.scrub_cli.specs.Superblock.{AreSuperblocksListed};
 
+use crate::commands::remarks::superblock_lines;
 use crate::commands::shards::shards;
 use crate::process::outcome::Outcome;
 use scrub_args::{AcceptedDoubts, VERSION, Wanted};
@@ -176,5 +177,10 @@ pub fn manifest_listing<R: Threads + Wait + Sync, D: PageSource>(
     ensures takings { IfOk result (λ r. AreTakingsBy (D.image disk.now) workers r.1) }
 {
     let (manifest, takings) = list_manifest(rt, alloc, disk, workers, &NoGate, resets)?;
-    Ok((Answer::new(manifest.text, manifest.is_clean), takings))
+    let lines = superblock_lines(alloc, &manifest.remarks)?;
+    let answer = Answer {
+        text: manifest.text,
+        outcome: Outcome::warned(lines.into_bytes(), manifest.is_clean),
+    };
+    Ok((answer, takings))
 }

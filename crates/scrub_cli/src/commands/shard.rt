@@ -7,6 +7,7 @@ ghost use Rattle.scrub_cli.specs.Shard.{IsWrittenFor};
 use crate::commands::answer::Answer;
 use crate::commands::disk_image::load_disk;
 use crate::commands::geometry::geometry_of;
+use crate::commands::remarks::shard_lines;
 use crate::process::fault::Fault;
 use crate::process::images::Images;
 use crate::process::outcome::Outcome;
@@ -17,15 +18,16 @@ use std::alloc::Global;
 use std::sync::Wait;
 use std::thread::Threads;
 
-/// The bytes that were found, or why there are none.
-fn bytes_of<'a>(answer: ShardAnswer) -> Result<Answer, Fault<'a>>
-    ensures { MatchResult result (λ a. IsWrittenFor answer a.text.items a.outcome) (IsFaultFor answer) }
+/// The bytes that were found, with these lines for the error stream, or why there are none.
+fn bytes_of<'a>(answer: ShardAnswer, lines: Vec<u8>) -> Result<Answer, Fault<'a>>
+    ensures { MatchResult result (λ a. IsWrittenFor answer lines.items a.text.items a.outcome)
+        (IsFaultFor answer) }
 {
     match answer {
         ShardAnswer::NoSuchShard => Err(Fault::NoShard),
         ShardAnswer::PayloadLost(number) => Err(Fault::PayloadLost(number)),
         ShardAnswer::Found(found) => {
-            let outcome = Outcome::of_shard(found.is_doubtful());
+            let outcome = Outcome::warned(lines, true);
             let text = found.into_bytes();
             Ok(Answer { text, outcome })
         }
@@ -56,5 +58,6 @@ pub fn shard<'a, R: Threads + Wait + Sync, I: Images>(
     };
     let disk = load_disk(rt, alloc, geometry, image, opened, images)?;
     let (found, takings) = read_shard(rt, alloc, &disk, args.scan.workers, &NoGate, id)?;
-    Ok((bytes_of(found)?, takings))
+    let lines = shard_lines(alloc, &found.remarks, &found.answer)?;
+    Ok((bytes_of(found.answer, lines.into_bytes())?, takings))
 }

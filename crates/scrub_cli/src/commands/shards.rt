@@ -7,6 +7,7 @@ ghost use Rattle.scrub_cli.specs.Remarks.{remark_line, remark_lines};
 ghost use Rattle.scrub_cli.specs.Scan.{IsDiskAnswer};
 
 use crate::commands::answer::Answer;
+use crate::commands::remarks::append_superblock_line;
 use crate::process::outcome::Outcome;
 use scrub_disk::{OutOfMemory, PageSource};
 use scrub_found::ScrubFault;
@@ -24,6 +25,7 @@ fn append_line(alloc: Global, lines: &mut String, remark: &Remark) -> Result<(),
 {
     match *remark {
         Remark::NoSuperblock => writeln!(lines, "shardscrub: no superblock"),
+        Remark::Superblock(one) => append_superblock_line(lines, &one),
         Remark::RunLost { number, state } => {
             let state = state_text(state);
             writeln!(lines, "shardscrub: run lost: {number} {state}")

@@ -2,10 +2,10 @@
 //! without one see `fault`.
 
 ghost use Rattle.std.specs.Prelude.{◌≡◌, OnOk};
-ghost use Rattle.scrub_cli.specs.Outcome.{IsOutcomeWith, IsReportedBehind, Warns, lines_before, outcome_of};
-ghost use Rattle.scrub_cli.specs.Outcome.{WarnsWhole, outcome_of_shard, status_of_outcome};
+ghost use Rattle.scrub_cli.specs.Outcome.{IsWarnedOutcome, IsOutcomeWith, IsReportedBehind, Warns};
+ghost use Rattle.scrub_cli.specs.Outcome.{WarnsWhole, lines_before, outcome_of, status_of_outcome};
 
-use crate::process::fault::{Fault, write_line};
+use crate::process::fault::Fault;
 use scrub_report::{WriteFault, write_out};
 use std::io::Write;
 
@@ -16,8 +16,8 @@ pub enum Outcome {
     Clean,
     /// Something was found.
     Findings,
-    /// The bytes of a shard were written, but an index run is lost that may have a newer entry of it.
-    Doubtful,
+    /// The answer was written, and there are these lines for the error stream after it.
+    Warned(Vec<u8>),
     /// All shards were written that can be had, and there are these lines for the error stream.
     Remarked(Vec<u8>),
 }
@@ -34,14 +34,14 @@ impl Outcome {
         }
     }
 
-    /// The outcome of the bytes of a shard, whose entry is doubtful or isn't.
-    pub fn of_shard(is_doubtful: bool) -> Outcome
-        ensures { result ≡ outcome_of_shard is_doubtful }
+    /// The outcome of what is clean, or has findings, with these lines for the error stream after the answer.
+    pub fn warned(lines: Vec<u8>, is_clean: bool) -> Outcome
+        ensures { IsWarnedOutcome is_clean lines.items result }
     {
-        if is_doubtful {
-            Outcome::Doubtful
+        if lines.is_empty() {
+            Outcome::of(is_clean)
         } else {
-            Outcome::Clean
+            Outcome::Warned(lines)
         }
     }
 
@@ -62,20 +62,18 @@ impl Outcome {
     {
         match self {
             Outcome::Clean => 0,
-            Outcome::Findings | Outcome::Doubtful | Outcome::Remarked(_) => 1,
+            Outcome::Findings | Outcome::Warned(_) | Outcome::Remarked(_) => 1,
         }
     }
 
-    /// Reports on the error stream what the outcome says: that a newer entry may be lost, or its lines. A
-    /// fault says that the error stream failed.
+    /// Reports the outcome's lines on the error stream. A fault says that the error stream failed.
     pub fn warn<E: Write>(&self, err: &mut E) -> Result<(), WriteFault>
         ensures front { Warns self.now (E.contents err.old, E.contents err.new) }
         ensures whole { OnOk result (WarnsWhole self.now (E.contents err.old, E.contents err.new)) }
     {
         match self {
             Outcome::Clean | Outcome::Findings => Ok(()),
-            Outcome::Doubtful => write_line(err, "a newer entry may be lost", ""),
-            Outcome::Remarked(lines) => write_out(err, lines),
+            Outcome::Warned(lines) | Outcome::Remarked(lines) => write_out(err, lines),
         }
     }
 
@@ -85,7 +83,7 @@ impl Outcome {
     {
         match self {
             Outcome::Remarked(lines) => lines.as_slice(),
-            Outcome::Clean | Outcome::Findings | Outcome::Doubtful => &[],
+            Outcome::Clean | Outcome::Findings | Outcome::Warned(_) => &[],
         }
     }
 

@@ -1,6 +1,5 @@
 -- The locators of shards, by the order of the identifiers of these.
-use Rattle.std.specs.Prelude.{◌≡◌, ◌++◌, ◌==◌, ℕ, AllPairs, Bool, List, Option, None, Some, map, not, if◌then◌else◌}
-use Rattle.std.specs.Prelude.{length as len}
+use Rattle.std.specs.Prelude.{◌≡◌, ◌++◌, ℕ, AllPairs, Contains, List, Option, None, Some, map, if◌then◌else◌}
 use Rattle.std.specs.Ordering.{is_lt, is_le}
 use Rattle.std.specs.List.Sorted.{IsPartitionedBy}
 use Rattle.std.specs.declared.cmp.Ordering.{Ordering}
@@ -16,6 +15,9 @@ use Rattle.scrub_check.specs.declared.statuses.checked.Checked.{Checked}
 use Rattle.scrub_check.specs.Checked.{is_dangling, named_of}
 use Rattle.scrub_check.specs.Named.{named_locators}
 use Rattle.scrub_check.specs.Spares.{spares_by}
+use Rattle.scrub_loose.specs.declared.copies.BestCopy.{BestCopy}
+use Rattle.scrub_loose.specs.Copies.{CopiesValue, loose_by}
+use Rattle.scrub_loose.specs.Loose.{best_among, best_of}
 use Rattle.scrub_listings.specs.Manifest.{numbered_text}
 use Rattle.scrub_scan.specs.declared.standing.Standing.{Standing}
 use Rattle.scrub_scan.specs.Scanned.{Scanned}
@@ -36,14 +38,22 @@ pub record AreNamedBy (runs : List Locator) (checked : List Checked) (bindings :
   pub same : map named_of checked ≡ named_locators runs bindings
   pub rising : AllPairs (λ b c. IsBelow b.id c.id) bindings
 
--- the line of a shard's locator of this number up to the word for spares, by what was scanned
+-- the line of a shard's locator of this number up to its last word, by what was scanned
 abbrev pub stem_text : List Scanned → ℕ → Checked → List ℕ
 stem_text all number c = numbered_text number c ++ place_or_form all c
 
--- whether a locator has spares among these chunks, if it dangles
-abbrev pub has_spares_among : List Standing → Checked → Option Bool
-has_spares_among found c = if is_dangling c.status then Some (not (len (spares_by found c) == 0)) else None
+-- the best copy of a locator among those that the code keeps
+abbrev pub best_by : CopiesValue → Checked → BestCopy
+best_by v c = best_among (spares_by v.spares c) (loose_by v c)
 
--- the line of a shard's locator of this number, by what was scanned and the chunks among which the spares are
-abbrev pub row_among : List Scanned → List Standing → ℕ → Checked → RowValue
-row_among all found = row_by (spares_by found) all
+-- the same, if the locator dangles
+abbrev pub best_if_dangling : CopiesValue → Checked → Option BestCopy
+best_if_dangling v c = if is_dangling c.status then Some (best_by v c) else None
+
+-- the line of a shard's locator of this number, by what was scanned and the copies among which its own are
+abbrev pub row_among : List Scanned → CopiesValue → ℕ → Checked → RowValue
+row_among all v = row_by (best_by v) all
+
+-- the best copy of each of these named locators is that by what was scanned and these loose frames
+abbrev pub AreBestBy : List Scanned → List Checked → List Standing → CopiesValue → Type 0
+AreBestBy all checked loose v = (c : Checked) → Contains checked c → best_by v c ≡ best_of all loose c

@@ -5,12 +5,14 @@ use Rattle.scrub_disk.specs.Image.{Image}
 use Rattle.scrub_super.specs.declared.pages.SuperblockPage.{SuperblockPage}
 use Rattle.scrub_check.specs.Candidates.{AreCandidates, CandidateValue}
 use Rattle.scrub_check.specs.steps.LocatorIndex.{IsLocatorIndex}
+use Rattle.scrub_loose.specs.Loose.{AreCopies, LooseValue}
 use Rattle.scrub_found.specs.Judged.{AreJudgedBut, run_states}
 use Rattle.scrub_reclaim.specs.declared.doubts.Doubt.{Doubt}
 use Rattle.scrub_reclaim.specs.declared.gathered.Gathered.{Gathered}
 use Rattle.scrub_reclaim.specs.Doubts.{doubts_in}
 use Rattle.scrub_reclaim.specs.Reclaimable.{all_candidate_lines}
 use Rattle.scrub_reclaim.specs.Room.{room_lines}
+use Rattle.scrub_reclaim.specs.steps.KeptCopies.{AreKept}
 
 module _ {D : Type 0} where
   -- the index is that of the judged locators, and the listed extents are those of the candidates, in some order
@@ -23,23 +25,28 @@ module _ {D : Type 0} where
     pub judged : AreJudgedBut [] image g.judged
     pub lists : AreLists g
     pub candidates : AreCandidates g.judged.scan.plan g.judged.scan.all.extents g.judged.checked.items g.judged.in_doubt g.candidates.items
+    pub copies : AreCopies [] image g.judged.scan.plan g.judged.scan.all.extents g.judged.checked.items g.copies
 
-  -- the doubts of what is gathered, with these pages of extent 0
-  abbrev pub doubts_of : Option ℕ → List SuperblockPage → Gathered D → List Doubt
-  doubts_of last pages g =
+  -- the copies that were gathered are kept of a disk with these loose frames
+  abbrev pub AreKeptOf : LooseValue → Gathered D → Type 0
+  AreKeptOf loose g = AreKept g.judged.scan.all.extents g.judged.checked.items loose g.copies
+
+  -- the doubts of what is gathered, with these pages of extent 0 and these loose frames
+  abbrev pub doubts_of : Option ℕ → List SuperblockPage → LooseValue → Gathered D → List Doubt
+  doubts_of last pages loose g =
       doubts_in g.judged.scan.chosen last pages (run_states g.judged.runs.items) g.judged.scan.plan.geometry.page
-      g.judged.scan.all.extents g.judged.checked.items g.candidates.items
+      g.judged.scan.all.extents loose g.judged.checked.items g.candidates.items
 
   -- the extents to reclaim: all candidates if it is clear, or else none
   abbrev pub listed_if : Bool → Gathered D → List CandidateValue
   listed_if clear g = if clear then g.candidates.items else []
 
   -- the lines of the extents with room, if there are extents to reclaim, or else nothing
-  abbrev pub rooms_if : Bool → Gathered D → List ℕ
-  rooms_if clear g =
+  abbrev pub rooms_if : Bool → LooseValue → Gathered D → List ℕ
+  rooms_if clear loose g =
       if length (listed_if clear g) == 0 then []
-      else room_lines g.judged.scan.plan.geometry g.judged.scan.all.extents g.judged.checked.items (listed_if clear g)
+      else room_lines g.judged.scan.plan.geometry g.judged.scan.all.extents loose g.judged.checked.items (listed_if clear g)
 
   -- the lines of the extents to reclaim, and then those of the extents with room
-  abbrev pub lines_if : Bool → Gathered D → List ℕ
-  lines_if clear g = all_candidate_lines g.judged.checked.items (listed_if clear g) ++ rooms_if clear g
+  abbrev pub lines_if : Bool → LooseValue → Gathered D → List ℕ
+  lines_if clear loose g = all_candidate_lines g.judged.checked.items (listed_if clear g) ++ rooms_if clear loose g

@@ -45,7 +45,7 @@ pub(crate) fn shard_on<D: PageSource, G: Gate, R: Threads + Wait + Sync>(
     requires { workers ≤ 64 }
 {
     match read_shard(rt, alloc, disk, workers, gate, id) {
-        Ok(found) => Ok(found),
+        Ok((found, takings)) => Ok((found.answer, takings)),
         Err(ScrubFault::OutOfMemory) => Err(Fail::from("out of memory")),
     }
 }
@@ -102,7 +102,8 @@ fn check_asked<R: Threads + Wait + Abort + Sync>(
     Ok(())
 }
 
-/// The scan asks for each of eight pages once.
+/// The scan asks for each of eight pages once. So does the search for loose copies, which only a lost payload
+/// starts.
 #[test]
 fn of_the_copies_the_first_is_read_and_none_if_a_payload_is_lost(
     rt: HostRuntime,
@@ -116,6 +117,6 @@ fn of_the_copies_the_first_is_read_and_none_if_a_payload_is_lost(
         rt.alloc(),
         &[sound, abc_at(1, 0), lost],
         Expected::PayloadLost(2),
-        [8, 8, 8],
+        [16, 16, 16],
     )
 }

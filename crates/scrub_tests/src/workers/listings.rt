@@ -73,7 +73,14 @@ fn answer<D: PageSource, G: Gate, R: Threads + Wait + Sync>(
             let acceptance = Acceptance::new(NONE, None);
             list_reclaimable(rt, alloc, disk, workers, gate, &acceptance)?
         }
-        Which::Manifest => list_manifest(rt, alloc, disk, workers, gate, &[])?,
+        Which::Manifest => {
+            let (manifest, takings) = list_manifest(rt, alloc, disk, workers, gate, &[])?;
+            let listing = scrub_listings::Listing {
+                text: manifest.text,
+                is_clean: manifest.is_clean,
+            };
+            (listing, takings)
+        }
         Which::Summary => list_summary(rt, alloc, disk, workers, gate, None)?,
     };
     Ok(Listing {

@@ -8,10 +8,10 @@ use Rattle.scrub_compare.specs.Compare.{Compared, both_of, changes, doubts_of_bo
 use Rattle.scrub_compare.proofs.comparing.compare.Goals as goal
 
 pub append_manifest_changes-requires-clause-old : goal.append_manifest_changes-requires-clause-old
-append_manifest_changes-requires-clause-old g c κs within = ([], g.D.PageSource.image c.args.before.now, c.in_ok-found.ensures.judged)
+append_manifest_changes-requires-clause-old g c κs within = c.in_ok-found.ensures.judged
 
 pub append_manifest_changes-requires-clause-new : goal.append_manifest_changes-requires-clause-new
-append_manifest_changes-requires-clause-new g c κs within = (c.args.resets.now, g.E.PageSource.image c.args.after.now, c.in_ok-kept.ensures)
+append_manifest_changes-requires-clause-new g c κs within = c.in_ok-kept.ensures
 
 pub returns-clause-comparison : goal.returns-clause-comparison
 returns-clause-comparison g c =
@@ -33,19 +33,21 @@ returns-clause-comparison g c =
       found = found_in c.in_ok-found.found beside_p;
       rest = found_in c.in_ok-rest.rest beside_q;
       kept = found_in c.in_ok-kept.kept beside_r;
+      loose = manifest.0;
+      loose_now = manifest.2;
       pages = c.in_ok-found.pages.items;
       pages_now = c.in_ok-rest.pages_now.items;
       first = extents.0;
       firsts = extents.2;
-      ids = manifest.0;
+      ids = manifest.4;
     } in
     let doubts : string_bytes c.in_ok-doubts.doubts ≡ doubts_of_both compared =
     c.in_ok-doubts.ensures before after beside_p beside_q found_p found_q
     ∙ (λ i. firm_lines (codes "before") (c.deref.ensures.value i) compared.found ++ firm_lines (codes "after") (c.deref-2.ensures.value i) compared.rest) in
     let others : c.deref-4.result.now ≡ changes resets compared =
     c.deref-4.ensures
-    ∙ manifest.2
-    ∙ ap (λ (u : List ℕ). u ++ manifest_changes compared.found compared.kept compared.ids) extents.4 in
+    ∙ manifest.6
+    ∙ ap (λ (u : List ℕ). u ++ manifest_changes compared.found compared.kept compared.loose.frames compared.loose_now.frames compared.ids) extents.4 in
     let generations : c.both_of-generations.result ≡ generations_in compared =
     c.both_of-generations.ensures ∙ (λ i. both_of (c.generation_of.ensures i) (c.generation_of-2.ensures i)) in
     record {
@@ -54,11 +56,13 @@ returns-clause-comparison g c =
         found = found_p.scrubbed;
         rest = found_q.scrubbed;
         kept = found_r.scrubbed;
+        loose = manifest.1;
+        loose_now = manifest.3;
         pages = c.in_ok-found.ensures.pages;
         pages_now = c.in_ok-rest.ensures.pages;
         first = extents.1;
         firsts = extents.3;
-        ids = manifest.1;
+        ids = manifest.5;
       };
       text_is = c.in_ok-listing.ensures.text ∙ (λ i. whole_text (doubts i) (others i) (generations i));
       verdict = c.in_ok-listing.ensures.safe ∙ (λ i. is_safe_by (doubts i) (others i) (generations i));

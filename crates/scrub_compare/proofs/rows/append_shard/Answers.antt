@@ -10,8 +10,8 @@ use Rattle.scrub_compare.proofs.rows.append_shard.Goals as goal
 
 pub loop-number-preserved : goal.loop-number-preserved
 loop-number-preserved g c =
-    let row = row_among c.args.before.now.all.now.extents c.args.before.now.spares.now in
-    let row_now = row_among c.args.after.now.all.now.extents c.args.after.now.spares.now in
+    let row = row_among c.args.before.now.all.now.extents c.args.before.now.copies.now in
+    let row_now = row_among c.args.after.now.all.now.extents c.args.after.now.copies.now in
     let part : ℕ → List ℕ = λ n. change (numbered row c.args.own.now n) (numbered row_now c.args.own_now.now n) in
     let most = max (length c.args.own.now) (length c.args.own_now.now) in
     let n = c.loop-number.number in
@@ -22,8 +22,8 @@ loop-number-preserved g c =
 
 pub returns : goal.returns
 returns g c =
-    let row = row_among c.args.before.now.all.now.extents c.args.before.now.spares.now in
-    let row_now = row_among c.args.after.now.all.now.extents c.args.after.now.spares.now in
+    let row = row_among c.args.before.now.all.now.extents c.args.before.now.copies.now in
+    let row_now = row_among c.args.after.now.all.now.extents c.args.after.now.copies.now in
     let part : ℕ → List ℕ = λ n. change (numbered row c.args.own.now n) (numbered row_now c.args.own_now.now n) in
     let most = max (length c.args.own.now) (length c.args.own_now.now) in
     flat_all part (string_bytes c.args.text.now) (string_bytes c.loop-number.text) (range_with_len 0 most) c.loop-number.number

@@ -10,4 +10,4 @@ abbrev pub invariant-loop-number : goal.invariant-loop-number
 invariant-loop-number g l =
     string_bytes l.text
     ≡ string_bytes l.fn.text
-    ++ flat_map (λ n. change (numbered (row_among l.before.all.now.extents l.before.spares.now) l.own n) (numbered (row_among l.after.all.now.extents l.after.spares.now) l.own_now n)) (take l.number (range_with_len 0 (max (length l.own) (length l.own_now))))
+    ++ flat_map (λ n. change (numbered (row_among l.before.all.now.extents l.before.copies.now) l.own n) (numbered (row_among l.after.all.now.extents l.after.copies.now) l.own_now n)) (take l.number (range_with_len 0 (max (length l.own) (length l.own_now))))

@@ -11,8 +11,8 @@ use Rattle.scrub_compare.proofs.rows.append_shards.Goals as goal
 
 pub loop-id-preserved : goal.loop-id-preserved
 loop-id-preserved g c =
-    let row = row_among c.args.before.now.all.now.extents c.args.before.now.spares.now in
-    let row_now = row_among c.args.after.now.all.now.extents c.args.after.now.spares.now in
+    let row = row_among c.args.before.now.all.now.extents c.args.before.now.copies.now in
+    let row_now = row_among c.args.after.now.all.now.extents c.args.after.now.copies.now in
     let part : ShardId → List ℕ = λ id. shard_change row row_now (owned_by id c.args.before.now.shards.now) (owned_by id c.args.after.now.shards.now) in
     flat_more part (string_bytes c.args.text.now) (string_bytes c.loop-id.text) (string_bytes c.append_shard.new.text) c.args.ids.now c.loop-id.id-index _ _
     c.loop-id-test.true refl c.loop-id.invariant

@@ -10,4 +10,4 @@ abbrev pub invariant-loop-id : goal.invariant-loop-id
 invariant-loop-id g l =
     string_bytes l.text
     ≡ string_bytes l.fn.text
-    ++ flat_map (λ id. shard_change (row_among l.before.all.now.extents l.before.spares.now) (row_among l.after.all.now.extents l.after.spares.now) (owned_by id l.before.shards.now) (owned_by id l.after.shards.now)) (take l.id-index l.ids)
+    ++ flat_map (λ id. shard_change (row_among l.before.all.now.extents l.before.copies.now) (row_among l.after.all.now.extents l.after.copies.now) (owned_by id l.before.shards.now) (owned_by id l.after.shards.now)) (take l.id-index l.ids)

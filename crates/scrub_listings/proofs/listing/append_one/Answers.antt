@@ -1,15 +1,11 @@
--- The line of the locator, and then that of its spares.
-use Rattle.std.proofs.Common.{◌≡◌, ◌++◌, List, OnOk, subst}
+-- The line of the locator, and then that of its copies.
 use Rattle.std.specs.Prelude.{string_bytes}
-use Rattle.scrub_scan.specs.declared.standing.Standing.{Standing}
-use Rattle.scrub_listings.specs.Locators.{locator_line, spare_line}
+use Rattle.scrub_listings.specs.Locators.{copies_lines, locator_line}
 use Rattle.scrub_listings.proofs.FlatLists.{appended_ok}
 use Rattle.scrub_listings.proofs.listing.append_one.Goals as goal
 
 pub returns : goal.returns
 returns c =
-    let old = string_bytes c.args.text.now in
-    let new = string_bytes c.append_spares.new.text in
-    subst (λ (ss : List Standing). OnOk c.append_spares.result (new ≡ old ++ (locator_line c.args.one.now ++ spare_line ss))) c.of_one.ensures
-    (appended_ok c.append_spares.result old (string_bytes c.append_line.new.text) new (locator_line c.args.one.now) (spare_line c.of_one.result.now)
-    c.in_ok-append_line.ensures c.append_spares.ensures)
+    rw (c.spares_of.ensures, c.loose_of.ensures) at
+    (appended_ok c.append_copies.result (string_bytes c.args.text.now) (string_bytes c.append_line.new.text) (string_bytes c.append_copies.new.text)
+    (locator_line c.args.one.now) (copies_lines c.spares_of.result.now c.loose_of.result.now) c.in_ok-append_line.ensures c.append_copies.ensures)

@@ -6,4 +6,4 @@ use Rattle.scrub_listings.specs.Locators.{lines_by}
 use Rattle.scrub_listings.proofs.listing.locator_lines.Given as goal
 
 abbrev pub invariant-loop-one : goal.invariant-loop-one
-invariant-loop-one l = string_bytes l.text ≡ flat_map (lines_by l.spares) (take l.one-index l.checked)
+invariant-loop-one l = string_bytes l.text ≡ flat_map (lines_by l.copies) (take l.one-index l.checked)

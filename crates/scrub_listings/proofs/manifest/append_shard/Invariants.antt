@@ -8,4 +8,4 @@ use Rattle.scrub_listings.proofs.manifest.append_shard.Given as goal
 
 abbrev pub invariant-loop-number : goal.invariant-loop-number
 invariant-loop-number g l =
-    string_bytes l.text ≡ string_bytes l.fn.text ++ flat_map (line_of (after_status_by l.all.extents l.spares)) (take l.number (enumerate_from 0 l.own))
+    string_bytes l.text ≡ string_bytes l.fn.text ++ flat_map (line_of (after_status_by l.all.extents l.copies)) (take l.number (enumerate_from 0 l.own))

@@ -26,11 +26,11 @@ loop-binding-preserved g c =
           c.loop-binding.invariant.along back;
       lines =
           shard_more c.args.bindings.now i b c.loop-binding-test.true c.binding-item.is
-          (after_status_by c.args.all.now.extents c.args.spares.now) rest c.split_at.result.0.now
+          (after_status_by c.args.all.now.extents c.args.copies.now) rest c.split_at.result.0.now
           c.split_at.result.1.now _ (string_bytes c.loop-binding.text) (string_bytes c.append_shard.new.text) front back
           c.loop-binding.invariant.lines c.in_ok-append_shard.ensures;
     }
 
 pub returns : goal.returns
 returns g c =
-    shards_all (after_status_by c.args.all.now.extents c.args.spares.now) c.args.bindings.now c.args.checked.now c.loop-binding.rest.now c.loop-binding.binding-index (string_bytes c.args.text.now) (string_bytes c.loop-binding.text) c.requires.rising c.requires.along c.loop-binding-test.false c.loop-binding.invariant.lines
+    shards_all (after_status_by c.args.all.now.extents c.args.copies.now) c.args.bindings.now c.args.checked.now c.loop-binding.rest.now c.loop-binding.binding-index (string_bytes c.args.text.now) (string_bytes c.loop-binding.text) c.requires.rising c.requires.along c.loop-binding-test.false c.loop-binding.invariant.lines

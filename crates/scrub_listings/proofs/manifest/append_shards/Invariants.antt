@@ -9,6 +9,6 @@ abbrev pub invariant-loop-binding : goal.invariant-loop-binding
 invariant-loop-binding g l = record {
   along : AreAlong (drop l.binding-index l.bindings) l.rest;
   lines :
-      string_bytes l.text ++ lines_along (after_status_by l.all.extents l.spares) (drop l.binding-index l.bindings) l.rest
-      ≡ string_bytes l.fn.text ++ lines_along (after_status_by l.all.extents l.spares) l.bindings l.checked;
+      string_bytes l.text ++ lines_along (after_status_by l.all.extents l.copies) (drop l.binding-index l.bindings) l.rest
+      ≡ string_bytes l.fn.text ++ lines_along (after_status_by l.all.extents l.copies) l.bindings l.checked;
 }

@@ -1,5 +1,8 @@
-use Rattle.scrub_listings.proofs.Existing.{some_manifest}
+use Rattle.scrub_listings.proofs.Existing.{some_manifest, some_remarked_manifest}
 use Rattle.scrub_listings.proofs.manifest.each_image_has_a_manifest.Goals as goal
 
-pub returns : goal.returns
-returns c = some_manifest
+pub returns-clause-text : goal.returns-clause-text
+returns-clause-text c = some_manifest
+
+pub returns-clause-remarked : goal.returns-clause-remarked
+returns-clause-remarked c = some_remarked_manifest

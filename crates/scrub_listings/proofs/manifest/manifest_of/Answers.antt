@@ -9,6 +9,7 @@ use Rattle.scrub_found.specs.declared.runs.RunRow.{RunRow}
 use Rattle.scrub_found.specs.Judged.{Beside, IsFoundBut, found_in}
 use Rattle.scrub_found.specs.Scrubbed.{Scrubbed}
 use Rattle.scrub_found.proofs.FoundBeside.{all_beside, found_beside}
+use Rattle.scrub_loose.specs.Loose.{AreCopies}
 use Rattle.scrub_listings.specs.Manifest.{after_status_in, hidden_runs, is_whole_by, lost_runs, of_shards, text_by}
 use Rattle.scrub_listings.specs.steps.Manifest.{after_status_by, is_of_read_row}
 use Rattle.scrub_listings.proofs.AfterStatus.{AreAfterAlike, found_alike, text_alike}
@@ -17,29 +18,33 @@ use Rattle.scrub_listings.proofs.ShardLines.{along_runs, runs_fit, shards_part}
 use Rattle.scrub_listings.proofs.manifest.manifest_of.Goals as goal
 
 pub judged_of-requires-after_bounds : goal.judged_of-requires-after_bounds
-judged_of-requires-after_bounds g c κs within = c.requires.1.whole
+judged_of-requires-after_bounds g c κs within = c.requires.whole
+
+pub of-requires-after_bounds : goal.of-requires-after_bounds
+of-requires-after_bounds g c κs within = (c.in_ok-judged.ensures c.args.resets.now c.requires).scanned.whole
 
 pub split_at-requires : goal.split_at-requires
 split_at-requires g c =
     let judged = c.in_ok-judged.judged in
     rw (c.runs.ensures.runs, c.deref.ensures.value)
-    (runs_fit judged.scan.plan.runs judged.map judged.checked.items (c.in_ok-judged.ensures c.requires.0 c.requires.1).checked.same)
+    (runs_fit judged.scan.plan.runs judged.map judged.checked.items (c.in_ok-judged.ensures c.args.resets.now c.requires).checked.same)
 
 pub text_by-requires-clause-along : goal.text_by-requires-clause-along
 text_by-requires-clause-along g c κs within =
     let judged = c.in_ok-judged.judged in
     rw (c.split_at.ensures.back, c.runs.ensures.runs, c.deref.ensures.value, c.bindings.ensures.bindings)
-    (along_runs judged.scan.plan.runs judged.map judged.checked.items (c.in_ok-judged.ensures c.requires.0 c.requires.1).checked.same)
+    (along_runs judged.scan.plan.runs judged.map judged.checked.items (c.in_ok-judged.ensures c.args.resets.now c.requires).checked.same)
 
 pub returns : goal.returns
-returns g c = λ resets scanned.
+returns g c =
+    let resets = c.args.resets.now in
     let judged = c.in_ok-judged.judged in
     let map = judged.map in
     let all = judged.scan.all.extents in
     let checked = judged.checked.items in
-    let spares = c.in_ok-spares.spares in
+    let copies = c.in_ok-copies.copies in
     let image = g.D.PageSource.image c.args.scan.disk.now in
-    let are = c.in_ok-judged.ensures resets scanned in
+    let are = c.in_ok-judged.ensures resets c.requires in
     let b : Beside = all_beside resets image judged are in
     let is : IsFoundBut resets image judged b = found_beside resets image judged are in
     let found : Scrubbed = found_in judged b in
@@ -56,17 +61,21 @@ returns g c = λ resets scanned.
     c.split_at.ensures.back
     ∙ (λ i. drop (length (c.runs.ensures.runs i)) (c.deref.ensures.value i))
     ∙ sym (shards_part judged.scan.plan.runs map checked is.scrubbed.checked.same) in
-    let spares_are : AreAfterAlike (after_status_by all spares) (after_status_in all) (of_shards checked) =
-    found_alike all checked spares (rw c.deref-2.ensures.value at c.in_ok-spares.ensures) in
+    let copies_are : AreCopies resets image judged.scan.plan all checked copies = rw c.deref-2.ensures.value at c.in_ok-copies.ensures in
+    let loose = copies_are.found.frames in
+    let alike : AreAfterAlike (after_status_by all copies) (after_status_in all loose) (of_shards checked) =
+    found_alike resets image judged.scan.plan all checked copies copies_are in
     record {
       found = found;
       scrubbed = is.scrubbed;
+      loose = copies_are.found;
+      are_loose = copies_are.are;
       text_is =
           ap (λ (v : Vec ℕ Global). v.items) c.into_bytes.ensures.value
           ∙ c.in_ok-text.ensures
-          ∙ (λ i. text_by (after_status_by all spares) judged.scan.plan.has_superblock judged.scan.plan.retired (lost_is i) (hidden_is i) (c.bindings.ensures.bindings i) (shards_are i))
-          ∙ text_alike (after_status_by all spares) (after_status_in all) judged.scan.plan.has_superblock
-          judged.scan.plan.retired (lost_runs found) (hidden_runs found) map (of_shards checked) spares_are;
+          ∙ (λ i. text_by (after_status_by all copies) judged.scan.plan.has_superblock judged.scan.plan.retired (lost_is i) (hidden_is i) (c.bindings.ensures.bindings i) (shards_are i))
+          ∙ text_alike (after_status_by all copies) (after_status_in all loose) judged.scan.plan.has_superblock
+          judged.scan.plan.retired (lost_runs found) (hidden_runs found) map (of_shards checked) alike;
       verdict =
           c.is_whole_by-is_clean.ensures
           ∙ (λ i. is_whole_by judged.scan.plan.has_superblock (lost_is i) (hidden_is i) (shards_are i));

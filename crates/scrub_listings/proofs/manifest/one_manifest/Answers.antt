@@ -1,6 +1,9 @@
 -- What is found on an image is unique.
-use Rattle.scrub_listings.proofs.OneListing.{one_manifest_lem}
+use Rattle.scrub_listings.proofs.OneListing.{one_manifest_lem, one_remarked_lem}
 use Rattle.scrub_listings.proofs.manifest.one_manifest.Goals as goal
 
-pub returns : goal.returns
-returns c = one_manifest_lem
+pub returns-clause-text : goal.returns-clause-text
+returns-clause-text c = one_manifest_lem
+
+pub returns-clause-remarked : goal.returns-clause-remarked
+returns-clause-remarked c = one_remarked_lem

@@ -7,13 +7,13 @@ use Rattle.scrub_reclaim.proofs.RoomLines.{passed_over, taken_in}
 use Rattle.scrub_reclaim.proofs.room.append_room_where.Goals as goal
 
 pub returns-then-not-is_listed_as : goal.returns-then-not-is_listed_as
-returns-then-not-is_listed_as g c checked are =
-    passed_over c.args.is_listed c.args.geometry checked c.args.listed.now (scanned c.args.found.now) c.is_listed_as.result (string_bytes c.args.text.now)
+returns-then-not-is_listed_as g c extents loose checked are =
+    passed_over c.args.is_listed c.args.geometry extents loose checked c.args.listed.now (scanned c.args.found.now) c.is_listed_as.result (string_bytes c.args.text.now)
     (c.is_listed_as.ensures ∙ ap (is_listed_as c.args.is_listed c.args.listed.now) c.extent.ensures) c.if-not-is_listed_as.true
 
 pub returns : goal.returns
-returns g c checked are =
+returns g c extents loose checked are =
     subst (λ (part : List ℕ). OnOk c.append_room_if.result (string_bytes c.append_room_if.new.text ≡ string_bytes c.args.text.now ++ part))
-    (taken_in c.args.is_listed c.args.geometry checked c.args.listed.now (scanned c.args.found.now) c.is_listed_as.result
+    (taken_in c.args.is_listed c.args.geometry extents loose checked c.args.listed.now (scanned c.args.found.now) c.is_listed_as.result
     (c.is_listed_as.ensures ∙ ap (is_listed_as c.args.is_listed c.args.listed.now) c.extent.ensures) c.if-not-is_listed_as.false)
-    (c.append_room_if.ensures checked are)
+    (c.append_room_if.ensures extents loose checked are)

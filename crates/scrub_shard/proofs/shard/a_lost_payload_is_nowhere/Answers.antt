@@ -1,5 +1,5 @@
--- A locator without a spare asks for what is nowhere.
-use Rattle.scrub_shard.proofs.Contents.{lost_is_nowhere}
+-- A locator without a copy asks for what is nowhere, and what is nowhere has none.
+use Rattle.scrub_shard.proofs.Nowhere.{lost_is_nowhere}
 use Rattle.scrub_shard.proofs.shard.a_lost_payload_is_nowhere.Goals as goal
 
 pub returns : goal.returns

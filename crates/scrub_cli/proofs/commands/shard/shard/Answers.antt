@@ -1,11 +1,13 @@
 -- Each way out of `shard`, in the order of the code.
-use Rattle.std.proofs.Common.{refl}
+use Rattle.std.proofs.Common.{◌≡◌, ◌∙◌, List, ℕ, Vec, Global, ap, refl}
 use Rattle.std.proofs.lemmas.Result.{err_from_is_err_and}
 use Rattle.scrub_disk.specs.Parted.{image_of}
+use Rattle.scrub_listings.specs.declared.remarks.SuperblockRemark.{SuperblockRemark}
 use Rattle.scrub_args.specs.declared.args.ShardArgs.{ShardArgs}
 use Rattle.scrub_cli.specs.KnownFiles.{KnownMaps, KnownRaw}
+use Rattle.scrub_cli.specs.Remarks.{shard_lines}
 use Rattle.scrub_cli.specs.Shard.{IsNamed, IsShardRead}
-use Rattle.scrub_cli.proofs.ShardAnswers.{lost_fault, shard_disk_fault, shard_geometry_fault}
+use Rattle.scrub_cli.proofs.ShardAnswers.{lost_fault, shard_disk_fault, shard_geometry_fault, written_with}
 use Rattle.scrub_cli.proofs.commands.shard.shard.Given.{Over}
 use Rattle.scrub_cli.proofs.commands.shard.shard.Goals as goal
 
@@ -42,7 +44,7 @@ returns-in_err-bytes_of-clause-answer g c =
     let args = c.args.args.now in
     let known = g.I.Images.known c.args.images.now args.scan.image.name.now in
     let maps = g.I.Images.known_map c.args.images.now in
-    let is_read : IsShardRead known maps args (image_of c.in_ok-disk.disk) c.in_ok-found.found = record {
+    let is_read : IsShardRead known maps args (image_of c.in_ok-disk.disk) c.in_ok-found.found.answer = record {
       geometry = c.in_ok-geometry.geometry;
       id = c.in-Some.id;
       named = record { sizes = c.in_ok-geometry.ensures.geometry; id_is = c.in-Some.ensures };
@@ -51,7 +53,7 @@ returns-in_err-bytes_of-clause-answer g c =
     } in
     let p = err_from_is_err_and c.from_residual-in_err-bytes_of.result c.from_residual-in_err-bytes_of.ensures.1 in
     rw (p.1, p.2)
-    (lost_fault known maps args (image_of c.in_ok-disk.disk) c.in_ok-found.found c.in_err-bytes_of.field-0.0 is_read
+    (lost_fault known maps args (image_of c.in_ok-disk.disk) c.in_ok-found.found.answer c.in_err-bytes_of.field-0.0 is_read
     c.in_err-bytes_of.ensures)
 
 -- the bytes of the shard are written
@@ -65,7 +67,7 @@ module _ (g : Over) (c : goal.After-drop-disk-3 g) where
   abbrev maps_of : KnownMaps
   maps_of = g.I.Images.known_map c.args.images.now
 
-  is_read : IsShardRead known_of maps_of args_of (image_of c.in_ok-disk.disk) c.in_ok-found.found
+  is_read : IsShardRead known_of maps_of args_of (image_of c.in_ok-disk.disk) c.in_ok-found.found.answer
   is_read = record {
     geometry = c.in_ok-geometry.geometry;
     id = c.in-Some.id;
@@ -74,19 +76,29 @@ module _ (g : Over) (c : goal.After-drop-disk-3 g) where
     answered = c.in_ok-found.ensures.shard;
   }
 
+  lines_are : c.into_bytes.result.items ≡ shard_lines c.in_ok-found.found.remarks.items c.in_ok-found.found.answer
+  lines_are =
+      ap (λ (v : Vec ℕ Global). v.items) c.into_bytes.ensures.value
+      ∙ c.in_ok-lines.ensures
+      ∙ ap (λ (rs : List SuperblockRemark). shard_lines rs c.in_ok-found.found.answer) c.deref.ensures.value
+
 pub returns-clause-answer : goal.returns-clause-answer
 returns-clause-answer g c = record {
   image = image_of c.in_ok-disk.disk;
-  answer = c.in_ok-found.found;
+  answer = c.in_ok-found.found.answer;
   is_read = is_read g c;
-  written = c.in_ok-bytes_of.ensures;
+  remarks = c.in_ok-found.found.remarks.items;
+  are_remarks = c.in_ok-found.ensures.remarks;
+  written = written_with c.in_ok-found.found.answer _ _ _ _ (lines_are g c) c.in_ok-bytes_of.ensures;
 }
 
 pub returns-clause-takings : goal.returns-clause-takings
 returns-clause-takings g c = record {
   image = image_of c.in_ok-disk.disk;
-  answer = c.in_ok-found.found;
+  answer = c.in_ok-found.found.answer;
   is_read = is_read g c;
-  written = c.in_ok-bytes_of.ensures;
+  remarks = c.in_ok-found.found.remarks.items;
+  are_remarks = c.in_ok-found.ensures.remarks;
+  written = written_with c.in_ok-found.found.answer _ _ _ _ (lines_are g c) c.in_ok-bytes_of.ensures;
   taken = c.in_ok-found.ensures.takings;
 }

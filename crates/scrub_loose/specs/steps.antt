@@ -1,0 +1,4 @@
+-- Steps of the code.
+pub mod Held
+pub mod Search
+pub mod Asked
