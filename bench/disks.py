@@ -14,6 +14,8 @@ small     payloads of 100 bytes in extents of 8 MiB, shards of one chunk with ra
 damaged   payloads of 64 KiB to 1 MiB that fill pages of 64 KiB, no superblock; every tenth chunk has a wrong last byte, and every
           50th page is unreadable. A disk that was never written: all zero. All zero except for a superblock.
 hostile   disks and files that are made to cost much (bench/hostile.py), each beside a clean one of the same size.
+copies    `manifest` of a disk as the first one of `large`, and of one with a lost payload, of which copies are looked for at each byte;
+          and of extents that make this search dear (bench/hostile.py), beside one without a frame.
 items     `items` of an extent of 64 MiB full of frames, and of one with heads without frames. These have limits: a share of
           sha256sum's time, and of memory.
 growth    only if it is asked for: disks of a shape with 1, 2, 4 and 8 times the items, whatever --mib says. `Of the first one's` stays near
@@ -59,6 +61,8 @@ KINDS = {
     "damaged": scans(kinds.damage, kinds.zeros, kinds.unwritten),
     "hostile": [[Subject(name, make) for name, make in group.items()] for group in hostile.GROUPS]
                + [[Subject(name, make, "sizes") for name, make in hostile.FILES.items()]],
+    "copies": [[Subject("no payload lost", kinds.no_payload_lost, "manifest"), Subject("one payload lost", kinds.one_payload_lost, "manifest")],
+               [Subject(name, make, "manifest") for name, make in hostile.SEARCHED.items()]],
     "items": [[Subject("frames end to end", kinds.frames_end_to_end, "items", 0.95)],
               [Subject("heads without frames", kinds.heads_without_frames, "items", 0.5)]],
     "growth": [[Subject(f"{name} x{times}", partial(make, times=times)) for times in kinds.TIMES] for name, make in kinds.SHAPES.items()],

@@ -17,6 +17,15 @@ hashed: that is the price of the sealed form. It grows with the square of the nu
 The last disks have extents of 8 MiB in pages of 4,096 bytes. In the payload of a chunk of 4 MB begin other chunks, which are no
 items. An index run names one of them 6,400 times, or 200 of them 32 times each. Each place is hashed.
 
+Then there are disks for `manifest` whose first extent has 64 MiB in pages of 1,024 bytes, all past the write pointer. A payload is lost,
+and frames of its length are looked for at each byte.
+
+no frame                  the extent has other bytes;
+a frame at each 5th byte  each has a payload of 312,670 bytes. Together these are far more than four times the extent, so it is crowded,
+                          and nothing is hashed; 4 TB would be;
+four over each other      frames of 16,384 bytes, one at each 4,096th byte. Their payloads are a little less than four times the extent,
+                          so it isn't crowded, and each is hashed.
+
 The files for `sizes` have 64 MiB. One of them has a superblock and zeros, for comparison:
 
 forged records   the most bytes to hash. The head of a record is wherever one may begin: at each multiple of 64 in the first
@@ -30,8 +39,8 @@ forged pointers  heads at the same places. Each claims as many extents as its pl
 from collections.abc import Callable
 from typing import NamedTuple
 
-from lib.disks import (CLOSING_MARK, DIGEST, HEAD, KIB, MIB, ROUND_PAYLOAD, ROUND_SEALED, SEALED_MAGIC, DiskFile, fields, frame, head,
-                       locator, record, record_head)
+from lib.disks import (CLOSING_MARK, DIGEST, HEAD, KIB, LOCATOR, MAGIC, MIB, ROUND_PAYLOAD, ROUND_SEALED, SEALED_MAGIC, DiskFile, be, fields,
+                       frame, head, locator, record, record_head)
 
 from kinds import LEAST_LARGE, MOST_LARGE
 
@@ -104,6 +113,26 @@ def hidden_places(file, page, pages, count, times):
     named, shards = disk.put_runs(locators * times, 1, MOST_LOCATORS)
     disk.put_superblock(named)
     return disk.made(status=1, clean=False, shards=shards, hidden=count * times, orphans=1, live=disk.pointers[1])
+
+
+# A frame with a payload of this length begins with each repetition: its length is the last two bytes and the first two of the next one.
+EACH_FIFTH, FIFTH_LENGTH = MAGIC + b"." + be(2, 4), 312_670
+# Frames of 16 KiB, each 4 KiB behind the one before it.
+QUARTER = 4 * KIB
+FOUR_LENGTH = 4 * QUARTER - ROUND_PAYLOAD
+FOUR_OVER = head(ALL_HEADS, FOUR_LENGTH) + b"x" * (QUARTER - ROUND_PAYLOAD) + ALL_HEADS
+
+
+def searched(file, page, pages, text, length, hashed):
+    """An extent that has these bytes again and again, past its pointer. A run in the next extent names a payload of this length, which
+    isn't there. So many bytes of payloads with that length are in frames that have to be hashed."""
+    disk = DiskFile(file, page, pages, 3)
+    disk.next_extent()
+    disk.file.write((text * (disk.extent_bytes // len(text) + 1))[:disk.extent_bytes])
+    named, _ = disk.put_runs([LOCATOR.pack(1, 0, length, NO_HEAD, bytes(DIGEST))], 1, 1)
+    disk.put_superblock(named)
+    disk.hashed += hashed
+    return disk.made() | {"right": {"status": 1, "none": 1}}
 
 
 def places():
@@ -201,6 +230,12 @@ SIZES = (
 GROUPS = [{f"clean, {page * pages // MIB} MiB": HostileDisk(clean, (page, pages)),
            **{name: HostileDisk(kind, (page, pages, *given)) for name, (kind, *given) in disks.items()}}
           for page, pages, disks in SIZES]
+# The same for `manifest`.
+SEARCHED = {name: HostileDisk(searched, (KIB, PAGES, *given)) for name, given in {
+    "no frame": (b"x", FOUR_LENGTH, 0),
+    "a frame at each 5th byte": (EACH_FIFTH, FIFTH_LENGTH, 0),
+    "four over each other": (FOUR_OVER, FOUR_LENGTH, (KIB * PAGES // QUARTER - 3) * FOUR_LENGTH),
+}.items()}
 FILES = {
     "one record": FileForSizes(one_record, 0, "0 SSB2 1 1024 65536 2\n"),
     "forged records": FileForSizes(forged_records, 1, ""),

@@ -1,8 +1,8 @@
-"""Makes disks to measure: large ones, many small chunks, damage, zeros, and two extents for `items`. MIB is the size of a disk. Then disks
-of several shapes, each with 1, 2, 4 and 8 times the items, whose size follows from that."""
+"""Makes disks to measure: large ones, also with a lost payload, many small chunks, damage, zeros, and two extents for `items`. MIB is the
+size of a disk. Then disks of several shapes, each with 1, 2, 4 and 8 times the items, whose size follows from that."""
 import os
 
-from lib.disks import KIB, MIB, ROUND_PAYLOAD, Disk, DiskFile, frame, head, locator, run, shard, uuid
+from lib.disks import HEAD, KIB, MIB, ROUND_PAYLOAD, Disk, DiskFile, frame, head, locator, run, shard, uuid
 
 LEAST_LARGE, MOST_LARGE = 64 * KIB, MIB
 SMALL_PAYLOAD = 100
@@ -23,6 +23,20 @@ def named(file, mib, extent_mib, runs, least, most, shard=8, half_sealed=False):
 
 def large(file, mib, extent_mib=4, runs=4):
     return named(file, mib, extent_mib, runs, LEAST_LARGE, MOST_LARGE)
+
+
+def no_payload_lost(file, mib):
+    return large(file, mib) | {"right": {"status": 0, "none": 0}}
+
+
+def one_payload_lost(file, mib):
+    """The same, but a bit of the first chunk is flipped."""
+    made, place = large(file, mib), 4 * MIB + HEAD
+    file.seek(place)
+    byte = file.read(1)[0]
+    file.seek(place)
+    file.write(bytes([byte ^ 1]))
+    return made | {"right": {"status": 1, "none": 1}}
 
 
 def half_sealed(file, mib):

@@ -66,6 +66,9 @@ def judge(command, path, status):
     if command == "items":
         kinds = Counter(line.split(" ")[0] for line in text.splitlines())
         return counts | {"items": kinds.total()} | kinds
+    if command == "manifest":
+        last = Counter(line.split(" ")[-1] for line in text.splitlines())
+        return counts | {word: last[word] for word in ("spare", "loose", "none")} | {"items": len(text.splitlines())}
     return counts | {"text": text, "items": len(text.splitlines())}
 
 
@@ -84,11 +87,11 @@ class Subject(NamedTuple):
         if self.command == "items":
             end = made["bytes"] // int(made["sizes"][-1])
             return ["items", *made["sizes"], "--extent", "1", "--pointer", str(end), path]
-        return ["scan", "--workers", str(workers), *made["sizes"], path, *made["unreadable"]]
+        return [self.command, "--workers", str(workers), *made["sizes"], path, *made["unreadable"]]
 
     def of_workers(self, workers):
-        """The numbers of workers, which only a scan has."""
-        return workers if self.command == "scan" else [None]
+        """The numbers of workers, which only what scans has."""
+        return workers if self.command in ("scan", "manifest") else [None]
 
 
 class Measured:
@@ -104,7 +107,7 @@ class Measured:
         are given by their names in the table."""
         self.hashes.append(measured(["sha256sum", self.path], self.answer))
         for name, program in programs.items():
-            if self.subject.command == "scan":
+            if self.subject.command in ("scan", "manifest"):
                 words = ["items", *self.made["sizes"], "--extent", "1", "--pointer", "0", self.path]
                 self.loads.setdefault(name, []).append(measured([program, *words], self.answer))
             for number in self.subject.of_workers(workers):

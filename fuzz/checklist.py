@@ -13,16 +13,23 @@ from pathlib import Path
 
 sys.path.insert(0, str(Path(__file__).resolve().parent.parent / "tests"))
 from lib.laws import hold_compare_laws_on, hold_laws_on
-from lib.mistakes import MISTAKES, judge_mistake
+from lib.mistakes import MISTAKES
 from lib.node import Broken, Engine
+from lib.outcomes import DEAD_END, NEEDED, judge_mistake
 from lib.program import choose_program
-from lib.walk import row, trials, walk_honestly
+from lib.trials import row, trials
+from lib.walk import walk_honestly
+
+# What is left out of a walk beside each of these mistakes.
+RULES = NEEDED | dict([DEAD_END])
 
 
 def print_rows(engine, one, seed, found, tries):
     print(row(one.name, found), flush=True)
-    if any(box in (4, 5) for box, _ in found):
+    if any(box in (4, 5) for boxes, _ in found for box in boxes):
         print(row("    without looking at the place", trials(engine, one, seed, tries, ("look",))))
+    if rule := RULES.get(one.name):
+        print(row(f"    without {rule}", trials(engine, one, seed, tries, (rule,))))
 
 
 def checks(engine, given, seen):

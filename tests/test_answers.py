@@ -319,8 +319,8 @@ class Faults(AnswerCase):
 
 
 class Disks(AnswerCase):
-    def listed(self, command, status, lines, words=""):
-        self.check(f"{command} {SMALL} disk.img{words}", status, lines)
+    def listed(self, command, status, lines, words="", error=""):
+        self.check(f"{command} {SMALL} disk.img{words}", status, lines, error)
 
     def test_the_demo(self):
         for words in ("", "demo"):
@@ -355,7 +355,7 @@ class Disks(AnswerCase):
         begun = f"retired\nruns lost 0 hidden 0\nshard {ID} 00 3 {SHA_ABC} "
         self.listed("manifest", 0, begun + "sound plain\ntotal 1 1\n")
         self.listed("manifest", 1, begun + "unreadable 1 0 11111111-1111-1111-1111-111111111111 none\ntotal 1 1\n", " --workers 3 1:0")
-        self.listed("manifest", 1, "no-superblock\n", " 0:0")
+        self.listed("manifest", 1, "no-superblock\n", " 0:0", "shardscrub: superblock lost: 0\n")
 
     def test_the_manifest_as_if_extents_had_been_reset(self):
         """The chunk of the shard is in extent 1, and another one of the same payload is after the run in extent 2. With the pointer
@@ -374,8 +374,8 @@ class Disks(AnswerCase):
         self.given(one_shard())
         numbers = ("page_bytes 64 extent_pages 4 extents 3 retired_extents 0 superblocks 1 superblock_generation 1 superblock_tie 0 "
                    "superblocks_damaged 0 superblocks_stray 0 unreadable_pages 0 runs 1 runs_lost 0 shards 1 shards_broken 0 "
-                   "shards_doubtful 0 locators 2 locators_hidden 0 locators_dangling 0 spares 0 chunks 2 chunk_bytes 196 live_chunks 2 "
-                   "live_bytes 196 orphans 0 orphan_bytes 0 twins 0 shared_places 0 torn_items 0 noise_items 0 lost_items 0 tails 0 "
+                   "shards_doubtful 0 locators 2 locators_hidden 0 locators_dangling 0 spares 0 loose_copies 0 chunks 2 chunk_bytes 196 "
+                   "live_chunks 2 live_bytes 196 orphans 0 orphan_bytes 0 twins 0 shared_places 0 torn_items 0 noise_items 0 lost_items 0 tails 0 "
                    "tail_bytes 0 candidates 0 candidate_bytes 0 chunks_to_move 0").split()
         text = "verdict sound\n" + "".join(f"{name} {number}\n" for name, number in zip(numbers[::2], numbers[1::2]))
         for words in (f"{SMALL} disk.img", f"{SMALL} --workers 0 disk.img", "disk.img"):
@@ -461,20 +461,21 @@ HELP = {
     "index --help": ["Usage: shardscrub index", "--extents <COUNT>", "[EXTENT:PAGE]...", "hidden", "a repair", "Exit status",
                      "\n  shardscrub index --page 64 --pages 4 --extents 3 examples/one-shard.img"],
     "locators --help": ["Usage: shardscrub locators", "--extents <COUNT>", "[EXTENT:PAGE]...",
-                        "OWNER EXTENT OFFSET LENGTH UUID STATUS", "\n  spare EXTENT OFFSET LENGTH UUID COUNT\n", "\n  STATUS ",
+                        "OWNER EXTENT OFFSET LENGTH UUID STATUS", "\n  spare EXTENT OFFSET LENGTH UUID COUNT\n",
+                        "\n  loose EXTENT OFFSET LENGTH UUID COUNT\n", "\n  STATUS ",
                         "wrong_digest", "Exit status", "\n  shardscrub locators examples/one-shard.img",
                         "\n  shard 00000000000000000000000000000001 1 0 3 11111111-1111-1111-1111-111111111111 sound\n"],
     "manifest --help": ["Usage: shardscrub manifest", "--workers <COUNT>", "--reset <EXTENT>", "[EXTENT:PAGE]...",
                         "\n  retired EXTENT .. ", "\n  runs lost L hidden H ",
                         "\n  shard ID NUMBER LENGTH DIGEST sound FORM\n",
-                        "\n  shard ID NUMBER LENGTH DIGEST STATUS EXTENT OFFSET UUID SPARE\n", "Exit status",
+                        "\n  shard ID NUMBER LENGTH DIGEST STATUS EXTENT OFFSET UUID COPY\n", "\n  superblock lost: PAGE ", "\n  tie ", "Exit status",
                         "\n  shardscrub manifest --page 64 --pages 4 --extents 3 examples/one-shard.img"],
     "shard --help": ["Usage: shardscrub shard", "--workers <COUNT>", "--id <ID>", "Without --page, --pages and --extents",
-                     "[EXTENT:PAGE]...", "\n  no such shard ", "\n  payload lost: NUMBER ", "a newer entry may be lost",
-                     "Exit status",
+                     "[EXTENT:PAGE]...", "\n  no such shard ", "\n  payload lost: NUMBER ", "\n  superblock lost: PAGE ", "\n  tie ",
+                     "a newer entry may be lost", "Exit status",
                      "\n  shardscrub shard --id 00000000000000000000000000000001 examples/one-shard.img > restored"],
     "shards --help": ["Usage: shardscrub shards", "--workers <COUNT>", "Without --page, --pages and --extents", "[EXTENT:PAGE]...",
-                      "\n  no superblock ", "\n  run lost: NUMBER STATE ", "\n  payload lost: ID NUMBER ",
+                      "\n  no superblock ", "\n  superblock lost: PAGE ", "\n  tie ", "\n  run lost: NUMBER STATE ", "\n  payload lost: ID NUMBER ",
                       "\n  a newer entry may be lost: ID ", "Exit status", "\n  shardscrub shards examples/one-shard.img > shards.tar"],
     "summary --help": ["Usage: shardscrub summary", "--workers <COUNT>", "--last <G>", "[EXTENT:PAGE]...", "\n  verdict WORD ",
                        "\n  candidates candidate_bytes chunks_to_move\n", "Exit status",
@@ -482,14 +483,14 @@ HELP = {
     "superblocks --help": ["Usage: shardscrub superblocks", "--map <FILE>", "record PAGE KIND GENERATION STATE", "stray PAGE",
                            "Exit status", "\n  record 0 SSB1 1 counts\n"],
     "reclaimable --help": ["Usage: shardscrub reclaimable", "--accept <LINE>", "--last <G>", "\n  doubt last COUNTS G ",
-                           "\n  doubt spare EXTENT OFFSET LENGTH UUID OWNER BYTES\n", "\n  doubt remains EXTENT OFFSET COUNT\n",
-                           "doubt tail EXTENT OFFSET BYTES",
+                           "\n  doubt spare EXTENT OFFSET LENGTH UUID OWNER BYTES\n", "\n  doubt loose EXTENT OFFSET LENGTH UUID OWNER BYTES\n",
+                           "\n  doubt crowded EXTENT ", "doubt tail EXTENT OFFSET BYTES",
                            "move EXTENT OFFSET LENGTH UUID OWNER BYTES", "\n  room EXTENT OFFSET BYTES ",
                            "\n  last-room EXTENT OFFSET BYTES ", "Exit status"],
     "compare --help": ["Usage: shardscrub compare", "--workers <COUNT>", "--reset <EXTENT>", "<BEFORE> <AFTER> [EXTENT:PAGE]...",
                        "\n  doubt before D, doubt after D ", "\n  generation BEFORE AFTER ", "\n  pointer EXTENT BEFORE AFTER ",
                        "\n  written EXTENT OFFSET ", "\n  named OWNER EXTENT OFFSET LENGTH UUID STATUS\n", "\n  lost LINE, new LINE ",
-                       "\n  spare LINE ", "\n  safe BEFORE AFTER ", "Exit status",
+                       "\n  spare LINE ", "\n  loose LINE ", "\n  safe BEFORE AFTER ", "Exit status",
                        "\n  shardscrub compare --page 64 --pages 4 --extents 3 examples/one-shard.img examples/one-shard.img",
                        "\n  safe 1 1\n"],
     "sizes --help": ["Usage: shardscrub sizes", "--map <FILE>", "OFFSET KIND GENERATION PAGE PAGES EXTENTS", "lost FROM TO",

@@ -73,7 +73,7 @@ class Worked(CompareCase):
                    f"new {LOST_FIRST}past_pointer 1 0 {U1} spare\nunsafe\n")
 
     def test_a_wrong_reset(self):
-        self.check("7 other --reset 1", 1, f"pointer 2 81 0\nlost {SECOND_SHARD}new {LOST_SECOND}past_pointer 2 0 {U2} none\nunsafe\n")
+        self.check("7 other --reset 1", 1, f"pointer 2 81 0\nlost {SECOND_SHARD}new {LOST_SECOND}past_pointer 2 0 {U2} loose\nunsafe\n")
 
     def test_an_old_tail(self):
         self.check("1 tail --reset 1", 0, "safe 1 2\n")
@@ -159,7 +159,7 @@ DOUBTS = {
     "doubts that can be accepted are no lines": (DOUBTED, DOUBTED, "2:7", "safe 1 1\n"),
     "an older superblock": (SEVENTH, written(SEVENTH, (0, SECOND, bytes(190))), "", "generation 2 1\npointer 3 428 232\nunsafe\n"),
     "a superblock of the same generation": (FIRST, written(FIRST, (0, 0, superblock(1, (0, 81, 232), OLD))), "",
-                                            f"pointer 1 179 0\nlost {FIRST_SHARD}new {LOST_FIRST}past_pointer 1 0 {U1} none\nunsafe\n"),
+                                            f"pointer 1 179 0\nlost {FIRST_SHARD}new {LOST_FIRST}past_pointer 1 0 {U1} loose\nunsafe\n"),
 }
 POINTED = {
     "a greater one in an extent with room": (FIRST, named(FIRST, (200, 81, 232), OLD), "", "safe 1 2\n"),

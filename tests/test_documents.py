@@ -1,9 +1,13 @@
-"""Each page and image that a tool makes is as the tool makes it, each definition has a comment, and each link leads somewhere."""
+"""Each page and image that a tool makes is as the tool makes it, each definition has a comment, and each link leads somewhere. The functions
+for a shell do what RECLAIMING says."""
+import os
 import re
+import shlex
+import shutil
 import subprocess
 import sys
 
-from lib.cases import Case
+from lib.cases import Case, RoomCase
 from lib.program import TOP
 
 PAGES = [*(TOP / name for name in ("README.md", "CONTRIBUTING.md", "CHANGELOG.md", "examples/README.md")), *sorted(TOP.glob("docs/*.md"))]
@@ -52,3 +56,30 @@ class Links(Case):
                 self.true(where, to.exists(), "is nowhere")
                 if anchor and to in texts:
                     self.true(where, anchor in anchors(texts[to]), "has no such heading")
+
+
+class Shell(RoomCase):
+    """`ask` and `look` of docs/RECLAIMING.md, as a file that a shell reads. In no language but C `cmp` says `char`."""
+
+    def test_ask_and_look(self):
+        text = re.search(r"^```sh\n(.*?)^```$", (TOP / "docs/RECLAIMING.md").read_text(encoding="utf-8"), re.M | re.S)[1]
+        for name, value in {"page": "64 pages=16 extents=5", "map": '""', "lost": '"3:1"'}.items():
+            text = re.sub(rf"^{name}=.*? {{2,}}#", f"{name}={value}  #", text, flags=re.M)
+        (self.room / "ask.sh").write_text(text)
+        (self.room / "shardscrub").write_text(f'#!/bin/sh\nexec {shlex.quote(self.program)} "$@"\n')
+        (self.room / "shardscrub").chmod(0o755)
+        shutil.copyfile(TOP / "examples/several-findings.img", self.room / "1.img")
+        words = ["manifest", "--page", "64", "--pages", "16", "--extents", "5", "1.img", "3:1"]
+        right = subprocess.run([self.program, *words], cwd=self.room, capture_output=True, text=True, stdin=subprocess.DEVNULL)
+        for shell in "sh", "bash":
+            if shutil.which(shell):
+                self.same(f"{shell}: ask", self.printed(shell, "ask manifest 1.img"), (right.stdout, f"status {right.returncode}\n"))
+                self.same(f"{shell}: look at zeros", self.printed(shell, "look 1.img 4 678 268"), ("", ""))
+                out, error = self.printed(shell, "look 1.img 1 124 53")
+                self.true(f"{shell}: look at a chunk", "differ: char 1," in out and not error, (out, error))
+
+    def printed(self, shell, command):
+        environment = os.environ | {"PATH": f"{self.room}:{os.environ['PATH']}", "LC_ALL": "C.UTF-8"}
+        done = subprocess.run([shell, "-c", f". ./ask.sh; {command}"], cwd=self.room, env=environment, capture_output=True, text=True,
+                              stdin=subprocess.DEVNULL)
+        return done.stdout, done.stderr

@@ -1,4 +1,4 @@
-"""What `reclaimable` and `summary` say with --last, the lines that `--accept` takes, and the doubts `last` and `remains`. What is right was
+"""What `reclaimable` and `summary` say with --last, the lines that `--accept` takes, and the doubt `last`. What is right was
 written by hand, from docs/REPORT.md.
 """
 from lib import worked
@@ -7,8 +7,8 @@ from lib.disks import Disk, frame, locator, run, shard, uuid
 from lib.worked import DELETED, FOURS, ONES, TWOS, abc, finish
 from test_system import answer
 
-S1 = shard(1).hex()
-U4 = "44444444-4444-4444-4444-444444444444"
+S1, S2 = (shard(number).hex() for number in (1, 2))
+U1, U2, U4 = ("-".join(digit * size for size in (8, 4, 4, 4, 12)) for digit in "124")
 GREATEST = 2 ** 64 - 1
 SIZES = Disk(4, 3).geometry()
 HINT = "\n\nFor more information, try '--help'.\n"
@@ -72,31 +72,35 @@ class Worked(LastCase):
         self.judged(disk, ["--last", "8"], "doubt")
 
     def test_a_copy_behind_a_damaged_frame(self):
-        disk = worked.behind_a_damaged_frame()
-        self.listed(disk, [], ["doubt remains 1 0 1"])
-        self.listed(disk, accepting("remains 1 0 1"), ["accepted remains 1 0 1", "reclaim 1 99", "room 3 232 280"])
-        self.listed(worked.behind_a_damaged_frame(is_second_lost=True), accepting("remains 1 0 1"), ["doubt remains 1 0 2"])
+        line = f"loose 1 58 3 {U1} shard {S1} 41"
+        for is_second_lost in (False, True):
+            disk = worked.behind_a_damaged_frame(is_second_lost)
+            self.listed(disk, [], [f"doubt {line}"])
+            self.listed(disk, ["--last", "1"], [f"doubt {line}"])
+            self.listed(disk, accepting(line), [f"accepted {line}", "reclaim 1 99", "room 3 232 280"])
 
 
 def all_that_can_be_accepted():
     """A disk of generation 7 with each doubt that can be accepted, and its unreadable page. The chunks of both shards in extent 1 have
-    rotted; extent 2 has a copy of the first one and noise, extent 3 the run, extent 4 a tail, extent 5 an unreadable page."""
-    disk = Disk(8, 6)
+    rotted; extent 2 has a copy of the first one, and behind a byte of noise a whole chunk of the second one, extent 3 the run, extent 4 a
+    tail, extent 5 an unreadable page, extent 6 frames over frames."""
+    disk = Disk(8, 7)
     disk.chunk(1, 0, ONES, b"abX")
     disk.chunk(1, 41, TWOS, b"dX")
     disk.chunk(2, 0, FOURS, b"abc")
-    disk.put(2, 41, b"x")
+    disk.put(2, 41, b"x" + frame(TWOS, b"de"))
+    disk.put(6, 0, worked.HEAP)
     entries = (shard(1), [abc(1, 0)]), (shard(2), [locator(1, 41, TWOS, b"de")])
     named = disk.chunk(3, 0, uuid(0xAA), run(*entries))
     disk.put(4, 100, b"x")
     disk.put(0, 4 * 64, b"SSB1")
     disk.put(0, 5 * 64, b"x")
-    return finish(disk, [81, 64, 232, 0, 0], [named], 7), ["5:3"]
+    return finish(disk, [81, 128, 232, 0, 0, 400], [named], 7), ["5:3"]
 
 
-SPARE, REMAINS = f"spare 2 0 3 {U4} shard {S1} 41", "remains 2 41 1"
+SPARE, LOOSE, CROWDED = f"spare 2 0 3 {U4} shard {S1} 41", f"loose 2 42 2 {U2} shard {S2} 40", "crowded 6"
 BEFORE, AFTER = ["superblock-damaged 4", "superblock-stray 5"], ["tail 4 100 1", "tail-lost 5 3 3"]
-EACH = [*BEFORE, SPARE, REMAINS, *AFTER]
+EACH = [*BEFORE, SPARE, LOOSE, CROWDED, *AFTER]
 
 
 def lines_of(word, doubts):
@@ -121,16 +125,16 @@ class Order(LastCase):
         self.listed(disk, [], lines_of("doubt", EACH), bad)
 
     def test_the_generation_that_counts(self):
-        """It accepts four kinds, and neither a spare nor remains."""
+        """It accepts four kinds, and neither a spare nor a loose copy, nor a crowded extent."""
         disk, bad = all_that_can_be_accepted()
-        right = [*lines_of("accepted", BEFORE), *lines_of("doubt", [SPARE, REMAINS]), *lines_of("accepted", AFTER)]
+        right = [*lines_of("accepted", BEFORE), *lines_of("doubt", [SPARE, LOOSE, CROWDED]), *lines_of("accepted", AFTER)]
         self.listed(disk, ["--last", "7"], right, bad)
 
     def test_the_generation_that_counts_beside_lines(self):
         disk, bad = all_that_can_be_accepted()
-        right = [*lines_of("accepted", EACH), "reclaim 2 64", "room 3 232 280", "room 4 0 512"]
-        self.listed(disk, ["--last", "7", *accepting(SPARE, REMAINS)], right, bad)
-        self.listed(disk, [*accepting(REMAINS, "tail 4 100 2", SPARE), "--last=+7"], right, bad)
+        right = [*lines_of("accepted", EACH), "reclaim 6 400", "reclaim 2 128", "room 3 232 280", "room 4 0 512"]
+        self.listed(disk, ["--last", "7", *accepting(SPARE, LOOSE, CROWDED)], right, bad)
+        self.listed(disk, [*accepting(LOOSE, "tail 4 100 2", CROWDED, SPARE), "--last=+7"], right, bad)
         self.listed(disk, accepting(*reversed(EACH)), right, bad)
 
     def test_another_generation(self):
@@ -153,65 +157,6 @@ class Order(LastCase):
         disk.put(0, 64, b"SSB1")
         for last in (0, GREATEST):
             self.listed(disk, ["--last", str(last)], lines_of("doubt", ["no-superblock", f"last none {last}", "superblock-damaged 1"]))
-
-
-def noise_in_several_extents(lost, more=b""):
-    """A disk with noise at the start of extent 2, a torn item at 64 of extent 3, a chunk alone in extent 4, and noise behind the chunk of
-    the second shard in extent 5, which has more than half of the bytes. The first chunk in extent 1 has these bytes. `lost` are the
-    locators of the first shard. Extent 6 has the run, and maybe more behind it."""
-    disk = Disk(8, 7)
-    disk.chunk(1, 0, ONES, b"abX")
-    disk.put(2, 0, b"x")
-    disk.chunk(3, 0, uuid(0x66), bytes(26))
-    disk.put(3, 64, b"\xc5\x5ex")
-    disk.chunk(4, 0, uuid(0x77), bytes(26))
-    disk.put(5, 100, b"x")
-    named = disk.chunk(6, 0, uuid(0xAA), run((shard(1), lost), (shard(2), [disk.chunk(5, 0, TWOS, bytes(62))])))
-    disk.put(6, disk.pointers[5], more)
-    return finish(disk, [41, 64, 128, 64, 128, disk.pointers[5] + len(more)], [named])
-
-
-class Remains(LastCase):
-    def listing(self, *rooms):
-        return ["reclaim 3 128", "reclaim 2 64", "reclaim 4 64", *(f"room {e} {at} {512 - at}" for e, at in rooms), "last-room 4 64 448"]
-
-    def test_several_extents(self):
-        """By ascending extent, unlike the extents that are listed, and only for those with a torn or noise item."""
-        disk = noise_in_several_extents([abc(1, 0)])
-        both = ["remains 2 0 1", "remains 3 64 1"]
-        self.listed(disk, [], lines_of("doubt", both))
-        self.listed(disk, accepting(both[1]), [f"doubt {both[0]}", f"accepted {both[1]}"])
-        self.listed(disk, accepting(*both), [*lines_of("accepted", both), *self.listing((6, 232))])
-
-    def test_another_line_accepts_nothing(self):
-        """Another extent, offset or count."""
-        disk = noise_in_several_extents([abc(1, 0)])
-        self.listed(disk, accepting("remains 4 0 1", "remains 2 64 1", "remains 2 0 2", "remains 2 0", "remains 2 0 1 ", "remains  2 0 1"),
-                    ["doubt remains 2 0 1", "doubt remains 3 64 1"])
-
-    def test_each_locator_counts(self):
-        """Also two of one chunk."""
-        disk = noise_in_several_extents([abc(1, 0), abc(4, 300), abc(1, 0)])
-        self.listed(disk, [], ["doubt remains 2 0 3", "doubt remains 3 64 3"])
-
-    def test_nothing_is_lost(self):
-        disk = noise_in_several_extents([locator(1, 0, ONES, b"abX")])
-        self.listed(disk, [], self.listing((1, 41), (6, 232)))
-
-    def test_a_locator_of_length_0(self):
-        disk = noise_in_several_extents([locator(4, 0, ONES, b"")])
-        self.same("it dangles", self.asked(disk, "manifest")[1].count(" none\n"), 1)
-        self.listed(disk, [], ["reclaim 3 128", "reclaim 2 64", "reclaim 1 41", "room 6 232 280", "last-room 1 41 471"])
-
-    def test_a_spare(self):
-        disk = noise_in_several_extents([abc(1, 0)], frame(FOURS, b"abc"))
-        self.listed(disk, [], self.listing((6, 273)))
-
-    def test_a_lost_run(self):
-        """There are no candidates."""
-        disk = noise_in_several_extents([abc(1, 0)])
-        disk.spoil(6, 100)
-        self.listed(disk, [], ["doubt run-lost 0 wrong_digest"])
 
 
 class Verdicts(LastCase):
@@ -252,7 +197,7 @@ class Refusals(LastCase):
 
     def test_what_is_no_line(self):
         """A kind, an empty text, another first word, and a line with the word `doubt`."""
-        kinds = ["superblock-damaged", "superblock-stray", "spare", "remains", "tail", "tail-lost"]
+        kinds = ["superblock-damaged", "superblock-stray", "spare", "loose", "crowded", "tail", "tail-lost"]
         bars = ["no-superblock", "tie", "last", "superblock-lost", "run-lost", "last 7 8", "superblock-lost 1", "run-lost 0 unreadable", "tie "]
         others = ["", " ", " tail 1 0 1", "Tail 1 0 1", "tails 1 0 1", "doubt tail 1 0 1", "accepted tail 1 0 1", "spare\t1", "tail\n1"]
         for line in (*kinds, *bars, *others):
@@ -264,7 +209,7 @@ class Refusals(LastCase):
 
     def test_what_may_be_a_line(self):
         """It has no effect if no doubt has it."""
-        for line in ("tail ", "superblock-stray 3", "superblock-damaged -", "spare 2 0 3", "remains 1 0 1", "tail-lost  ", "tail 2 0 1092 x"):
+        for line in ("tail ", "superblock-stray 3", "superblock-damaged -", "spare 2 0 3", "loose 1", "crowded 1", "tail-lost  ", "tail 2 0 1092 x"):
             self.listed(worked.byte_after_the_superblock(), accepting(line), ["doubt tail 1 41 1"])
 
     def test_numbers(self):

@@ -247,15 +247,15 @@ COPIES = [
     (worked.nine_locators, ["manifest", "--reset=1"], 1,
      "retired\n"
      "runs lost 0 hidden 0\n"
-     f"shard {S1} 00 3 {ABC} out_of_range 4 0 {U1} none\n"
-     f"shard {S1} 01 3 {ABC} past_pointer 1 600 {U1} none\n"
-     f"shard {S1} 02 3 {ABC} past_pointer 1 300 {U1} none\n"
-     f"shard {S1} 03 3 {ABC} past_pointer 1 41 {U1} none\n"
-     f"shard {S1} 04 3 {ABC} past_pointer 1 0 {U2} none\n"
+     f"shard {S1} 00 3 {ABC} out_of_range 4 0 {U1} loose\n"
+     f"shard {S1} 01 3 {ABC} past_pointer 1 600 {U1} loose\n"
+     f"shard {S1} 02 3 {ABC} past_pointer 1 300 {U1} loose\n"
+     f"shard {S1} 03 3 {ABC} past_pointer 1 41 {U1} loose\n"
+     f"shard {S1} 04 3 {ABC} past_pointer 1 0 {U2} loose\n"
      f"shard {S1} 05 4 {ABC} past_pointer 1 0 {U1} none\n"
      f"shard {S1} 06 3 {ZERO} past_pointer 1 0 {U1} none\n"
      f"shard {S1} 07 3 {ABC} hidden 2 256 {U1}\n"
-     f"shard {S1} 08 3 {ABC} past_pointer 1 0 {U1} none\n"
+     f"shard {S1} 08 3 {ABC} past_pointer 1 0 {U1} loose\n"
      "total 1 9\n"),
     (worked.broken_and_retired, ["manifest", "--reset=3"], 0,
      "retired 3\n"
@@ -267,13 +267,13 @@ COPIES = [
     (lambda: sealed_and_garbage(False), ["summary"], 0, summary(
         "verdict sound page_bytes 64 extent_pages 8 extents 4 retired_extents 0 superblocks 1 superblock_generation 1 "
         "superblock_tie 0 superblocks_damaged 0 superblocks_stray 0 unreadable_pages 0 runs 1 runs_lost 0 shards 1 shards_broken 0 "
-        "shards_doubtful 0 locators 2 locators_hidden 0 locators_dangling 0 spares 0 chunks 4 chunk_bytes 432 live_chunks 2 "
+        "shards_doubtful 0 locators 2 locators_hidden 0 locators_dangling 0 spares 0 loose_copies 0 chunks 4 chunk_bytes 432 live_chunks 2 "
         "live_bytes 230 orphans 2 orphan_bytes 202 twins 0 shared_places 0 torn_items 0 noise_items 0 lost_items 0 tails 0 "
         "tail_bytes 0 candidates 2 candidate_bytes 202 chunks_to_move 1")),
     (worked.nine_locators, ["summary"], 1, summary(
         "verdict wrong page_bytes 256 extent_pages 8 extents 4 retired_extents 0 superblocks 1 superblock_generation 1 "
         "superblock_tie 0 superblocks_damaged 0 superblocks_stray 0 unreadable_pages 1 runs 1 runs_lost 0 shards 1 shards_broken 1 "
-        "shards_doubtful 0 locators 10 locators_hidden 1 locators_dangling 7 spares 5 chunks 3 chunk_bytes 934 live_chunks 2 "
+        "shards_doubtful 0 locators 10 locators_hidden 1 locators_dangling 7 spares 5 loose_copies 0 chunks 3 chunk_bytes 934 live_chunks 2 "
         "live_bytes 676 orphans 1 orphan_bytes 258 twins 0 shared_places 0 torn_items 0 noise_items 1 lost_items 1 tails 0 "
         "tail_bytes 0 candidates 0 candidate_bytes 0 chunks_to_move 0")),
 ]
@@ -290,21 +290,22 @@ HALVED = {
     "summary": summary(
         "verdict sound page_bytes 64 extent_pages 64 extents 40 retired_extents 0 superblocks 1 superblock_generation 1 "
         "superblock_tie 0 superblocks_damaged 0 superblocks_stray 0 unreadable_pages 0 runs 1 runs_lost 0 shards 38 shards_broken 0 "
-        "shards_doubtful 0 locators 39 locators_hidden 0 locators_dangling 0 spares 0 chunks 77 chunk_bytes 6120 live_chunks 39 "
+        "shards_doubtful 0 locators 39 locators_hidden 0 locators_dangling 0 spares 0 loose_copies 0 chunks 77 chunk_bytes 6120 live_chunks 39 "
         "live_bytes 4562 orphans 38 orphan_bytes 1558 twins 76 shared_places 0 torn_items 0 noise_items 0 lost_items 0 tails 0 "
         "tail_bytes 0 candidates 38 candidate_bytes 1558 chunks_to_move 38"),
 }
 
 
 class Listings(RoomCase):
-    def listed(self, disk, words, status, lines, numbers=(1, 3)):
-        """Runs a command on a disk, by the caller and these numbers of workers."""
+    def listed(self, disk, words, status, lines, numbers=(1, 3), remarks=()):
+        """Runs a command on a disk, by the caller and these numbers of workers. The error stream has these remarks."""
         disk, *bad = disk if isinstance(disk, tuple) else (disk,)
         path = self.room / "disk.img"
         path.write_bytes(disk.bytes)
         for workers in map(str, numbers):
             found = answer(*words, *disk.geometry(), "--workers", workers, path, *bad)
-            self.same(f"{' '.join(words)} by {workers} workers", found, (status, lines.encode(), b""))
+            error = "".join(f"shardscrub: {remark}\n" for remark in remarks).encode()
+            self.same(f"{' '.join(words)} by {workers} workers", found, (status, lines.encode(), error))
 
     def test_disks_with_copies(self):
         for make, words, status, lines in COPIES:
@@ -352,6 +353,18 @@ class Listings(RoomCase):
         self.listed(finish(disk, [0, 193], [named, named]), ["reclaimable"], 0,
                     f"reclaim 2 98\nmove 2 98 57 {U2} run 0 95\nmove 2 98 57 {U2} run 1 95\nroom 1 0 256\nlast-room 2 193 63\n")
 
+    def test_remarks_on_superblocks(self):
+        """`manifest` makes them, with resets, too. Its text is that of the superblock that counts, and so it is the same as without
+        what is remarked."""
+        for (disk, *bad), remarks in REMARKED:
+            for words, status in ((["manifest"], int(bool(remarks))), (["manifest", "--reset=1"], 1)):
+                wrong = f"past_pointer 1 0 {U1} none" if len(words) > 1 else "sound plain"
+                lines = f"retired\nruns lost 0 hidden 0\nshard {S1} 00 3 {ABC} {wrong}\ntotal 1 1\n"
+                self.listed((disk, *bad), words, status, lines, remarks=remarks)
+        disk = Disk(4, 3)
+        disk.put(0, 64, b"SSB1")
+        self.listed((disk, "0:2"), ["manifest"], 1, "no-superblock\n", remarks=["superblock lost: 1", "superblock lost: 2"])
+
     def test_what_may_be_reclaimed(self):
         for make, accepted, lines in RECLAIMABLE:
             words = ["reclaimable", *(word for one in accepted for word in ("--accept", one))]
@@ -365,6 +378,37 @@ def unreadable_tail():
 
 DAMAGED, STRAY = "superblock-damaged 2", "superblock-stray 3"
 MOVED = f"reclaim 1 41\nmove 1 41 3 {U1} shard {S1} 41\n"
+
+
+def with_superblocks(*writes, bad=()):
+    """The disk with one shard, whose superblock of generation 7 is on pages 0 and 1 of 8, with other bytes of extent 0; and the words of
+    its unreadable pages."""
+    disk = Disk(8, 3)
+    named = worked.abc_and_its_run(disk)
+    finish(disk, [41, 155], [named], 7)
+    for page, text in writes:
+        if isinstance(text, int):
+            finish(disk, [41, 155], [named], text, page=page)
+        else:
+            disk.put(0, page * 64, text)
+    return disk, *bad
+
+
+# A disk, and what the error stream of `manifest` says.
+REMARKED = [
+    # Sound disks: with an older superblock, with stray bytes, and with a page of another extent that can't be read.
+    (with_superblocks(), []), (with_superblocks((4, 6)), []), (with_superblocks((7, b"x")), []), (with_superblocks(bad=["1:5"]), []),
+    # A page that can't be read, and several.
+    (with_superblocks(bad=["0:5"]), ["superblock lost: 5"]),
+    (with_superblocks(bad=["0:7", "0:2"]), ["superblock lost: 2", "superblock lost: 7"]),
+    # A damaged record of either kind.
+    (with_superblocks((4, b"SSB1")), ["superblock lost: 4"]), (with_superblocks((3, b"SSB2")), ["superblock lost: 3"]),
+    # A newer superblock, a page of which can't be read.
+    (with_superblocks((4, 8), bad=["0:5"]), ["superblock lost: 4", "superblock lost: 5"]),
+    # A tie, and all at once.
+    (with_superblocks((4, 7)), ["tie"]),
+    (with_superblocks((4, 7), (6, b"SSB1"), bad=["0:3", "0:7"]), ["superblock lost: 3", "superblock lost: 6", "superblock lost: 7", "tie"]),
+]
 
 # A disk, the accepted doubts, and the lines.
 RECLAIMABLE = [

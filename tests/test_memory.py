@@ -32,6 +32,8 @@ RESCUED = "--page 512 --pages 4 --extents 4 --map examples/rescued.map examples/
 ROOM = "ROOM/"
 RETIRING = f"--page 64 --pages 4 --extents 4 {ROOM}retiring.img"
 LARGE = f"--page 65536 --pages 32 --extents 2 {ROOM}large.img"
+BEHIND = f"--page 64 --pages 8 --extents 4 {ROOM}behind.img"
+LOOSE = f"loose 1 58 3 11111111-1111-1111-1111-111111111111 shard {1:032} 41"
 MANY = f"--workers 0 --page 512 --pages 1200 --extents 6 {ROOM}many.img"
 SHARD = "shard --id " + "0" * 31
 COMMAND_LINES = {
@@ -54,7 +56,15 @@ COMMAND_LINES = {
     "reclaimable with the last generation": f"reclaimable --workers 2 --last 1 {RECLAIMED}",
     "reclaimable with another generation": f"reclaimable --workers 0 --last 2 {RECLAIMED}",
     "reclaimable with a tail accepted": f"reclaimable --workers 2 --accept 'tail 1 208 45' {RECLAIMED}",
-    "reclaimable with remains": f"reclaimable --workers 0 --page 64 --pages 8 --extents 4 {ROOM}behind.img",
+    "locators with a loose copy": f"locators --workers 0 {BEHIND}",
+    "manifest with a loose copy": f"manifest --workers 2 --reset 2 {BEHIND}",
+    "reclaimable with a loose copy": f"reclaimable --workers 0 {BEHIND}",
+    "reclaimable with a loose copy accepted": f"reclaimable --workers 2 --accept '{LOOSE}' {BEHIND}",
+    "shard with a loose copy": f"{SHARD}1 --workers 0 {BEHIND}",
+    "compare with a loose copy": f"compare --workers 0 --reset 1 {BEHIND} {ROOM}behind.img",
+    "manifest with a remark": f"manifest --workers 0 {SMALL} 0:3",
+    "shard with remarks": f"{SHARD}1 --workers 0 {SMALL} 0:2 0:3",
+    "shards with remarks": f"shards --workers 0 {SMALL} 0:2 0:3",
     "compare": f"compare --workers 2 --reset 2 {COPIED}",
     "compare without workers": f"compare --workers 0 --reset 1 {COPIED}",
     "refused line": f"reclaimable --accept 'tie 1' {RECLAIMED}",

@@ -122,7 +122,8 @@ class Answers(PageCase):
         uuid, shard = "11111111-1111-1111-1111-111111111111", f"shard {1:032x}"
         places = {"doubt no-superblock": None, "doubt tie": None, "doubt last 1 2": None, "accepted superblock-stray 3": [0, 3 * 256],
                   "doubt superblock-lost 99": None, "doubt run-lost 0 no_frame": [10, 0], "doubt run-lost 7 no_frame": None,
-                  f"accepted spare 5 9 3 {uuid} {shard} 41": [5, 9], "doubt remains 2 100 1": [2, 100], "doubt tail 1 300 13": [1, 300],
+                  f"accepted spare 5 9 3 {uuid} {shard} 41": [5, 9], f"doubt loose 2 100 3 {uuid} {shard} 41": [2, 100], "doubt crowded 6": [6, 0],
+                  "doubt tail 1 300 13": [1, 300],
                   "doubt tail-lost 4 2 5": [4, 2 * 256], "reclaim 7 12": [7, 0], f"move 7 50 3 {uuid} {shard} 41": [7, 50],
                   "room 3 155 869": [3, 155], "last-room 12 1 2": None}
         report = made_up_report(12, 256, 16, 1) | {"runs": [{"entries": None, "extent": 10, "offset": 0, "state": "no_frame"}]}
@@ -143,7 +144,7 @@ DRAWN = f"""[...{DISKS}.values()].map((disk) => pictureOf(disk.answers)).map((pi
     shards: picture.locators && shardSizes(picture.locators).map(({{owner, bytes, chunks}}) => [owner, bytes, chunks]),
     said: picture.rows.map((row) => [...row.start].map((start, at) => (start + row.stop[at]) / 2)
         .map((middle) => described(picture, row, middle, middle + .1, 0))),
-    marks: picture.rows.map((row) => [...row.hidden, ...row.dangling]
+    marks: picture.rows.map((row) => [...row.hidden, ...row.dangling, ...row.loose.map(({{copy}}) => copy)]
         .map(({{offset}}) => described(picture, row, offset, offset + 1, 0).join()))}}))"""
 
 
@@ -187,11 +188,11 @@ class Pictures(PageCase):
                 "write pointer": len(report["extents"]) if report["super"]["page"] is not None else 0}
 
     def check_texts(self, what, drawn, report, outputs):
-        """What is said of each item and mark, with the owners of live chunks and the spares of others."""
-        owners, spares, shards, last = {}, {}, {}, None
+        """What is said of each item and mark, with the owners of live chunks and the copies of others."""
+        owners, spares, loose, shards, last = {}, {}, {}, {}, None
         for words in page.lines_of(outputs, "locators"):
-            if words[0] == "spare":
-                spares[int(words[1]), int(words[2])] = last
+            if words[0] in ("spare", "loose"):
+                (spares if words[0] == "spare" else loose)[int(words[1]), int(words[2])] = last
                 continue
             last = f"{words[0]} {words[1]}"
             if words[6] in ("sound", "hidden") and words[0] == "shard":
@@ -207,6 +208,11 @@ class Pictures(PageCase):
                 if (extent, start) in spares:
                     self.same(f"{what}: a spare in extent {extent} at {start}",
                               f"spare of what {spares[extent, start]} names in" in ",".join(said), True)
+        for (extent, start), owner in loose.items():
+            # Five are described.
+            if sum(place[0] == extent for place in loose) <= 5:
+                self.same(f"{what}: a loose copy in extent {extent} at {start}",
+                          f"loose copy at {start} of what {owner} names in" in ",".join(drawn["marks"][extent]), True)
         for one in report["hidden"] + report["dangling"]:
             # Five are described.
             is_many = sum(other["extent"] == one["extent"] for other in report["hidden"] + report["dangling"]) > 5
@@ -229,7 +235,7 @@ class Pictures(PageCase):
     def test_search(self):
         """Each chunk is found by its UUID, and each shard by its identifier, also by their beginnings."""
         disk = disks()["made-up-17"]
-        locators = [line.split() for line in disk.outputs["locators"].splitlines() if not line.startswith("spare")]
+        locators = [line.split() for line in disk.outputs["locators"].splitlines() if not line.startswith(("spare", "loose"))]
         for outputs in ([], ["locators"]):
             wanted = {words[3] for _, words in page.items_of(disk.report) if page.is_chunk(words)}
             wanted |= {words[1] for words in locators if words[0] == "shard"} if outputs else {one["owner"][6:] for one in disk.report["dangling"]}

@@ -11,10 +11,12 @@ from lib.cases import Case, RoomCase, add_tests
 from lib.comparison import compared
 from lib.program import TOP
 
-SEED, DISKS = 1, 300
+SEED, DISKS = 1, 400
 REFERENCE = TOP / "reference/shardscrub.py"
 SMALL, SEVERAL = ["--page", "64", "--pages", "4", "--extents", "3"], ["--page", "64", "--pages", "16", "--extents", "5"]
 MOVE = ["--page", "64", "--pages", "8", "--extents", "4"]
+LOOSE = ["--page", "64", "--pages", "8", "--extents", "5"]
+BEHIND = f"loose 1 58 3 11111111-1111-1111-1111-111111111111 shard {1:032} 41"
 SHARD = ["--id", f"{1:032}"]
 # Arguments of a run in the folder of the examples. The names of the tests are these words.
 RUNS = (
@@ -24,7 +26,10 @@ RUNS = (
     ["scan", "--map", "rescued.img", "rescued.img"], ["index", *SEVERAL, "several-findings.img"], ["locators", "rotted.img"],
     ["superblocks", "flipped-bit.img"], ["summary", "--last", "7", "several-findings.img"], ["summary", "formatted-twice.img"],
     ["manifest", *MOVE, "--reset=1", "to-move.img"], ["manifest", *MOVE, "--reset", "4", "to-move.img"],
-    ["reclaimable", *MOVE, "--last", "1", "behind.img"], ["reclaimable", *MOVE, "--accept", "remains 1 0 1", "behind.img"],
+    ["reclaimable", *MOVE, "--last", "1", "behind.img"], ["reclaimable", *MOVE, "--accept", BEHIND, "behind.img"],
+    ["reclaimable", *LOOSE, "--last", "7", "tail.img"], ["reclaimable", *LOOSE, "--accept", "crowded 1", "--last", "7", "crowded.img"],
+    ["locators", "tail.img"], ["manifest", *LOOSE, "--reset=1", "part.img"], ["manifest", *LOOSE, "part.img", "0:7"],
+    ["compare", *LOOSE, "--reset", "1", "part.img", "part.img"], ["shard", "--id", f"{1:032}", "part.img"], ["shards", "tie.img"],
     ["reclaimable", *MOVE, "--accept", "tie", "behind.img"], ["reclaimable", *MOVE, "less.img"],
     ["compare", *MOVE, "--reset", "1", "to-move.img", "completed.img"], ["compare", *MOVE, "--reset", "2", "rotted.img", "copied.img"],
     ["shard", *SHARD, "several-findings.img"], ["shard", "--id", f"{3:032}", "several-findings.img"], ["shard", "--id", "1", "rotted.img"],

@@ -1,7 +1,7 @@
 """What `shard` writes of disks that are made by hand, and `shards` of all their shards.
 
 Right answers are written out here from what the command promises: the payloads of the shard's newest entry, in its order, each
-from the place of its locator, or else from its first spare. reference/shardscrub.py has to give the same. Each disk is read with its
+from the place of its locator, or else from its first spare, or else from its first loose copy. reference/shardscrub.py has to give the same. Each disk is read with its
 sizes by several numbers of workers, and without the sizes if all its records have the same. The archive of all shards is read by
 Python's `tarfile`: it has the shard with the same bytes, and the error stream says the same of it.
 """
@@ -39,6 +39,11 @@ def doubtful(*payloads):
 def lost(number):
     """The answer where the payload of this locator is the first that is lost."""
     return 1, b"", f"shardscrub: payload lost: {number:02}\n".encode()
+
+
+def remarked(right, *remarks):
+    """The answer with these remarks on superblocks, which come first."""
+    return 1, right[1], "".join(f"shardscrub: {remark}\n" for remark in remarks).encode() + right[2]
 
 
 class Made(Disk):
@@ -82,9 +87,10 @@ def members(archive):
 
 def lines_of(right, name):
     """The lines of `shards` about the shard of this name, by the right answer of `shard`."""
-    if right == NONE or not right[2]:
+    last = right[2].decode().splitlines()[-1:]
+    if not last or last[0].startswith(("shardscrub: no such shard", "shardscrub: superblock lost: ", "shardscrub: tie")):
         return []
-    kind, *number = right[2].decode().removeprefix("shardscrub: ").strip().split(": ")
+    kind, *number = last[0].removeprefix("shardscrub: ").split(": ")
     return [" ".join([f"shardscrub: {kind}: {name}", *number])]
 
 
@@ -113,7 +119,7 @@ class ShardCase(RoomCase):
     def check_among_all(self, what, right, name, *words):
         """The archive of all shards has this one, if it has bytes, and the lines beside it say the same of it."""
         files, lines = self.check_all(what, *words)
-        has_bytes = right[0] == 0 or right[2].startswith(b"shardscrub: a newer")
+        has_bytes = b"payload lost" not in right[2] and b"no such shard" not in right[2]
         self.same(f"{name} among all shards, {what}", files.get(name), right[1] if has_bytes else None)
         self.same(f"the lines of {name}, {what}", [line for line in lines if name in line], lines_of(right, name))
 
@@ -275,25 +281,27 @@ class Spares(ShardCase):
         self.check_with_spare(disk, retired=[1])
 
     def test_the_chunk_is_past_the_pointer(self):
-        """Its last byte alone, or all of it."""
+        """Its last byte alone, or all of it. So it is a loose copy."""
         for pointer in (54, 0):
             disk = Made()
             chunk = disk.chunk(1, 0, uuid(0x11), FIRST)
             disk.pointers[0] = pointer
-            self.check_with_spare(disk.finish((shard(1), [chunk])))
+            self.check(disk.finish((shard(1), [chunk])), whole(FIRST))
+            disk.rot(1, 0)
+            self.check_with_spare(disk)
 
     def test_a_page_is_unreadable(self):
         """Any page of the chunk; the pages beside it don't matter."""
         for pair in ("1:1", "1:2"):
             disk = Made()
             disk.finish((shard(1), [disk.chunk(1, 127, uuid(0x11), FIRST)]))
-            self.check(disk, whole(FIRST), "1:0", "1:3", "0:9")
+            self.check(disk, whole(FIRST), "1:0", "1:3")
             self.check_with_spare(disk, pair)
             self.check(disk, lost(0), pair, "3:0")
 
     def test_what_is_no_spare(self):
-        """Other bytes of that length; a longer payload that begins with the bytes; and a chunk that has rotted, was cut off, is past
-        a pointer, is hidden, or is in a retired extent."""
+        """Other bytes of that length; a longer payload that begins with the bytes; and a chunk that has rotted, was cut off, or is in a
+        retired extent."""
         disk, chunk = rotted()
         disk.chunk(2, 0, uuid(0x22), FIRST[::-1])
         disk.chunk(2, 64, uuid(0x23), FIRST + b"x")
@@ -302,10 +310,40 @@ class Spares(ShardCase):
         disk.chunk(2, 192, uuid(0x25), FIRST, sealed_frame)
         disk.spoil(2, 192 + 60)
         disk.put(3, 0, frame(uuid(0x33), FIRST)[:-1])
-        disk.chunk(3, 64, uuid(0x34), b"--" + frame(uuid(0x35), FIRST))
         disk.chunk(4, 0, uuid(0x44), FIRST)
-        disk.put(3, 256, frame(uuid(0x36), FIRST))
         self.check(disk.finish((shard(1), [chunk]), retired=[4]), lost(0))
+        self.check(disk.finish(), whole(FIRST))
+
+    def test_loose_copies(self):
+        """Within a chunk, behind a damaged one, across a pointer, past it, and several. The first is taken."""
+        garbage = frame(uuid(0x33), bytes(20))
+        for form in (frame, sealed_frame):
+            copy = form(uuid(0x22), FIRST)
+            for text, pointer in ((frame(uuid(0x34), b"--" + copy), 155), (garbage[:-1] + b"x" + copy, 200), (copy, 30), (copy, 0),
+                                  (bytes(301) + copy + copy, 0)):
+                disk, chunk = rotted()
+                disk.put(2, 0, text)
+                disk.pointers[1] = pointer
+                self.check(disk.finish((shard(1), [chunk])), whole(FIRST))
+
+    def test_payloads_from_loose_copies(self):
+        """One after another, in the order of the entry; none of them is a copy of another locator."""
+        disk = Made()
+        chunks = [disk.chunk(1, 64 * k, uuid(0x11), payload) for k, payload in enumerate((FIRST, SECOND, THIRD))]
+        disk.pointers[0] = 0
+        disk.put(2, 7, frame(uuid(0x22), FIRST))
+        self.check(disk.finish((shard(1), [chunks[2], chunks[0], chunks[1]]), (shard(2), [chunks[1]])), whole(THIRD, FIRST, SECOND))
+        self.check(disk, whole(SECOND), identifier=shard(2))
+        disk.rot(1, 64)
+        self.check(disk, lost(2))
+        self.check(disk, lost(0), identifier=shard(2))
+
+    def test_a_crowded_extent(self):
+        """No copy is looked for in it."""
+        disk, chunk = rotted()
+        disk.put(2, 0, worked.HEAP + worked.HEAP + frame(uuid(0x22), FIRST))
+        self.check(disk.finish((shard(1), [chunk])), lost(0))
+        disk.put(3, 100, frame(uuid(0x22), FIRST))
         self.check(disk.finish(), whole(FIRST))
 
     def test_a_locator_of_another_length(self):
@@ -532,7 +570,7 @@ class Entries(ShardCase):
                              ([(0, 7, first_run), (8, 7, second_run)], FIRST)):
             for page, generation, named in pages:
                 disk.superblock(page, generation, named)
-            self.check(disk, whole(right))
+            self.check(disk, remarked(whole(right), "tie") if pages[0][1] == pages[1][1] else whole(right))
 
     def test_what_else_is_wrong_with_the_disk(self):
         """A torn chunk, noise, a tail, unreadable pages, twins, a damaged superblock, a broken shard, and a lost run that is older."""
@@ -547,7 +585,67 @@ class Entries(ShardCase):
         disk.rot(3, 0)
         disk.rot(RUNS, disk.put_run((shard(1), [second])))
         disk.finish((shard(1), [first, second]), (shard(2), [gone, gone[:12] + uuid(0x34) + b"x" * 32]))
-        self.check(disk, whole(FIRST, SECOND), "0:15", "1:15", "4:3")
+        self.check(disk, remarked(whole(FIRST, SECOND), "superblock lost: 8", "superblock lost: 15"), "0:15", "1:15", "4:3")
+
+
+class Superblocks(ShardCase):
+    """What is said where the newest superblock may be in doubt. The bytes are those of the one that counts."""
+
+    def disk(self):
+        """A shard of one chunk. The superblock with generation 7 is on pages 0 and 1."""
+        disk = Made()
+        return disk.finish((shard(1), [disk.chunk(1, 0, uuid(0x11), FIRST)]))
+
+    def test_a_page_that_cant_be_read(self):
+        disk = self.disk()
+        self.check(disk, remarked(whole(FIRST), "superblock lost: 9"), "0:9")
+        self.check(disk, remarked(whole(FIRST), "superblock lost: 3", "superblock lost: 4", "superblock lost: 15"), "0:15", "0:4", "0:3")
+        for page in "01":
+            self.check(disk, NONE, f"0:{page}", sizes_are_found=False)
+
+    def test_a_damaged_record(self):
+        """Of either kind, and one that was torn: what of it isn't on its first page is no record."""
+        for kind in (b"SSB1", b"SSB2"):
+            disk = self.disk()
+            disk.put(0, 8 * PAGE, kind)
+            self.check(disk, remarked(whole(FIRST), "superblock lost: 8"))
+        disk = self.disk()
+        disk.superblock(8, 8, *disk.runs)
+        disk.put(0, 9 * PAGE, bytes(PAGE))
+        self.check(disk, remarked(whole(FIRST), "superblock lost: 8"))
+
+    def test_a_tie(self):
+        disk = self.disk()
+        disk.superblock(8, 7)
+        self.check(disk, remarked(whole(FIRST), "tie"))
+        disk.superblock(11, 7, *disk.runs)
+        self.check(disk, remarked(whole(FIRST), "tie"))
+
+    def test_all_of_them(self):
+        """By their pages, whatever is wrong with them; then the tie, and then what is said of the shard. Without bytes there are none."""
+        disk, chunk = rotted()
+        good = disk.chunk(2, 0, uuid(0x22), FIRST[::-1])
+        disk.put_run((shard(1), [good]), (shard(2), [chunk]), (shard(3), [good]))
+        disk.rot(RUNS, disk.put_run((shard(9), [good])))
+        disk.finish((shard(3), [good]))
+        disk.put(0, 7 * PAGE, b"SSB2")
+        disk.superblock(8, 7, *disk.runs)
+        disk.put(0, 14 * PAGE, b"SSB1")
+        remarks = ["superblock lost: 6", "superblock lost: 7", "superblock lost: 13", "superblock lost: 14", "tie"]
+        self.check(disk, remarked(whole(FIRST[::-1]), *remarks), "0:13", "0:6", identifier=shard(3))
+        self.check(disk, remarked(doubtful(FIRST[::-1]), *remarks), "0:6", "0:13")
+        self.check(disk, lost(0), "0:6", "0:13", identifier=shard(2))
+        self.check(disk, NONE, "0:6", "0:13", identifier=shard(4))
+
+    def test_disks_without_a_word(self):
+        """An older superblock, stray bytes, pages of other extents, and no superblock at all."""
+        disk = self.disk()
+        self.check(disk, whole(FIRST), "2:3", "1:15")
+        disk.superblock(8, 6)
+        self.check(disk, whole(FIRST))
+        disk.put(0, 14 * PAGE, b"stray")
+        self.check(disk, whole(FIRST))
+        self.check(Disk(PAGES, EXTENTS, PAGE), NONE, sizes_are_found=False)
 
 
 def rotted_chunk():
@@ -576,8 +674,8 @@ WORKED = [
     # A rotted chunk with a copy, and an unreadable one without.
     (rotted_chunk, 1, whole(b"abc")),
     (lambda: worked.one_shard("1:0"), 1, lost(0)),
-    # The superblock that counts has its chunk past the pointer, or not.
-    (lambda: worked.two_superblocks(8), 1, lost(0)),
+    # The superblock that counts has its chunk past the pointer, where it is a loose copy, or not.
+    (lambda: worked.two_superblocks(8), 1, whole(b"abc")),
     (lambda: worked.two_superblocks(6), 1, whole(b"abc")),
     # A newer run is broken.
     (worked.broken_newest_run, 1, doubtful(b"abc")),
@@ -732,7 +830,8 @@ class Words(ShardCase):
         disk.put(0, 512, record(64, 16, 3, [0, 0], []))
         image = self.write(disk.bytes)
         self.check_words("two sizes", given, (2, b"", b"shardscrub: sizes not found: run shardscrub sizes\n"))
-        self.check_words("two sizes, given", ["--id", self.NAME.hex(), *self.sizes, image], whole(FIRST))
+        self.check_words("two sizes, given", ["--id", self.NAME.hex(), *self.sizes, image],
+                         remarked(whole(FIRST), "superblock lost: 8"))
         self.check_words("other sizes, given", ["--id", self.NAME.hex(), *geometry(64, 16, 7), image], NONE)
 
 
@@ -839,11 +938,20 @@ class All(ShardCase):
         self.same("the files", self.check_lines(disk.finish(), lines),
                   {shard(1).hex(): FIRST, shard(3).hex(): FIRST + FIRST, shard(6).hex(): FIRST})
 
-    def test_a_tie_changes_nothing(self):
+    def test_remarks_on_superblocks(self):
+        """They come after the line of no superblock, and before those of runs. The files are those of the superblock that counts."""
         disk = Made()
+        disk.rot(RUNS, disk.put_run())
         disk.finish((shard(1), [disk.chunk(1, 0, uuid(0x11), FIRST)]))
+        self.same("the files", self.check_lines(disk, ["superblock lost: 9", "run lost: 1 wrong_digest"], "0:9"), {shard(1).hex(): FIRST})
         disk.superblock(8, 7)
-        self.same("the files", self.check_lines(disk, []), {shard(1).hex(): FIRST})
+        self.same("the files", self.check_lines(disk, ["tie", "run lost: 1 wrong_digest"]), {shard(1).hex(): FIRST})
+        disk.put(0, 14 * PAGE, b"SSB2")
+        said = ["superblock lost: 13", "superblock lost: 14", "tie", "run lost: 1 wrong_digest"]
+        self.same("the files", self.check_lines(disk, said, "0:13"), {shard(1).hex(): FIRST})
+        empty = Disk(PAGES, EXTENTS, PAGE)
+        empty.put(0, 3 * PAGE, b"SSB1")
+        self.same("the files", self.check_lines(empty, ["no superblock", "superblock lost: 1", "superblock lost: 3"], "0:1"), {})
 
     def test_many_shards(self):
         """Disks by chance, with each kind of wrong thing on some of them; each shard is as `shard` writes it."""

@@ -13,7 +13,7 @@ from lib.cases import RoomCase, add_tests
 from lib.disks import Disk, locator, run, shard
 from lib.system import ALLOCATIONS, run_counted
 from lib.worked import ONES, TWOS, abc, finish, one_shard
-from reference.shardscrub import Image, index, locators, manifest, scan
+from reference.shardscrub import Image, index, locators, manifest, scan, superblock_remarks, told
 from test_system import answer
 
 
@@ -82,7 +82,8 @@ class WalkCase(RoomCase):
         image = Image(disk.bytes, disk.page, disk.pages, disk.extents, pages)
         for call, *own in ((scan, "--workers", "0"), (scan, "--workers", "3"), (locators,), (index,), (manifest,)):
             printed, is_good = call(image)
-            wanted = int(not is_good), printed if isinstance(printed, bytes) else printed.encode(), b""
+            error = "".join(map(told, superblock_remarks(image))) if call is manifest else ""
+            wanted = int(not is_good), printed if isinstance(printed, bytes) else printed.encode(), error.encode()
             self.same(f"{call.__name__} {' '.join(own)}, {what}", answer(call.__name__, *own, *words, *unreadable, **more), wanted)
 
 
@@ -165,11 +166,11 @@ class Runs(WalkCase):
         self.same("shards", [(line[1], line[7]) for line in lines], [(shard(number).hex(), str(number)) for number in read])
 
     def test_several_threads_read_32_runs(self):
-        """Nothing else in this command starts threads, since no locator of the shard has a place to look at."""
+        """Nothing else in this command starts threads, since no run has the shard."""
         library = ALLOCATIONS.made(self.room)
         _, words, _ = self.put(runs_in_a_row(False))
         for processors in self.processors:
-            _, found = run_counted(self.program, ["locators", "--workers", "0", *words], library, processors=processors)
+            _, found = run_counted(self.program, ["shard", "--id", "f" * 32, "--workers", "0", *words], library, processors=processors)
             is_right = found is not None and (found.threads > 0) == (len(processors) > 1)
             self.true(f"{len(processors)} processors", is_right, found)
 

@@ -6,7 +6,7 @@ from pathlib import Path
 
 sys.path.insert(0, str(Path(__file__).resolve().parent.parent / "tests"))
 from lib.disks import MAGIC, Disk, frame, locator, run, sealed_frame, shard, uuid
-from lib.worked import behind_a_damaged_frame
+from lib.worked import LOOSE, behind_a_damaged_frame
 from pages import TOP, run_tool
 
 FOLDER = TOP / "examples"
@@ -211,6 +211,28 @@ def behind():
     return behind_a_damaged_frame()
 
 
+def of_worked(name):
+    """An image of five extents that the tests share."""
+    disk = Disk(8, 5)
+    disk.bytes[:] = LOOSE[name]
+    return disk
+
+
+def tail():
+    """Shard 1's chunk was moved out of extent 1, which was reset, and has rotted. The whole one is past the pointer of extent 1."""
+    return of_worked("tail")
+
+
+def part():
+    """The same disk after extent 1 was written again, up to the middle of an old chunk before the whole one."""
+    return of_worked("part")
+
+
+def crowded():
+    """The same with frames over frames between them."""
+    return of_worked("crowded")
+
+
 def two_copies():
     """Shard 1's chunk, after the run, has rotted. Extents 1 and 2 have an old copy each, and garbage."""
     disk = Disk(8, 4)
@@ -296,7 +318,7 @@ def rescued_map():
 
 IMAGES = (one_chunk, one_shard, no_superblock, tie, collision, lost_run, retired_extent, twins,
           several_findings, later_run, flipped_bit, failing, rescued, formatted_twice, reclaimed_before, rotted, copied,
-          behind, two_copies, less, full, to_move, damaged_copy, completed)
+          behind, tail, part, crowded, two_copies, less, full, to_move, damaged_copy, completed)
 MAPS = (failing_map, rescued_map)
 
 

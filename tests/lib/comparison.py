@@ -1,4 +1,4 @@
-"""Compares a program with the reference on made-up disks, byte for byte: report, index, summary, named locators with spares,
+"""Compares a program with the reference on made-up disks, byte for byte: report, index, summary, named locators with copies,
 manifests with resets, superblocks, items, what may be reclaimed, sizes, bytes of one shard and of all, and the status and error stream of each;
 with the sizes and, where they may be left out, without them; with right and wrong generations for --last. Some disks have a map of
 GNU ddrescue, and some of these maps are refused. Some texts to accept, extents, pointers and identifiers are refused, too. What
@@ -13,15 +13,16 @@ from types import SimpleNamespace
 from typing import NamedTuple
 
 from lib.disks import geometry
-from lib.made_up import Made, Tended, made_pair
-from reference.shardscrub import ACCEPTABLE, answered, choose, disk_of, read_arguments, refusal, scrub
+from lib.made_up import History, Made, Tended, made_pair
+from reference.shardscrub import ACCEPTABLE, answered, choose, claims_in, disk_of, is_any_gone, read_arguments, refusal, scrub
 
 
 # What shard prints, beside the manifest and the report. The reference has no part in it
 
-# Where the payload of a chunk begins in its frame.
-BEGINS = {"chunk": 22, "sealed": 54}
+# Where the payload of a frame begins in it, and its mark, by its first two bytes.
+BEGINS = {b"\xc5\x5e": (22, b""), b"\xc5\x5f": (54, b"\x3a\xa3")}
 DOUBT = b"shardscrub: a newer entry may be lost\n"
+LOST_PAGE, TIE = b"shardscrub: superblock lost: ", b"shardscrub: tie\n"
 NONE = b"shardscrub: no such shard\n"
 # The length and the digest of no bytes.
 EMPTY = "0", sha256(b"").hexdigest()
@@ -29,11 +30,18 @@ EMPTY = "0", sha256(b"").hexdigest()
 
 class Locator(NamedTuple):
     """A locator of a shard, as the manifest has it: its number in the entry, the length and the digest of the payload, and
-    whether it dangles without a spare, and asks for bytes."""
+    whether it dangles without a copy, and asks for bytes."""
     number: str
     length: int
     digest: str
     is_lost: bool
+
+
+def without_remarks(error):
+    """The lines of the error stream that are remarks on superblocks, and the others."""
+    lines = error.splitlines(keepends=True)
+    remarks = [line for line in lines if line.startswith((LOST_PAGE, TIE))]
+    return remarks, b"".join(line for line in lines if line not in remarks)
 
 
 class Listed:
@@ -48,31 +56,50 @@ class Listed:
                 of_shard.append(Locator(number, int(length), digest, rest[-1] == "none" and (length, digest) != EMPTY))
 
     def payloads(self):
-        """The payload of each chunk in the items."""
+        """The payload of each frame at any byte of an extent in use, also past its pointer, but of those that are crowded."""
         size = self.report["geometry"]["page"] * self.report["geometry"]["pages"]
         for row in self.report["extents"]:
-            for kind, start, _, *rest in map(str.split, row["items"]):
-                if kind in BEGINS:
-                    begin = row["extent"] * size + int(start) + BEGINS[kind]
-                    yield self.raw[begin:begin + int(rest[1])]
+            begin, frames = row["extent"] * size, []
+            text = self.raw[begin:begin + size]
+            for at in range(len(text)):
+                if text[at:at + 2] in BEGINS:
+                    frames += self.frame(row, text, at)
+            if sum(map(len, (payload for payload, _ in frames))) <= 4 * size:
+                yield from (payload for payload, is_whole in frames if is_whole)
+
+    def frame(self, row, text, at):
+        """The payload of the frame at a byte of an extent, and whether it has the digest of its seal; none if there is no frame, or a page
+        of it can't be read."""
+        begin, mark = BEGINS[text[at:at + 2]]
+        length = int.from_bytes(text[at + 18:at + 22], "big")
+        end = at + begin + length
+        stop, page = end + 16 + len(mark), self.report["geometry"]["page"]
+        if text[end:stop] != text[at + 2:at + 18] + mark or any(at < (bad + 1) * page and bad * page < stop for bad in row["bad"]):
+            return []
+        payload = text[at + begin:end]
+        return [(payload, begin == 22 or text[at + 22:at + 54] == sha256(payload).digest())]
 
     def laws(self, identifier, answer):
         """For the answer of `shard` with this identifier, each law that it has to keep, and whether it does."""
-        status, printed, error = answer
+        status, printed, whole_error = answer
+        remarks, error = without_remarks(whole_error)
         locators = self.shards.get(identifier, [])
         lost = [locator for locator in locators if locator.is_lost]
+        yield "the status is 0 just if nothing is said", (status == 0) == (whole_error == b"")
         yield "there is no such shard just if the manifest has none", (error == NONE) == (locators == [])
         yield "a payload is lost just if the manifest says so", error.startswith(b"shardscrub: payload lost: ") == (lost != [])
         if locators and not lost:
             yield from self.laws_of_bytes(locators, printed)
             yield "a newer entry may be lost just if the report says so", (error == DOUBT) == (identifier in self.report["doubtful"])
-            yield "the status is 1 just if something is said", (status, error) in ((0, b""), (1, DOUBT))
+            yield "nothing else is said", error in (b"", DOUBT)
+            yield "a tie is said just if the report says so", (TIE in remarks) == self.report["super"]["tie"]
+            yield "each unreadable page of extent 0 is said", {b"%s%d\n" % (LOST_PAGE, g) for g in self.report["super"]["bad"]} <= {*remarks}
         else:
-            yield "the status is 1, and nothing is written", (status, printed) == (1, b"")
+            yield "the status is 1, and nothing is written", (status, printed, remarks) == (1, b"", [])
         if lost:
             first = lost[0]
             yield "the number is that of the first lost payload", error == f"shardscrub: payload lost: {first.number}\n".encode()
-            yield "no chunk has the lost payload", not any(
+            yield "no frame has the lost payload", not any(
                 len(payload) == first.length and sha256(payload).hexdigest() == first.digest for payload in self.payloads())
 
     def laws_of_bytes(self, locators, printed):
@@ -108,7 +135,7 @@ def texts_to_accept(c, doubts):
             other = line[:-1] + chr(ord(line[-1]) ^ 1)
             texts.append(c.choice([other, line + " ", line.replace(" ", "  ", 1), line[:-1], line + "0"]))
     if c.random() < .1:
-        texts.append(c.choice(["tail 1 0 1", "tail-lost 0 0 0", "spare 1 2 3", "remains 1 0 1", "spare ", "superblock-stray  ", "tail x"]))
+        texts.append(c.choice(["tail 1 0 1", "tail-lost 0 0 0", "spare 1 2 3", "loose 1 2 3", "crowded 1", "loose ", "superblock-stray  ", "tail x"]))
     if c.random() < .03:
         texts.append(c.choice([*ACCEPTABLE, "tie", "tie 1", "run-lost", "last 1 2", "no-superblock", "Tail 1 0 1", " tail 1 0 1",
                                "superblock-lost 1", ""]))
@@ -235,7 +262,7 @@ def kind_of(command, words):
     """What is counted of a line: its first words, its status, and what a summary says."""
     first, *rest = words
     if command == "locators":
-        return first if first == "spare" else f"{first} {words[-1]}"
+        return first if first in ("spare", "loose") else f"{first} {words[-1]}"
     if command == "manifest":
         return {"shard": lambda: " ".join(["shard", words[5]] + (words[-1:] if words[5] != "hidden" else [])),
                 "runs": lambda: "runs" + " lost" * (words[2] != "0") + " hidden" * (words[4] != "0"),
@@ -259,13 +286,13 @@ def kinds_of_shard(listed, identifier, error, deleted):
              else places.get(words[5], words[-1]) + " of length 0" * (words[3] == "0") for words in locators}
     if "payload lost" in error:
         return {"lost of length 0" if kind == "none of length 0" else "lost" for kind in kinds if kind.startswith("none")}
-    return kinds | ({"doubtful"} if error else {"not doubtful"})
+    return kinds | ({"doubtful"} if DOUBT.decode() in error else {"not doubtful"})
 
 
-def deleted_on(disk):
+def deleted_on(found):
     """The identifiers of the shards whose newest entry has no locator."""
     newest = {}
-    for one in scrub(disk_of(read_arguments(["scan", *disk.shared()]))).runs:
+    for one in found.runs:
         for identifier, locators in one.entries or []:
             newest.setdefault(identifier.hex(), locators)
     return {identifier for identifier, locators in newest.items() if not locators}
@@ -287,7 +314,12 @@ def count(seen, report, disk, calls):
         e["tail"] and e["items"] and e["items"][-1].startswith("pad") and e["pointer"] // page == e["tail_at"] // page
         for e in report["extents"])
     listed = [line.split() for line in disk.answer("manifest")[1].decode().splitlines()]
-    deleted = deleted_on(disk)
+    found = scrub(disk_of(read_arguments(["scan", *disk.shared()])))
+    deleted, is_lost = deleted_on(found), is_any_gone(found)
+    for f in found.scanned:
+        most, total = 4 * found.image.size, sum(claim.length for _, claim in claims_in(found.image, f.extent))
+        kind = "crowded" if total > most else "crowded but for a byte" if total == most else "nearly crowded" if total > most - 64 else None
+        seen[f"extents: {kind}{', and a payload is lost' * is_lost}"] += kind is not None
     of_shards = set()
     for call in calls:
         status, printed, error = call.right
@@ -355,9 +387,9 @@ def written(made, unreadable, text, folder):
 def compared(seed, turn, folder):
     """Makes up the disk of this seed and turn, and writes its image, and its map if it has one, into this folder."""
     c = random.Random(seed * 1_000_003 + turn)
-    made = (Made if turn % 3 == 0 else Tended)(c)
+    made = (Made, Tended, History, Tended)[turn % 4](c)
     unreadable = made.make()
-    text = made.map() if c.random() < (.5 if turn % 3 == 0 else .2) else None
+    text = made.map() if c.random() < (.5 if turn % 4 == 0 else .2) else None
     disk = written(made, unreadable, text, folder)
     given = [Call(words.command, words.all(), answered(words.all()), words.of_shard) for words in calls(c, disk)]
     status, report, _ = disk.answer("scan")
@@ -376,7 +408,7 @@ def kind_of_change(line):
         return " ".join(words[:3])
     if words[0] == "named":
         return f"named {words[1]} {words[-1]}"
-    if words[0] in ("lost", "new", "spare"):
+    if words[0] in ("lost", "new", "spare", "loose"):
         return " ".join([*words[:2], *words[6:7]])
     return f"{words[0]} 0" if words[:2] == ["written", "0"] else words[0]
 

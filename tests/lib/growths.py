@@ -52,6 +52,7 @@ IN_RUNS = {
     "twins_by_threads": "scan",
     "Spares::of": "locators with a spare",
     "Spares::among": "reclaimable",
+    "Copies::of": "locators with a loose copy",
     "name_shard": "scan",
     "payload_at": "scan",
     "read_all_runs": "scan",
@@ -65,6 +66,7 @@ IN_RUNS = {
     "owner_text": "locators",
     "append_line": "locators",
     "list_locators": "locators",
+    "superblock_remarks": "manifest with a remark",
     "append_retired": "manifest",
     "append_runs": "manifest",
     "append_text": "manifest",
@@ -90,7 +92,7 @@ IN_RUNS = {
 # The crates whose public functions are in this account.
 LIBRARIES = ["sha_lanes"] + [
     f"scrub_{name}"
-    for name in ("disk", "map", "frame", "super", "scan", "run", "merge", "check", "book", "pool", "found", "report", "listings",
+    for name in ("disk", "map", "frame", "super", "scan", "run", "merge", "check", "loose", "book", "pool", "found", "report", "listings",
                  "reclaim", "compare", "shard")
 ]
 # A public function: its indentation, its name, and its signature up to the clauses or the body.

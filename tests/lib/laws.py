@@ -1,12 +1,15 @@
-"""The laws of acting, held on disks and on pairs of disks: those of spares, remains, --last, sound disks, copies, resets, manifests and
-shards; and those of `compare`, held on made-up pairs of images that it calls safe."""
+"""The laws of acting, held on disks and on pairs of disks: those of spares, loose copies, --last, sound disks, copies, resets, manifests
+and shards; and those of `compare`, held on made-up pairs of images that it calls safe."""
 import random
 
-from lib.made_up import Made, Tended, junk, made_pair, write_something
-from lib.node import (Broken, Drive, Full, acceptable, all_accepted, chunks_of, doubts_in, held, is_held, lines_with,
-                      named_locators, place_of, require, worked)
-from reference.shardscrub import BY_LAST, FORMS, HEAD, choose, frame_at, records_of, sha
+from lib.drives import worked
+from lib.made_up import History, Made, Tended, junk, made_pair, write_something
+from lib.node import (Broken, Drive, Full, acceptable, all_accepted, are_risen, chunks_of, doubts_in, frames_in, held, is_held, is_risen,
+                      lines_with, named_locators, place_of, require)
+from reference.shardscrub import BEST, BY_LAST, HEAD, choose, claims_in, frame_at, records_of, sha
 
+
+# Spares and loose copies
 
 def hold_spares(engine, drive, seen):
     """If no line begins with `doubt` or `accepted spare`, each dangling locator that has a spare has one that is live or in an
@@ -33,32 +36,77 @@ def hold_spares(engine, drive, seen):
             require(any(place in live or place[0] not in listed for place in places), "law of spares:", owner, places, text)
 
 
-def frames_in(drive, extent, pointer):
-    """Each frame that begins at any byte of an extent and ends at or below the pointer: the byte, and its payload."""
-    image, text = drive.image(), drive.read(extent, 0, pointer)
-    starts = [p for p in range(pointer) if text[p:p + 2] in FORMS]
-    return [(p, found[3]) for p in starts if (found := frame_at(image, extent, pointer, p))]
+def frames_of(drive):
+    """The frames at any byte of each extent in use, pairs of an extent and a payload; and the crowded extents, whose frames aren't among
+    them."""
+    image, chosen, frames, crowded = drive.image(), choose(drive.image()), [], []
+    for e in range(1, drive.extents):
+        if e in chosen["retired"]:
+            continue
+        if sum(claim.length for _, claim in claims_in(image, e)) > 4 * drive.size:
+            crowded.append(e)
+        else:
+            frames += [(e, payload) for _, payload in frames_in(drive, e, drive.size)]
+    return frames, crowded
 
 
-def hold_remains(engine, drive, seen):
-    """If no line begins with `doubt` or `accepted remains`, let a locator of a shard dangle, have a length over 0 and no spare. Each frame
-    with its payload in an extent that is listed begins inside a chunk, and not at its start."""
+def payloads_of_chunks(drive):
+    """The payloads of all chunks."""
+    image, chosen = drive.image(), choose(drive.image())
+    return [frame_at(image, e, w, start)[3] for e, w in enumerate(chosen["pointers"], 1) if e not in chosen["retired"]
+            for start, _, _, _ in chunks_of(drive, e, w)]
+
+
+def copies_by_place(drive):
+    """For each named locator that dangles and asks for bytes: itself, whether it has a spare, and the extents of the frames with what it
+    asks for; and the crowded extents."""
+    frames, crowded = frames_of(drive)
+    chunks = {(len(payload), sha(payload)) for payload in payloads_of_chunks(drive)}
+    listed = []
+    for owner, c, status in named_locators(drive):
+        if status not in ("sound", "hidden") and c["length"] > 0:
+            asked = c["length"], c["digest"]
+            listed.append((owner, asked in chunks, {e for e, payload in frames if (len(payload), sha(payload)) == asked}))
+    return listed, crowded
+
+
+def accepting_but(engine, drive, kind):
+    """The listing with all doubts accepted but those of a kind, or None if a line begins with `doubt` or is an accepted one of this kind."""
     text, _ = engine.ask(drive, "reclaimable")
-    text, _ = engine.ask(drive, "reclaimable", [t for t in acceptable(doubts_in(text)) if not t.startswith("remains ")])
-    manifest = [line.split() for line in engine.ask(drive, "manifest")[0].splitlines()]
-    lost = {(int(words[3]), words[4]) for words in manifest if words[0] == "shard" and words[-1] == "none" and words[3] != "0"}
-    seen["law of remains: a doubt"] += any(line.startswith("doubt remains ") for line in text.splitlines())
-    if any(line.startswith(("doubt ", "accepted remains ")) for line in text.splitlines()) or not lost:
-        return
-    pointers = choose(drive.image())["pointers"]
-    for extent in [int(words[1]) for words in lines_with(text, "reclaim")]:
-        seen["law of remains: an extent is listed"] += 1
-        pointer = pointers[extent - 1]
-        for start, payload in frames_in(drive, extent, pointer):
-            if (len(payload), sha(payload).hex()) in lost:
-                seen["law of remains: a copy inside a chunk"] += 1
-                around = [item for item in chunks_of(drive, extent, pointer) if item[0] < start < item[1]]
-                require(around, "law of remains:", extent, start, text)
+    text, _ = engine.ask(drive, "reclaimable", [line for line in acceptable(doubts_in(text)) if not line.startswith(kind + " ")])
+    return None if any(line.startswith(("doubt ", f"accepted {kind} ")) for line in text.splitlines()) else text
+
+
+def extents_with(text, *words):
+    return {int(line[1]) for word in words for line in lines_with(text, word)}
+
+
+def hold_loose(engine, drive, seen):
+    """If no line begins with `doubt` or `accepted loose`, each named locator with a loose copy has one in an extent without a `reclaim` and
+    without a `room` line. If none begins with `doubt` or `accepted crowded`, and a payload is gone, no crowded extent is in a line."""
+    listed, crowded = copies_by_place(drive)
+    gone = [extents for _, has_spare, extents in listed if not has_spare]
+    if (text := accepting_but(engine, drive, "loose")) is not None:
+        for extents in filter(None, gone):
+            seen["law of loose copies: a locator that has some"] += 1
+            require(extents - extents_with(text, "reclaim", "room"), "law of loose copies:", extents, text)
+            seen["law of loose copies: an extent is listed"] += extents_with(text, "reclaim") != set()
+            require(not extents & extents_with(text, "last-room"), "law of loose copies: last-room", extents, text)
+    if gone and (text := accepting_but(engine, drive, "crowded")) is not None:
+        for e in crowded:
+            seen["law of crowded extents"] += 1
+            require(e not in extents_with(text, "reclaim", "room", "last-room"), "law of crowded extents:", e, text)
+
+
+def hold_last_words(engine, drive, seen):
+    """What the manifest says of a shard's locator that dangles: `spare` if a chunk has what it asks for, `loose` if only another frame at
+    any byte of an extent in use that isn't crowded, and else `none`."""
+    listed, _ = copies_by_place(drive)
+    words = [line.split() for line in engine.manifest(drive)[0].splitlines()]
+    found = [line[-1] for line in words if line[0] == "shard" and line[-1] in BEST and int(line[3]) > 0]
+    right = ["spare" if has_spare else "loose" if extents else "none" for owner, has_spare, extents in listed if isinstance(owner, bytes)]
+    require(found == right, "last words:", found, right)
+    seen.update(f"last word: {word}" for word in found)
 
 
 def with_a_copy_in_garbage(choice, drive):
@@ -120,8 +168,9 @@ def hold_verdicts(engine, drive, choice, seen):
         records = records_of(drive.image())
         held = {i for page, r in records.items() for i in range(page * drive.page, page * drive.page + r.length)}
         require(all(i in held for i, byte in enumerate(drive.read(0, 0, drive.size)) if byte), "law of a sound disk: bytes of extent 0")
-        for command in ("locators", "manifest", "superblocks"):
+        for command in ("locators", "superblocks"):
             require(engine.ask(drive, command)[1], "law of a sound disk: status of", command)
+        require(engine.manifest(drive)[1:] == (True, []), "law of a sound disk: manifest")
         doubts = doubts_in(engine.ask(drive, "reclaimable")[0])
         require(all(line.startswith("tail ") for line in doubts), "law of a sound disk: doubts", doubts)
         seen["law of a sound disk"] += 1
@@ -178,9 +227,9 @@ def rewritten(choice, drive, pointers, retired, runs, unreadable=()):
 
 def hold_shards(engine, drive, after, which, seen):
     """The bytes that `shard` writes of one disk, it writes of another. A payload that is lost may be found."""
-    for identifier in sorted({words[1] for words in lines_with(engine.ask(drive, "manifest")[0], "shard")}):
+    for identifier in sorted({words[1] for words in lines_with(engine.manifest(drive)[0], "shard")}):
         before, now = (engine.shard(one, bytes.fromhex(identifier)) for one in (drive, after))
-        is_lost = before[0] == b"" and str(before[1]).startswith("payload lost: ")
+        is_lost = before[0] == b"" and "".join(before[1]).startswith("payload lost: ")
         seen[f"{which}: bytes of a shard"] += not is_lost
         seen[f"{which}: a lost payload"] += is_lost
         require(before == now or is_lost, which, "shard", identifier, before, now)
@@ -203,13 +252,10 @@ def hold_copies(engine, drive, choice, seen):
     after = rewritten(choice, changed, pointers, chosen["retired"], chosen["runs"])
     if after is None:
         return
-    (first, good), (second, well) = engine.ask(drive, "manifest"), engine.ask(after, "manifest")
-    lines, others = first.splitlines(), second.splitlines()
-    require(len(lines) == len(others) and good == well, "law of a copy (1): status or number of lines", first, second)
-    for line, other in zip(lines, others):
-        found = line.endswith(" none") and other == line.removesuffix("none") + "spare"
-        seen["law of a copy: none became spare"] += found
-        require(line == other or found, "law of a copy (1):", line, other)
+    first, second = engine.manifest(drive)[0], engine.manifest(after)[0]
+    require(are_risen(first, second), "law of a copy (1):", first, second)
+    seen["law of a copy: a last word rose"] += first != second
+    seen["law of a copy: beside a loose copy"] += " loose\n" in first
     for x, (word, at, stops) in ends.items():
         before, now = chunks_of(drive, x, chosen["pointers"][x - 1]), chunks_of(after, x, pointers[x - 1])
         require(before <= now, "law of a copy (2): extent", x, before - now)
@@ -236,7 +282,7 @@ def spoilt_extents(choice, drive, extents):
 def named_with_forms(engine, drive):
     """The named locators with their statuses, and the forms of the sound ones of shards."""
     text, _ = engine.ask(drive, "locators")
-    lines = [line for line in text.splitlines() if not line.startswith("spare ")]
+    lines = [line for line in text.splitlines() if not line.startswith(("spare ", "loose "))]
     forms = []
     for owner, c, status in named_locators(drive):
         if status == "sound":
@@ -245,19 +291,25 @@ def named_with_forms(engine, drive):
     return lines, forms
 
 
+def gives_up(text):
+    """Whether a spare or a loose copy is accepted."""
+    return lines_with(text, "accepted spare") != [] or lines_with(text, "accepted loose") != []
+
+
 def hold_resets(engine, drive, choice, seen):
     chosen = choose(drive.image())
     some = sorted(choice.sample(range(1, drive.extents), choice.randint(1, min(3, drive.extents - 1))))
     if chosen["page"] is None:
-        require(engine.ask(drive, "manifest", resets=some) == ("no-superblock\n", False), "law of a reset: no superblock")
+        require(engine.manifest(drive, some)[:2] == ("no-superblock\n", False), "law of a reset: no superblock")
         return
     reset = [0 if e in some else w for e, w in enumerate(chosen["pointers"], 1)]
     after = rewritten(choice, spoilt_extents(choice, drive, some), reset, chosen["retired"], chosen["runs"])
     if after is not None:
-        foreseen, now = engine.ask(drive, "manifest", resets=some), engine.ask(after, "manifest")
-        require(foreseen == now, "law of a reset (1):", some, foreseen, now)
+        foreseen, now = engine.manifest(drive, some)[0], engine.manifest(after)[0]
+        require(are_risen(foreseen, now), "law of a reset (1):", some, foreseen, now)
         seen["law of a reset: foreseen"] += 1
-        seen["law of a reset: foreseen, with another text"] += foreseen != engine.ask(drive, "manifest")
+        seen["law of a reset: foreseen, with another text"] += foreseen != engine.manifest(drive)[0]
+        seen["law of a reset: foreseen, and a last word rose"] += foreseen != now
     text, _ = all_accepted(engine, drive)
     moved = {int(words[1]) for words in lines_with(text, "move")}
     free = [int(words[1]) for words in lines_with(text, "reclaim") if int(words[1]) not in moved]
@@ -272,19 +324,26 @@ def hold_resets(engine, drive, choice, seen):
         require(before == now, "law of a reset (2):", free, before, now)
         seen["law of a reset: listed without a move"] += 1
         seen["law of a reset: several listed"] += len(free) > 1
-        if not lines_with(text, "accepted spare"):
+        if not gives_up(text):
+            old, new = engine.manifest(drive)[0], engine.manifest(after)[0]
+            require(are_risen(old, new), "law of a reset (5):", free, old, new)
+            seen["law of a reset: whatever is in it, beside a loose copy"] += " loose\n" in old
             hold_shards(engine, drive, after, "law of a reset (4)", seen)
-    if not lines_with(text, "accepted spare"):
-        require(engine.ask(drive, "manifest", resets=free) == engine.ask(drive, "manifest"), "law of a reset (3):", free)
+    if not gives_up(text):
+        require(engine.manifest(drive, free)[0] == engine.manifest(drive)[0], "law of a reset (3):", free)
         seen["law of a reset: the manifest stays"] += 1
     else:
-        seen["law of a reset: a spare accepted"] += 1
+        seen["law of a reset: a copy accepted"] += 1
 
 
 def hold_manifest(engine, drive, seen):
     """What the manifest says is what the report and the named locators say."""
-    text, good = engine.ask(drive, "manifest")
+    text, good, remarks = engine.manifest(drive)
     chosen = choose(drive.image())
+    pages = [line.split() for line in engine.ask(drive, "superblocks")[0].splitlines()]
+    lost = [f"superblock lost: {words[1]}" for words in pages if words[0] in ("lost", "damaged")]
+    require(remarks == lost + ["tie"] * any(words[-1] == "tie" for words in pages), "remarks", remarks, pages)
+    seen.update(f"remark: {remark.partition(':')[0]}" for remark in remarks)
     if chosen["page"] is None:
         require((text, good) == ("no-superblock\n", False), "manifest without a superblock")
         return
@@ -299,14 +358,17 @@ def hold_manifest(engine, drive, seen):
         require(words[:2] + words[3:6] == ["shard", owner.hex(), str(c["length"]), c["digest"].hex(), status], "a line of the manifest", line)
         require(len(words) == (7 if status == "sound" else 9 if status == "hidden" else 10), "words of a line", line)
         seen["manifest: " + status + (" " + words[-1] if status != "hidden" else "")] += 1
-    require(good == (lines[1] == "runs lost 0 hidden 0" and all(s == "sound" for _, _, s in shards)), "status of the manifest")
+    is_whole = lines[1] == "runs lost 0 hidden 0" and all(s == "sound" for _, _, s in shards)
+    require(good == (is_whole and not remarks), "status of the manifest")
 
 
 def hold_laws(engine, drive, choice, seen):
     hold_spares(engine, drive, seen)
-    hold_remains(engine, drive, seen)
+    hold_loose(engine, drive, seen)
+    hold_last_words(engine, drive, seen)
     if other := with_a_copy_in_garbage(choice, drive):
-        hold_remains(engine, other, seen)
+        hold_loose(engine, other, seen)
+        hold_last_words(engine, other, seen)
     hold_last(engine, drive, choice, seen)
     hold_verdicts(engine, drive, choice, seen)
     hold_manifest(engine, drive, seen)
@@ -317,7 +379,7 @@ def hold_laws(engine, drive, choice, seen):
 def hold_laws_on(engine, seed, seen):
     """Holds the laws on a made-up disk, and those of --last and of sound disks on a disk of a node."""
     choice = random.Random(seed)
-    made = (Tended if choice.random() < .8 else Made)(choice)
+    made = choice.choice([Tended, Tended, Tended, History, History, Made])(choice)
     unreadable = made.make()
     drive = Drive(made.p, made.n, made.e, made.raw, unreadable, made.payloads.values() if isinstance(made, Tended) else ())
     try:
@@ -342,7 +404,7 @@ def is_foreseen(old, new):
     """Whether a line of a manifest may be another one of these after what was safe."""
     *rest, last = old.split()
     *others, other = new.split()
-    return old == new or rest == others and ((last, other) == ("none", "spare") or rest[0] == "runs" and int(other) < int(last))
+    return is_risen(old, new) or rest == others and rest[0] == "runs" and int(other) < int(last)
 
 
 def hold_nothing_lost(engine, before, after, resets, choice, law, seen):
@@ -354,11 +416,12 @@ def hold_nothing_lost(engine, before, after, resets, choice, law, seen):
         later = rewritten(choice, spoilt_extents(choice, after, resets), pointers, chosen["retired"], chosen["runs"])
         if later is None:
             continue
-        old, new = (engine.ask(drive, "manifest")[0] for drive in (before, later))
+        old, new = (engine.manifest(drive)[0] for drive in (before, later))
         lines, others = old.splitlines(), new.splitlines()
         require(others[1].startswith("runs lost 0 "), law, "a run is lost", new)
         require(len(lines) == len(others) and all(map(is_foreseen, lines, others)), law, what, resets, "\n" + old, new)
-        require(is_held(held(before), held(later)), law, "payloads", what, resets)
+        crowded = frames_of(before)[1]
+        require(is_held(held(before, crowded), held(later, crowded)), law, "payloads", what, resets)
         hold_shards(engine, before, later, law, seen)
         seen[f"{law}: {what}"] += 1
         seen[f"{law}: another manifest"] += old != new
@@ -388,10 +451,11 @@ def hold_nothing_overwritten(before, after, resets, seen):
 def hold_undo(engine, before, after, choice, seen):
     chosen = choose(before.image())
     undone = rewritten(choice, after, chosen["pointers"], chosen["retired"], chosen["runs"])
-    if undone is not None:
-        old, new = engine.ask(before, "manifest"), engine.ask(undone, "manifest")
-        require(old == new, "law 4:\n", old[0], new[0])
+    if undone is not None and not frames_of(after)[1]:
+        old, new = engine.manifest(before)[0], engine.manifest(undone)[0]
+        require(are_risen(old, new), "law 4:\n", old, new)
         seen["law 4"] += 1
+        seen["law 4: another manifest"] += old != new
 
 
 def hold_compare_laws(engine, pair, choice, seen):

@@ -1,12 +1,14 @@
-"""Makes up disks, arbitrary ones and those of a node that mostly works, and maps of GNU ddrescue; and pairs of images for `compare`: a
-disk, and the same disk after something was written to it: copies and their superblock as they should be or with a mistake, resets,
-slips, chunks, runs and superblocks of a node, torn superblocks, rot. Some files are cut."""
+"""Makes up disks, arbitrary ones, those of a node that mostly works, and those of a node that moved chunks, reset extents and saw chunks
+rot; and maps of GNU ddrescue. Some have copies of lost payloads at any byte, or frames over frames. It also makes up pairs of images for
+`compare`: a disk, and the same disk after something was written to it: copies and their superblock as they should be or with a mistake,
+resets, slips, chunks, runs and superblocks of a node, torn superblocks, rot. Some files are cut."""
 from hashlib import sha256
 from typing import NamedTuple
 
+from lib.anywhere import crowd, loosen, overlapping
 from lib.disks import DIGEST, LOCATOR, MAGIC, fields, frame, locator, record, record_head, run, sealed_frame, with_digest
-from lib.node import (Drive, Full, Node, bindings_of, locator_of, named_locators, place_of, put_record, record_pages, run_of,
-                      worn)
+from lib.drives import moved_and_rotted, worn
+from lib.node import Drive, Full, Node, bindings_of, locator_of, named_locators, place_of, put_record, record_pages, run_of
 from reference.shardscrub import PLAIN, choose, firm_doubts, frame_at, rooms, scrub, sha
 
 
@@ -80,7 +82,18 @@ class Made:
         self.fill()
         self.put_records(self.bind())
         self.harm_records()
+        self.hide_copies(.25)
         return self.damage()
+
+    def hide_copies(self, chance):
+        """On some disks payloads are lost, and have copies at any byte. On some of these frames are over each other."""
+        c, named = self.c, [LOCATOR.unpack(l) for l in self.known]
+        if named and c.random() < chance:
+            drive = Drive(self.p, self.n, self.e, self.raw)
+            loosen(c, drive, named, self.w)
+            for _ in range(c.choice([0, 0, 1, 1, 2])):
+                crowd(c, drive)
+            self.raw[self.size:] = drive.raw[self.size:]
 
     def fill(self):
         """Writes chunks. Some are in no list to be named."""
@@ -370,7 +383,25 @@ class Tended(Made):
                 self.put(0, c.randrange(self.n) * self.p, c.choice([b"SSB1", b"SSB2", b"x"]))
             other = record(self.p, self.n, self.e, ws, c.choices(runs, k=c.randrange(5)) if runs else [], c.choice([3, 4, 6]))
             self.put_record(g * self.p, t, other)
+        self.hide_copies(.4)
         return self.damage()
+
+
+class History(Made):
+    """A disk of a node that moved chunks out of extents, reset these, and wrote on. Then some of the moved chunks rotted."""
+
+    def make(self):
+        drive, node = self.lived()
+        self.p, self.n, self.e, self.size, self.raw = drive.page, drive.pages, drive.extents, drive.size, drive.raw
+        self.w, self.identifiers = list(node.pointers), [*node.shards, self.c.randbytes(16)]
+        return sorted(drive.unreadable)
+
+    def lived(self):
+        while True:
+            try:
+                return moved_and_rotted(self.c)
+            except Full:
+                pass
 
 
 # Pairs of images
@@ -592,6 +623,48 @@ class Writer:
         if how == "superblock" and node.generation < 2 ** 64 - 1:
             node.superblock()
 
+    def lost_frames(self):
+        """The loose copies on the disk, each an extent, an offset and its bytes."""
+        found = scrub(self.drive.image())
+        wanted = {c.locator["digest"] for c in found.checked if c.status not in ("sound", "hidden") and c.locator["length"]}
+        return [(e, item.start, self.drive.read(e, item.start, item.stop - item.start)) for e, item in found.loose
+                if sha(found.frame(e, item.start).payload) in wanted]
+
+    def save(self):
+        """Copies of some loose copies as they are to rooms, and a superblock with the pointers after them."""
+        c, drive, left = self.choice, self.drive, dict(rooms(scrub(self.drive.image())))
+        _, pointers, retired, runs = self.fields()
+        some = self.lost_frames()
+        for _, _, text in c.sample(some, min(len(some), c.choice([1, 1, 2]))):
+            x, at = self.place(left, len(text))
+            drive.write(x, at, self.slip(text, text[:-1], self.flipped(text), b""))
+            pointers[x - 1] = left[x]
+        self.superblock(pointers, retired, runs)
+
+    def lose(self):
+        """Bytes over loose copies."""
+        some = self.lost_frames()
+        for x, at, text in self.choice.sample(some, min(len(some), self.choice.choice([1, 1, 2]))):
+            self.drive.write(x, at + self.choice.randrange(len(text)), self.choice.choice([b"x", bytes(9), bytes(len(text))]))
+
+    def loosen(self):
+        """Chunks rot, and there are copies of them at any byte."""
+        named = [tuple(c.values()) for owner, c, status in named_locators(self.drive) if status == "sound" and isinstance(owner, bytes)]
+        loosen(self.choice, self.drive, named, self.fields()[1])
+
+    def crowd(self):
+        """Frames over frames, in a room and under its new pointer, or anywhere."""
+        c, drive = self.choice, self.drive
+        if self.rooms and c.random() < .7:
+            x, at = c.choice(sorted(self.rooms.items()))
+            _, pointers, retired, runs = self.fields()
+            total = 4 * drive.size + c.choice([0, 1, -1, -c.randrange(200), -drive.size])
+            drive.write(x, at, overlapping(c, c.randbytes(16), drive.size - at, total))
+            pointers[x - 1] = drive.size
+            self.superblock(pointers, retired, runs)
+        else:
+            crowd(c, drive)
+
     def write_somewhere(self):
         """A few bytes, zeros, or chunks, anywhere or where there is room."""
         c, x = self.choice, self.choice.randrange(self.drive.extents)
@@ -610,6 +683,8 @@ class Writer:
 WRITES = {
     "copies": (6, Writer.copy), "filled rooms": (4, Writer.fill), "a reset": (4, Writer.reset), "a merged run": (2, Writer.merge), "a hidden run": (1, Writer.hide),
     "a lost payload": (1, Writer.find), "fields": (2, Writer.fields_changed),
+    "saved loose copies": (2, Writer.save), "bytes over loose copies": (1, Writer.lose), "loose copies": (1, Writer.loosen),
+    "a crowd": (1, Writer.crowd),
     "a torn superblock": (1, Writer.torn_superblock), "a node's chunk": (1, lambda writer: writer.node("chunk")),
     "a node's run": (1, lambda writer: writer.node("run")), "a node's superblock": (1, lambda writer: writer.node("superblock")),
     "bytes": (2, Writer.write_somewhere), "rot": (1, Writer.rot),
@@ -627,9 +702,9 @@ def made_disk(choice):
 
 def any_disk(choice):
     kind = choice.random()
-    if kind < .3:
+    if kind < .5:
         try:
-            return worn(choice)[0]
+            return worn(choice)[0] if kind < .2 else moved_and_rotted(choice)[0]
         except Full:
             pass
     made = (Made if kind > .9 else Tended)(choice)
@@ -643,7 +718,8 @@ def write_something(choice, drive, slips, most):
     writer, written = Writer(choice, drive, slips), []
     kinds = choice.choices(list(WRITES), [weight for weight, _ in WRITES.values()], k=choice.choice([0, *range(1, most + 1)]))
     if choice.random() < .5:
-        kinds = choice.choice([["copies"], ["copies"], ["copies", "a reset"], ["a reset"]]) + kinds * (choice.random() < slips * 4)
+        usual = [["copies"], ["copies"], ["copies", "a reset"], ["a reset"], ["saved loose copies"], ["saved loose copies", "a reset"]]
+        kinds = choice.choice(usual) + kinds * (choice.random() < slips * 4)
     for kind in kinds:
         try:
             WRITES[kind][1](writer)

@@ -1,30 +1,31 @@
-"""A disk in memory, the answers of a program or of the reference on it, a storage node at work on it, and drives on which a node has
-worked."""
+"""A disk in memory, the answers of a program or of the reference on it, and a storage node at work on it. lib/drives.py has drives on
+which a node has worked."""
 import os
 import re
 import subprocess
 
 from lib.disks import frame, geometry, record, run, sealed_frame
 from reference import shardscrub as reference
-from reference.shardscrub import (SEALED, Image, choose, frame_at, manifest, read_locator, records_of, refusal, scrub, sha,
-                                  tile, write_locator)
+from reference.shardscrub import BEST, FORMS, Image, choose, frame_at, manifest, records_of, refusal, scrub, sha, tile, write_locator
 
 
 # The disk and the answers
 
 class Drive:
-    """The bytes of a disk, and its unreadable pages."""
+    """The bytes of a disk, and its unreadable pages. What nobody reads from it: the payloads that its node wrote, its older bytes, what was
+    written `later` than the last superblock; the page and generation of a superblock that an older format has `left`, and the manifest
+    `known` to the node."""
 
     def __init__(self, page, pages, extents, raw=None, unreadable=(), payloads=()):
         self.page, self.pages, self.extents = page, pages, extents
         self.size = page * pages
         self.raw = bytearray(self.size * extents if raw is None else raw)
         self.unreadable = frozenset(unreadable)
-        self.payloads, self.older, self.later = list(payloads), [], None
+        self.payloads, self.older, self.later, self.left, self.known = list(payloads), [], None, None, None
 
     def copy(self, raw=None):
         other = Drive(self.page, self.pages, self.extents, self.raw if raw is None else raw, self.unreadable, self.payloads)
-        other.older, other.later = list(self.older), self.later
+        other.older, other.later, other.left, other.known = list(self.older), self.later, self.left, self.known
         return other
 
     def image(self):
@@ -51,13 +52,13 @@ class Engine:
         self.program, self.calls, self.file, self.written = program, 0, None, b""
         self.name = os.path.join(room, "image") if room else None
 
-    def ask(self, drive, command, accepted=(), resets=(), last=None):
+    def ask(self, drive, command, accepted=(), last=None):
         """The text that a command prints, and whether its status is 0. `last` is a generation for --last."""
         self.calls += 1
         if self.program is None:
-            options = {"reclaimable": [accepted, last], "summary": [last], "manifest": [resets]}.get(command, [])
+            options = {"reclaimable": [accepted, last], "summary": [last]}.get(command, [])
             return getattr(reference, command)(drive.image(), *options)
-        words = [word for text in accepted for word in ("--accept", text)] + [word for e in resets for word in ("--reset", str(e))]
+        words = [word for text in accepted for word in ("--accept", text)]
         words += ["--last", str(last)] if last is not None else []
         done = self.run(drive, [command, *words])
         if done.returncode not in (0, 1) or done.stderr:
@@ -97,16 +98,29 @@ class Engine:
         return subprocess.run([self.program, *words, *geometry(drive.page, drive.pages, drive.extents), self.name, *pairs],
                               stdin=subprocess.DEVNULL, capture_output=True)
 
-    def shard(self, drive, identifier):
-        """The bytes of a shard, and what is wrong with it, or None."""
+    def answer(self, drive, command, *words):
+        """What the program prints of a drive, and the texts of the lines of its error stream. The status is 0 if there are none, or 1."""
         self.calls += 1
+        done = self.run(drive, [command, *words])
+        lines = done.stderr.decode().splitlines()
+        if done.returncode not in ((1,) if lines else (0, 1)) or not all(line.startswith("shardscrub: ") for line in lines):
+            raise RuntimeError(f"{done.args}: status {done.returncode}, {lines}")
+        return done.stdout, [line.removeprefix("shardscrub: ") for line in lines], done.returncode == 0
+
+    def manifest(self, drive, resets=()):
+        """The manifest, whether its status is 0, and the remarks."""
         if self.program is None:
-            return reference.shard(drive.image(), identifier)
-        done = self.run(drive, ["shard", "--id", identifier.hex()])
-        error = done.stderr.decode()
-        if done.returncode != (1 if error else 0) or not re.fullmatch("(shardscrub: .*\n)?", error):
-            raise RuntimeError(f"{done.args}: status {done.returncode}, {error}")
-        return done.stdout, error.removeprefix("shardscrub: ").removesuffix("\n") or None
+            return *reference.manifest(drive.image(), resets), reference.superblock_remarks(drive.image())
+        text, remarks, is_good = self.answer(drive, "manifest", *(f"--reset={e}" for e in resets))
+        return text.decode(), is_good, remarks
+
+    def shard(self, drive, identifier):
+        """The bytes of a shard, and what is said of it, but the remarks on superblocks."""
+        if self.program is None:
+            printed, said = reference.shard(drive.image(), identifier)
+        else:
+            printed, said, _ = self.answer(drive, "shard", "--id", identifier.hex())
+        return printed, [one for one in said if one != "tie" and not one.startswith("superblock lost: ")]
 
 
 def doubts_in(text):
@@ -197,13 +211,33 @@ def put_record(drive, text, begin, with_zeros=True):
             drive.write(0, end, bytes(max(0, stop - end)))
 
 
+def zero_record(drive, page):
+    """Writes zeros over the pages of the record that begins on this page."""
+    length = records_of(drive.image())[page].length
+    drive.write(0, page * drive.page, bytes(length + -length % drive.page))
+
+
 class Full(Exception):
     """There is no place left."""
 
 
-def held(drive):
-    """For each locator of each shard: its payload, or whether there is a spare of it."""
-    image, chosen = drive.image(), choose(drive.image())
+def frames_in(drive, extent, pointer):
+    """Each frame that begins at any byte of an extent and ends at or below the pointer: the byte, and its payload."""
+    image = drive.image()
+    starts = [found.start() for found in re.finditer(b"|".join(map(re.escape, FORMS)), drive.read(extent, 0, pointer))]
+    return [(p, found[3]) for p in starts if (found := frame_at(image, extent, pointer, p))]
+
+
+def loose_payloads(drive, given_up):
+    """The lengths and digests of the payloads of the frames at any byte of the extents in use, but for those given up."""
+    but = {*choose(drive.image())["retired"], *given_up}
+    return {(len(p), sha(p)) for e in range(1, drive.extents) if e not in but for _, p in frames_in(drive, e, drive.size)}
+
+
+def held(drive, given_up=()):
+    """For each locator of each shard: its payload, or whether there is a spare of it, or else a copy at any byte of an extent in use, but for
+    those given up. It may be in a crowded one."""
+    image, chosen, loose = drive.image(), choose(drive.image()), None
     words = {}
     for line in manifest(image)[0].splitlines():
         if line.startswith("shard "):
@@ -213,19 +247,38 @@ def held(drive):
     for owner, c, status in named_locators(drive):
         if isinstance(owner, bytes):
             k = len(found.setdefault(owner, []))
-            whole = status in ("sound", "hidden")
-            found[owner].append(frame_at(image, c["extent"], chosen["pointers"][c["extent"] - 1], c["offset"])[3] if whole
-                                else words[owner.hex(), k])
+            word = words[owner.hex(), k]
+            if status in ("sound", "hidden"):
+                word = frame_at(image, c["extent"], chosen["pointers"][c["extent"] - 1], c["offset"])[3]
+            elif word != "spare" and c["length"]:
+                loose = loose_payloads(drive, given_up) if loose is None else loose
+                word = "loose" if (c["length"], c["digest"]) in loose else "none"
+            found[owner].append(word)
     return found
 
 
 def is_held(before, after):
-    """Whether a disk holds what it held. A spare may be new, or used by an entry."""
+    """Whether a disk holds what it held. A copy may be new or a better one, or an entry may name it."""
     def is_good(old, new):
-        return old == new or old == "none" and new == "spare" or old == "spare" and isinstance(new, bytes)
+        return old == new or old in BEST and (BEST.index(old) < BEST.index(new) if new in BEST else old != "none")
 
     return before.keys() == after.keys() and all(
         len(parts) == len(after[identifier]) and all(map(is_good, parts, after[identifier])) for identifier, parts in before.items())
+
+
+# Manifests
+
+def is_risen(old, new):
+    """Whether two lines of a manifest are the same, but that a last word may be greater."""
+    *rest, last = old.split()
+    *others, other = new.split()
+    return old == new or rest == others and last in BEST and other in BEST and BEST.index(last) < BEST.index(other)
+
+
+def are_risen(old, new):
+    """Whether two manifests are the same, but that last words may be greater."""
+    lines, others = old.splitlines(), new.splitlines()
+    return len(lines) == len(others) and all(map(is_risen, lines, others))
 
 
 # A node at work
@@ -364,127 +417,3 @@ class Node:
                 self.generation -= 1
                 self.resume()
                 return
-
-
-def fill_up(node):
-    """Chunks without an owner fill the disk up to a few bytes."""
-    for e in node.used():
-        left = node.drive.size - node.pointers[e - 1]
-        while left > 40:
-            size = min(left - 38, node.choice.randrange(1, node.drive.size))
-            try:
-                node.append(node.choice.randbytes(size), form=frame, extent=e)
-            except Full:
-                break
-            left = node.drive.size - node.pointers[e - 1]
-
-
-def worked(choice):
-    """A drive of a node that has worked for a while, and the node, before it writes its next superblock."""
-    drive = Drive(choice.choice([64, 64, 128, 512]), choice.choice([16, 16, 24, 32]), choice.choice([4, 5, 6, 8]))
-    node = Node(drive, choice)
-    node.live_on(choice.randint(1, 5))
-    if choice.random() < .25:
-        node.retired = sorted(choice.sample(range(1, drive.extents), choice.choice([1, 1, 2])))
-    if choice.random() < .2:
-        fill_up(node)
-    node.live_on(choice.randint(1, 3))
-    if choice.random() < .2:
-        fill_up(node)
-    if choice.random() < .3:
-        for e in node.used():
-            node.pad(e)
-    return drive, node
-
-
-def worn(choice, chance=.5):
-    """A drive of a node that has worked for a while, and the last generation that the node wrote."""
-    drive, node = worked(choice)
-    rotten = copied(node) if choice.random() < chance else []
-    node.superblock()
-    node.resume()
-    for c in rotten:
-        e, o = place_of(c)
-        begin = o + (54 if drive.read(e, o, 2) == SEALED.magic else 22)
-        drive.raw[e * drive.size + begin + choice.randrange(c["length"])] ^= 1
-    damage(node)
-    return drive, node.generation
-
-
-def with_later_run(choice):
-    """A drive on which a run that names an old chunk was written after the last superblock."""
-    drive, node = worked(choice)
-    chunk = node.append(choice.randbytes(30))
-    node.superblock()
-    node.bind(choice.randbytes(16), [chunk])
-    node.flush()
-    drive.later = (list(node.pointers), node.runs[:1])
-    return drive, node.generation
-
-
-def with_newest_damaged(choice):
-    """A drive on which the newest superblock is damaged, and an older one counts."""
-    drive, node = worked(choice)
-    node.superblock()
-    try:
-        node.bind(choice.randbytes(16), [node.append(choice.randbytes(30))])
-        node.flush()
-    except Full:
-        pass
-    if node.superblock():
-        drive.later = (list(node.pointers), list(node.runs))
-        drive.raw[choose(drive.image())["page"] * drive.page + 5] ^= 1
-    return drive, node.generation
-
-
-def with_broken_shard_in_tail(choice):
-    """A drive with a pointer that a node's fault made too small, so that a shard's chunk is in a tail."""
-    drive, node = worked(choice)
-    named = [c for locators in node.shards.values() for c in locators]
-    if named:
-        e, o = place_of(choice.choice(named))
-        node.pointers[e - 1] = o
-    node.superblock()
-    return drive, node.generation
-
-
-DRIVES = {None: worn, "spare": lambda choice: worn(choice, 1), "later": with_later_run, "damaged": with_newest_damaged,
-          "in tail": with_broken_shard_in_tail}
-# Those whose node wrote something after its last superblock, as its log says.
-WRITTEN_AFTER = {"later"}
-
-
-def copied(node):
-    """Writes some payloads again, in chunks that no entry names. Returns the locators of the first chunks, which will rot."""
-    some = sorted({write_locator(c) for locators in node.shards.values() for c in locators if c["length"] > 34})
-    rotten = []
-    for c in map(read_locator, node.choice.sample(some, min(len(some), 2))):
-        here = frame_at(node.drive.image(), c["extent"], node.pointers[c["extent"] - 1], c["offset"])
-        try:
-            node.append(here[3])
-            node.append(node.choice.randbytes(node.drive.size // 3))
-        except Full:
-            pass
-        rotten.append(c)
-    return rotten
-
-
-def damage(node):
-    """Flipped bits, unreadable pages, remains behind pointers, and a damaged older superblock."""
-    drive, c = node.drive, node.choice
-    named = [place for locators in node.shards.values() for place in map(place_of, locators)]
-    for e, o in c.sample(sorted(set(named)), min(len(set(named)), c.choice([0, 0, 1, 1, 2]))):
-        drive.raw[e * drive.size + o + c.randrange(60)] ^= 1 << c.randrange(8)
-    for _ in range(c.choice([0, 0, 1])):
-        e = c.randrange(1, drive.extents)
-        if node.pointers[e - 1] + 30 < drive.size:
-            drive.write(e, c.randrange(node.pointers[e - 1], drive.size - 20), c.choice([b"old", b"\xc5\x5e", bytes(3) + b"x"]))
-    runs = {c["extent"] for c in node.runs}
-    some = [e for e in range(1, drive.extents) if e not in runs]
-    if some and c.random() < .2:
-        drive.unreadable = frozenset({(c.choice(some), c.randrange(drive.pages)) for _ in range(c.choice([1, 1, 3]))})
-    older = [g for g, r in records_of(drive.image()).items() if r.generation != node.generation]
-    if older and c.random() < .2:
-        drive.raw[c.choice(older) * drive.page + 5] ^= 1
-    if c.random() < .02:
-        drive.unreadable |= {(0, drive.pages - 1)}

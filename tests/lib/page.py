@@ -209,8 +209,8 @@ def short_size(count):
 
 # Disks to draw
 
-# The seeds of the made-up disks.
-MADE_UP = range(11, 51)
+# The seeds of the made-up disks. On the last one a bad locator names the place of a live chunk.
+MADE_UP = *range(11, 51), 85
 
 
 class Pictured:
@@ -469,6 +469,7 @@ WRONG_PAGES = {
         ("no extent is marked as one to reset", 'if (row && word === "reclaim") row.isListed = true;', ""),
         ("whoever names a chunk is its owner", 'if (locator.status === "sound") pushTo', "pushTo"),
         ("spares aren't described", "(picture.sparesAt.get(key) ?? NONE)", "NONE"),
+        ("loose copies aren't described", "of row.loose.filter(", "of NONE.filter("),
         ("dangling locators aren't described", "of row.dangling.filter(", "of NONE.filter("),
         ("lost chunks take space", '(status !== "sound" && status !== "hidden")', "false"),
         ("the smallest shard comes first", "other.bytes - one.bytes ||", "one.bytes - other.bytes ||"),

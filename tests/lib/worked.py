@@ -6,7 +6,7 @@ A disk with unreadable pages is a tuple: the disk, and the words of these pages.
 from lib.disks import Disk, be, frame, locator, record, run, shard, uuid
 
 
-ONES, TWOS, THREES, FOURS = map(uuid, (0x11, 0x22, 0x33, 0x44))
+ONES, TWOS, THREES, FOURS, FIVES = map(uuid, (0x11, 0x22, 0x33, 0x44, 0x55))
 # A UUID that ends in the magic of a frame.
 ENDS_IN_MAGIC = be(1, 0x33) * 14 + b"\xc5\x5e"
 # The payload of a run that deletes the shard; and the same with the last bit of its digest flipped.
@@ -287,4 +287,70 @@ IMAGES = {
     "late": written(moved(2, 81), (2, 278, b"!")),
     "over": over_an_old_chunk(),
     "rotted": rotted(),
+}
+
+
+# The images of loose copies: pages of 64 bytes, 8 to an extent, mostly 5 extents. The chunk `abc` of shard 1 was moved to extent 2, and has
+# rotted there. Extent 4 has an old chunk, and then `de` of shard 2. Extent 3 has the run.
+
+OLD_CHUNK = frame(THREES, bytes(31))
+AS = uuid(0xAA)
+BOTH_SHARDS = run((shard(1), [abc(2, 0)]), (shard(2), [locator(4, 69, TWOS, b"de")]))
+BOTH_LOCATOR = locator(3, 0, AS, BOTH_SHARDS)
+MOVED_AND_ROTTED = (2, 0, frame(ONES, b"abX")), (4, 0, OLD_CHUNK + DE), (3, 0, frame(AS, BOTH_SHARDS))
+
+
+def image_of(extents, *writes):
+    """An image of this many extents after writes, each an extent, an offset and bytes."""
+    return written(bytes(SIZE * extents), *writes)
+
+
+def superblock_of_five(generation, first, third, *runs):
+    """A superblock with these pointers of extents 1 and 3."""
+    return record(PAGE, PAGES, 5, (first, 41, third, 109), runs, generation)
+
+
+def past_a_reset(*more):
+    """Extent 1 was reset after the move, and nothing was written to it again but this."""
+    return image_of(5, *MOVED_AND_ROTTED, (1, 0, ABC), (0, 0, superblock_of_five(7, 0, 232, BOTH_LOCATOR)), *more)
+
+
+def over_the_copy():
+    """`de` and a run that names it are written over the copy of `abc`."""
+    text = run((shard(2), [locator(1, 0, TWOS, b"de")]))
+    named = locator(1, 40, uuid(0xCC), text)
+    return past_a_reset((1, 0, DE + frame(uuid(0xCC), text)), (0, 256, superblock_of_five(8, 78 + len(text), 232, named, BOTH_LOCATOR)))
+
+
+# Extent 1 was written again, up to the middle of an old chunk. `abc` is behind that.
+PART = *MOVED_AND_ROTTED, (1, 0, OLD_CHUNK + b"123456789." + ABC), (0, 0, superblock_of_five(7, 69, 232, BOTH_LOCATOR))
+# `abc` is copied as it is to the room of extent 3.
+COPIED_BACK = *PART, (3, 232, ABC)
+# 32 of these 50 begin a frame with a payload of 116 bytes.
+HEAP = (b"\xc5\x5e" + be(4, 116) + b"..") * 50
+
+
+def heaped():
+    """Frames over frames come before `abc`."""
+    return image_of(5, *MOVED_AND_ROTTED, (1, 0, OLD_CHUNK + HEAP + ABC), (0, 0, superblock_of_five(7, 69, 232, BOTH_LOCATOR)))
+
+
+def of_one_run(run_extent, locator_extent, pointers, *writes):
+    """Four extents, and a run that names `abc` at the beginning of an extent."""
+    text = run((shard(1), [abc(locator_extent, 0)]))
+    ends = [38 + len(text) if x == run_extent else w for x, w in enumerate(pointers, 1)]
+    return image_of(4, *writes, (run_extent, 0, frame(AS, text)), (0, 0, superblock(1, ends, locator(run_extent, 0, AS, text))))
+
+
+LOOSE = {
+    "tail": past_a_reset(),
+    "over": over_the_copy(),
+    "part": image_of(5, *PART),
+    "copied": image_of(5, *COPIED_BACK, (0, 256, superblock_of_five(8, 69, 273, BOTH_LOCATOR))),
+    "gone": image_of(5, *COPIED_BACK, (0, 0, superblock_of_five(9, 0, 273, BOTH_LOCATOR))),
+    "crowded": heaped(),
+    # `abc` is directly behind a frame whose last byte is another one.
+    "behind": of_one_run(3, 2, (99, 41, 0), (1, 0, frame(THREES, bytes(20))[:-1] + b"x" + ABC), (2, 0, frame(ONES, b"abX"))),
+    # The extent of a chunk that a run names was reset.
+    "wrong": of_one_run(2, 1, (0, 0, 0), (1, 0, ABC)),
 }

@@ -1,0 +1,212 @@
+"""What happens to a disk between two boxes of the checklist, or while something is written: chunks rot, pages can't be read any more, a
+superblock goes, a node writes, the power fails, an extent is erased. See lib/mistakes.py."""
+from lib.mistakes import flipped, mistake
+from lib.node import Full, Node, named_locators, put_record, record_pages
+from lib.walk import FIELDS, Again, Stop, Walk
+from reference.shardscrub import choose
+
+
+def erase(walk, value):
+    for e in walk.chosen:
+        walk.drive.write(e, 0, bytes(walk.drive.size))
+    return ()
+
+
+def rot_copy(walk, value):
+    parts = [part for part in walk.parts if part.target and part.count]
+    if not parts:
+        return None
+    part = walk.choice.choice(parts)
+    walk.drive.write(*part.target, flipped(walk, walk.drive.read(*part.target, part.count)))
+    return ()
+
+
+def rot_run(walk, value):
+    if not walk.parts or not walk.entries:
+        return None
+    target, count = walk.run_part.target, walk.run_part.count
+    walk.drive.write(*target, flipped(walk, walk.drive.read(*target, count)))
+    return ()
+
+
+def lose_superblock(walk, value):
+    """The superblock that counts reads as zeros, or a bit of it is another one."""
+    page = choose(walk.drive.image())["page"]
+    if page is None:
+        return None
+    begin = page * walk.drive.page
+    walk.drive.write(0, begin, walk.choice.choice([bytes(walk.drive.page), flipped(walk, walk.drive.read(0, begin, 26))]))
+    return ()
+
+
+def node_writes(what):
+    """The node goes on from what it remembers, and writes a chunk, a run or a superblock."""
+    def make(walk, value):
+        node, before = walk.running, bytes(walk.drive.raw)
+        try:
+            if what == "chunk":
+                node.append(walk.choice.randbytes(30))
+            else:
+                node.step()
+                node.flush()
+                if what == "superblock":
+                    node.superblock()
+        except Full:
+            return None
+        if walk.drive.raw == before:
+            return None
+        walk.node = node
+        return ()
+    return make
+
+
+def lose_page(walk, value):
+    """A page that could be read can't be read any more, mostly one of a chunk in use."""
+    drive, c = walk.drive, walk.choice
+    some = [(place["extent"], place["offset"] // drive.page) for _, place, status in named_locators(drive) if status == "sound"]
+    lost = c.choice(some) if some and c.random() < .8 else (c.randrange(drive.extents), c.randrange(drive.pages))
+    if lost in drive.unreadable:
+        return None
+    drive.unreadable |= {lost}
+    drive.write(lost[0], lost[1] * drive.page, bytes(drive.page))
+    return ()
+
+
+def fail(walk, value=()):
+    """The power fails."""
+    walk.slipped = True
+    raise Again
+
+
+BETWEEN = {"after box 3": "before box 4", "copying": "between box 4 and the copies", "after box 4": "after the copies",
+           "after box 5": "before box 6", "after box 6": "before box 7", "after box 7": "before box 8",
+           "after writing of box 8": "before the image of box 8", "after box 8": "before box 8d", "after box 8d": "before the erase"}
+for point, when in BETWEEN.items():
+    for what in ("chunk", "run", "superblock"):
+        mistake(f"the node writes a {what} {when}", point)(node_writes(what))
+    mistake(f"the superblock that counts goes {when}", point)(lose_superblock)
+    mistake(f"the extent is erased {when}", point)(erase)
+    mistake(f"a page becomes unreadable {when}", point, begins_again=True)(lose_page)
+    mistake(f"the power fails {when}", point, begins_again=True)(fail)
+for point in list(BETWEEN)[2:]:
+    mistake(f"a copy rots {BETWEEN[point]}", point)(rot_copy)
+for point in list(BETWEEN)[3:]:
+    mistake(f"the run rots {BETWEEN[point]}", point)(rot_run)
+
+
+@mistake("the superblock that counts goes, and nothing was copied", "after box 3", begins_again=True)
+def _(walk, value):
+    return None if walk.parts else lose_superblock(walk, value)
+
+
+@mistake("a superblock of the same generation without the reset is written over that of box 8", "after writing of box 8")
+def _(walk, value):
+    fields = {**walk.fields, "pointers": walk.fields_before["pointers"]}
+    page = choose(walk.drive.image())["page"]
+    if page is None:
+        return None
+    put_record(walk.drive, walk.drive.record(*(fields[key] for key in FIELDS)), page * walk.drive.page)
+    return ()
+
+
+@mistake("the superblock of box 7 is written again after that of box 8", "after writing of box 8")
+def _(walk, value):
+    fields = {**walk.fields_before, "generation": walk.fields["generation"] + 1}
+    text = walk.drive.record(*(fields[key] for key in FIELDS))
+    pages = record_pages(walk.drive, len(text))
+    if not pages:
+        return None
+    put_record(walk.drive, text, walk.choice.choice(pages) * walk.drive.page)
+    return ()
+
+
+@mistake("the first image is made anew after the copies", "after box 5")
+def _(walk, value):
+    walk.first = walk.drive.copy()
+    return ()
+
+
+@mistake("the first image is made anew after box 6", "after box 6")
+def _(walk, value):
+    walk.first = walk.drive.copy()
+    return ()
+
+
+# What is written in part
+
+@mistake("the power fails while a copy is written", "copy", begins_again=True)
+def _(walk, text):
+    walk.drive.write(*walk.parts[walk.current].target, text[:walk.choice.randrange(1, len(text))])
+    fail(walk)
+
+
+def torn(walk, value):
+    """Only the first bytes of a superblock are written."""
+    text, at = value
+    walk.drive.write(0, at, text[:walk.choice.randrange(1, len(text))])
+    fail(walk)
+
+
+def taken_as_written(walk, value):
+    """The generation of a superblock that was written in part is taken for the last one."""
+    walk.known = walk.fields["generation"]
+    torn(walk, value)
+
+
+def written_unseen(walk, value):
+    """The whole superblock is on the disk, and nobody knows."""
+    put_record(walk.drive, *value)
+    fail(walk)
+
+
+for number in (6, 8):
+    point = f"writing of box {number}"
+    mistake(f"the power fails when the superblock of box {number} has just been written", point, begins_again=True)(written_unseen)
+    mistake(f"the power fails while the superblock of box {number} is written", point, begins_again=True)(torn)
+    mistake(f"the power fails while the superblock of box {number} is written, and its generation is given", point, begins_again=True)(
+        taken_as_written)
+
+
+# What was on the disk before
+
+for name, kind in (("a superblock of an older format has a greater generation", "older format"),
+                   ("the generation is one of the greatest", "last generation"),
+                   ("a chunk that was moved has rotted", "moved")):
+    mistake(name, "never", drive=kind, begins_again=True)(None)
+
+
+# The erase
+
+@mistake("another extent is erased", "extents to erase")
+def _(walk, extents):
+    some = [e for e in range(1, walk.drive.extents) if e not in extents]
+    return [walk.choice.choice(some)] if some else None
+
+
+@mistake("another extent is erased than that of box 8d", "erase")
+def _(walk, extents):
+    some = [e for e in range(1, walk.drive.extents) if e not in extents]
+    return [walk.choice.choice(some)] if some else None
+
+
+@mistake("the extents of three reclamations are erased at the end", "extents to erase")
+def _(walk, extents):
+    """Those of the first one may be rooms of the others."""
+    for _ in range(2):
+        later = Walk(walk.engine, walk.drive, walk.known, walk.choice, erases=False)
+        try:
+            if not later.go():
+                return None
+        except (Stop, Full, Again):
+            return None
+        walk.known = later.known
+    return extents
+
+
+@mistake("the node is back before the extent is erased", "extents to erase")
+def _(walk, extents):
+    """The disk was given back, and is taken off again for the erase."""
+    node = walk.node = Node(walk.drive, walk.choice)
+    node.resume()
+    node.live_on(2)
+    return extents
