@@ -1,5 +1,5 @@
 -- Index runs that were read, in lists.
-use Rattle.std.proofs.Common.{◌≡◌, ◌≤◌, List, length, map, arith, sym, ◌∙◌}
+use Rattle.std.proofs.Common.{◌≡◌, ◌<◌, ◌^◌, List, length, map, arith, sym, ◌∙◌}
 use Rattle.std.specs.List.{AllZip, zip}
 use Rattle.std.proofs.lemmas.List.{length-map}
 use Rattle.std.proofs.lemmas.Slice.Zip.{AllZip-long, length-zip}
@@ -41,5 +41,5 @@ as_many image plan r read =
     omega (arith, long, length-zip r.runs r.states, read.same)
 
 -- and so few
-pub counted : (image : Image) (plan : PlanValue) (r : _) → length plan.runs ≤ 32 → AreReadRuns image plan r → AreCounted r
+pub counted : (image : Image) (plan : PlanValue) (r : _) → length plan.runs < 2 ^ 32 → AreReadRuns image plan r → AreCounted r
 counted image plan r few read = record { same = read.same; few = omega (arith, as_many image plan r read, few) }

@@ -1,5 +1,5 @@
 -- Which index runs are read, and what becomes of the others.
-use Rattle.std.specs.Prelude.{◌≡◌, ◌≤◌, ℕ, false, List, Option, Some, None}
+use Rattle.std.specs.Prelude.{◌≡◌, ◌<◌, ◌^◌, ℕ, false, List, Option, Some, None}
 use Rattle.std.specs.Prelude.{length as len}
 use Rattle.std.specs.List.{AllZip, zip}
 use Rattle.scrub_disk.specs.Image.{Image}
@@ -34,10 +34,10 @@ pub record ReadRunsValue : Type 0 where
   pub runs : Runs
   pub states : List RunState
 
--- there are as many runs as states, at most 32
+-- there are as many runs as states, fewer than 2^32
 pub record AreCounted (r : ReadRunsValue) : Type 0 where
   pub same : len r.states ≡ len r.runs
-  pub few : len r.runs ≤ 32
+  pub few : len r.runs < 2 ^ 32
 
 -- the runs that a plan names, in its order: what was read of each, and what became of it; both lists are as
 -- long, because `zip` ends with the shorter one

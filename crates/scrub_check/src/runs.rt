@@ -54,7 +54,7 @@ impl Model for ReadRuns {
 impl ReadRuns {
     ghost use Rattle.scrub_check.specs.Runs.{AreCounted};
 
-    /// The runs, `None` for each that is lost: at most 32.
+    /// The runs, `None` for each that is lost: fewer than 2^32.
     pub fn runs(&self) -> &[Option<Run>]
         ensures runs { result.now ≡ self.now.runs }
         // Every value of the type is such.

@@ -15,6 +15,7 @@ pub mod Extents
 pub mod Plans
 pub mod PlanParts
 pub mod Resets
+pub mod GivenRuns
 -- the records of extent 0, and the one that is used
 pub mod Standing
 pub mod RecordsSeenSteps

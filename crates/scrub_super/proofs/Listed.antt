@@ -40,7 +40,7 @@ pointers_in h = record { count = h.pointer_count; within = h.pointers_within }
 
 -- the runs of contents are run locators
 pub runs_in : {g : Geometry} {c : Contents} → AreContents g c → AreRunLocators c.runs
-runs_in h = record { count = h.run_count; each = h.each_run }
+runs_in h = record { count = omega (arith, h.run_count); each = h.each_run }
 
 -- ---- write pointers
 

@@ -6,6 +6,7 @@ pub mod Pages
 pub mod Planned
 pub mod Plan
 pub mod Reset
+pub mod GivenRuns
 pub mod Blocks
 pub mod UnknownSizes
 -- Files of other crates that public clauses cite.

@@ -20,7 +20,7 @@ pub use extent_zero::{
 };
 pub use kind::RecordKind;
 pub use pages::{Rank, SuperblockPage};
-pub use plan::Plan;
+pub use plan::{Plan, a_plan_by_given_runs};
 pub use record::{MAX_RUNS, one_record, read_record, write_record};
 pub use superblock::Superblock;
 pub use unknown_sizes::{

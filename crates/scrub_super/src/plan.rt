@@ -1,11 +1,15 @@
 //! The plan of a scan: what to scan, and what the superblock says about it. `scrub_scan` follows it.
 
-ghost use Rattle.std.specs.Prelude.{◌≡◌, ◌==◌, ◌<◌, ◌≤◌, ◌-◌, ◌*◌, ◌^◌, All, Contains, IfOk, Some, length};
+ghost use Rattle.std.specs.Prelude.{◌≡◌, ◌==◌, ◌<◌, ◌≤◌, ◌-◌, ◌*◌, ◌^◌, All, Contains, IfOk, List, Some, length};
 ghost use Rattle.std.specs.Prelude.{true};
 ghost use Rattle.std.specs.List.{list_any};
 ghost use Rattle.std.specs.List.Sorted.{IsStrictlyIncreasing};
 ghost use Rattle.scrub_super.specs.Reset.{pointer_reset, pointers_reset};
 ghost use Rattle.scrub_super.specs.Planned.{extents_in_use};
+ghost use Rattle.scrub_frame.specs.declared.locator.Locator.{Locator};
+ghost use Rattle.scrub_super.specs.Chosen.{Choice};
+ghost use Rattle.scrub_super.specs.GivenRuns.{ListsRuns, plan_listing};
+ghost use Rattle.scrub_super.specs.Plan.{plan_of};
 
 use crate::chosen::Chosen;
 use scrub_disk::{Geometry, OutOfMemory};
@@ -54,6 +58,8 @@ impl Plan {
     ghost use Rattle.scrub_super.specs.steps.Limits.{AreRunLocators};
     ghost use Rattle.scrub_super.specs.Plan.{plan_of, pointer_of, IsRestricted};
     ghost use Rattle.scrub_super.specs.Reset.{IsReset};
+    ghost use Rattle.scrub_frame.specs.Locator.{IsLocator};
+    ghost use Rattle.scrub_super.specs.GivenRuns.{plan_listing};
     ghost use Rattle.scrub_super.specs.steps.PlanParts.{IsPlanInParts};
 
     /// The plan of all extents except extent 0 and the retired ones, from the chosen superblock. If there is
@@ -82,6 +88,28 @@ impl Plan {
                 has_superblock: false,
             }),
         }
+    }
+
+    /// The plan by index runs that are given, newest first, and fewer than 2^32, whatever is in extent 0: that of
+    /// a disk on which one superblock counts that lists these runs, retires nothing, and has each write pointer
+    /// at its extent's end.
+    pub fn listing(
+        alloc: Global,
+        geometry: Geometry,
+        runs: Vec<Locator>,
+    ) -> Result<Plan, OutOfMemory>
+        requires few { length runs.items < 2 ^ 32 }
+        requires located { All IsLocator runs.items }
+        ensures { IfOk result (λ plan. plan ≡ plan_listing geometry runs.items) }
+    {
+        Ok(Plan {
+            geometry,
+            planned: all_in_use(alloc, geometry.extents(), &[])?,
+            retired: Vec::new(alloc),
+            pointers: vec![in alloc; geometry.extent_bytes(); geometry.extents() as usize - 1]?,
+            runs,
+            has_superblock: true,
+        })
     }
 
     /// The same plan, but with only these extents planned.
@@ -224,3 +252,10 @@ fn all_in_use(alloc: Global, extents: u32, retired: &[u32]) -> Result<Vec<u32>, 
     }
     Ok(in_use)
 }
+
+/// A law: the plan by given index runs is the one that follows from a superblock that lists these runs, retires
+/// nothing, and has each write pointer at its extent's end.
+pub fn a_plan_by_given_runs()
+    ensures { (choice : Choice) (runs : List Locator) → ListsRuns choice runs →
+        plan_of choice ≡ plan_listing choice.geometry runs }
+{}
