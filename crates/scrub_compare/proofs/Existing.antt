@@ -14,7 +14,8 @@ use Rattle.scrub_merge.specs.Binding.{BindingValue}
 use Rattle.scrub_merge.proofs.Identifiers.{id_cmp_exact, id_cmp_total}
 use Rattle.scrub_found.specs.Scrubbed.{Scrubbed}
 use Rattle.scrub_loose.proofs.LooseThere.{some_loose}
-use Rattle.scrub_found.proofs.Existing.{plan_but_fits, some_scrub}
+use Rattle.scrub_found.proofs.Existing.{some_scrub}
+use Rattle.scrub_found.proofs.GivenPlans.{plan_but_fits}
 use Rattle.scrub_compare.specs.Compare.{AreBoundIds, AreCompared, Compared, IsComparison, comparison_text, is_safe}
 use Rattle.scrub_compare.specs.Written.{AreFirstWritten, IsChanged, IsLeastNumber, IsWrittenIn, IsWrittenInRecords, IsZeroNow, MayChangeInRoom, pointer_in, room_at}
 use Rattle.scrub_compare.proofs.BoundIds.{bound_found}

@@ -1,14 +1,14 @@
 -- Each image has all that a scan finds on it, also as if extents had been reset, and planned extents that can be taken.
-use Rattle.std.proofs.Common.{◌≡◌, ◌∷◌, ◌++◌, [], ℕ, zero, suc, List, length, replicate, arith, refl, sym, ◌∙◌, ap, subst}
+use Rattle.std.proofs.Common.{◌≡◌, ◌∷◌, ◌++◌, [], ℕ, zero, suc, List, Option, None, IfSome, length, replicate, arith, refl, sym, ◌∙◌, ap, subst, tt}
 use Rattle.std.specs.List.Sorted.{IsPermutation, IsStrictlyIncreasing}
 use Rattle.std.proofs.lemmas.List.{append-nil, length-replicate}
 use Rattle.std.proofs.lemmas.List.Elements.{All-cons, All-replicate}
 use Rattle.std.proofs.lemmas.List.Sorted.{IsPermutation-refl}
 use Rattle.scrub_disk.specs.Image.{Image}
-use Rattle.scrub_super.specs.Chosen.{Choice, IsChoice}
+use Rattle.scrub_frame.specs.declared.locator.Locator.{Locator}
 use Rattle.scrub_super.specs.Plan.{IsPlan, PlanValue}
-use Rattle.scrub_super.specs.Reset.{pointers_reset}
-use Rattle.scrub_super.proofs.PlansFit.{plan_fits, reset_fits}
+use Rattle.scrub_super.specs.steps.Limits.{AreRunLocators}
+use Rattle.scrub_super.proofs.PlansFit.{plan_fits}
 use Rattle.scrub_super.proofs.RecordsThere.{some_choice, some_plan}
 use Rattle.scrub_scan.specs.AllFindings.{extent_numbers}
 use Rattle.scrub_scan.proofs.Existing.{some_all_findings}
@@ -19,42 +19,21 @@ use Rattle.scrub_check.proofs.StatusThere.{some_checked, some_read_runs}
 use Rattle.scrub_pool.specs.Passes.{one_list}
 use Rattle.scrub_pool.specs.Takings.{TakingsValue}
 use Rattle.scrub_found.specs.Takings.{ArePlannedExtents, AreTakingsBy}
-use Rattle.scrub_found.specs.Resets.{IsPlanBut, IsScrubbedBut}
+use Rattle.scrub_found.specs.Resets.{IsScrubbedBut, IsScrubbedFrom}
 use Rattle.scrub_found.specs.Scrubbed.{Scrubbed, is_in_doubt}
+use Rattle.scrub_found.proofs.GivenPlans.{plan_from_fits, some_plan_from}
 use Rattle.scrub_found.proofs.OneIndex.{read_runs_are_runs}
-
--- ---- plans
-
--- The plan of a choice made in an image meets `IsPlan`, as if any extents had been reset.
-pub plan_but_fits : (resets : List ℕ) (image : Image) (choice : Choice) (plan : PlanValue) → IsChoice image choice →
-    IsPlanBut resets choice plan → IsPlan plan
-plan_but_fits [] image choice plan chosen is = plan_fits image choice plan chosen is
-plan_but_fits (e ∷ es) image choice plan chosen is =
-    reset_fits is.0 plan (e ∷ es) is.2 (plan_fits image choice is.0 chosen is.1)
-
-some_plan_but : (resets : List ℕ) (choice : Choice) → (plan : PlanValue) × IsPlanBut resets choice plan
-some_plan_but [] choice = some_plan choice
-some_plan_but (e ∷ es) choice =
-    let old = some_plan choice in (
-      record {
-        geometry = old.0.geometry;
-        planned = old.0.planned;
-        retired = old.0.retired;
-        pointers = pointers_reset (e ∷ es) old.0.pointers;
-        runs = old.0.runs;
-        has_superblock = old.0.has_superblock;
-      },
-      (old.0, old.1, record { planned = refl; geometry = refl; retired = refl; pointers = refl; runs = refl; has = refl }),
-    )
 
 -- ---- all that is found
 
--- Each image has a record of all that is found on it, as if any extents had been reset.
-pub some_scrub : (resets : List ℕ) (image : Image) → (s : Scrubbed) × IsScrubbedBut resets image s
-some_scrub resets image =
+-- Each image has a record of all that is found on it, with the plan by given index runs that keep the limits of a plan's, or by the
+-- choice as if any extents had been reset.
+pub some_scrub_from : (given : Option (List Locator)) (resets : List ℕ) (image : Image) → IfSome given AreRunLocators →
+    (s : Scrubbed) × IsScrubbedFrom given resets image s
+some_scrub_from given resets image can =
     let choice = some_choice image in
-    let plan = some_plan_but resets choice.0 in
-    let fits : IsPlan plan.0 = plan_but_fits resets image choice.0 plan.0 choice.1 plan.1 in
+    let plan = some_plan_from given resets choice.0 in
+    let fits : IsPlan plan.0 = plan_from_fits given resets image choice.0 plan.0 can choice.1 plan.1 in
     let all = some_all_findings image plan.0 fits in
     let rising : IsStrictlyIncreasing (extent_numbers all.0) = rw all.1.extents fits.extents.rising in
     let read = some_read_runs image plan.0 in
@@ -86,6 +65,10 @@ some_scrub resets image =
         candidates = candidates.1;
       },
     )
+
+-- Each image has a record of all that is found on it, as if any extents had been reset.
+pub some_scrub : (resets : List ℕ) (image : Image) → (s : Scrubbed) × IsScrubbedBut resets image s
+some_scrub resets image = some_scrub_from None resets image tt
 
 -- Each image has a list of the extents that a scrub scans.
 pub some_planned_extents : (image : Image) → (planned : List ℕ) × ArePlannedExtents image planned

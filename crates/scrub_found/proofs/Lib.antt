@@ -3,6 +3,7 @@
 -- one plan and one scan for each choice, under resets too
 pub mod OneReader
 pub mod ResetPlans
+pub mod GivenPlans
 -- one list of runs, one of checked locators, and one record of all that is found
 pub mod OneIndex
 pub mod OneScrub

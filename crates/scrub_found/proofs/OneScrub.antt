@@ -1,6 +1,7 @@
 -- What is found on an image is unique, and so are its planned extents.
-use Rattle.std.proofs.Common.{◌≡◌, [], ℕ, List, sym, ◌∙◌, ap}
+use Rattle.std.proofs.Common.{◌≡◌, [], ℕ, List, Option, None, sym, ◌∙◌, ap}
 use Rattle.scrub_disk.specs.Image.{Image}
+use Rattle.scrub_frame.specs.declared.locator.Locator.{Locator}
 use Rattle.scrub_super.specs.Plan.{PlanValue}
 use Rattle.scrub_super.proofs.Laws.{one_choice_lem}
 use Rattle.scrub_merge.proofs.Maps.{one_shard_map_lem}
@@ -8,11 +9,11 @@ use Rattle.scrub_check.specs.Candidates.{AreCandidates}
 use Rattle.scrub_check.specs.Named.{named_locators}
 use Rattle.scrub_check.proofs.OneList.{one_list, one_shared, one_broken}
 use Rattle.scrub_found.specs.Takings.{ArePlannedExtents}
-use Rattle.scrub_found.specs.Resets.{IsScrubbedBut}
+use Rattle.scrub_found.specs.Resets.{IsScrubbedBut, IsScrubbedFrom}
 use Rattle.scrub_found.specs.Scrubbed.{Scrubbed, IsScrubbed, is_in_doubt}
 use Rattle.scrub_found.proofs.OneIndex.{one_list_of_runs, one_list_of_checked, read_runs_are_runs}
 use Rattle.scrub_found.proofs.OneReader.{one_plan, one_reader}
-use Rattle.scrub_found.proofs.ResetPlans.{one_plan_but}
+use Rattle.scrub_found.proofs.GivenPlans.{one_plan_from}
 
 -- the same parts make the same whole
 same_parts : (s t : Scrubbed) → s.choice ≡ t.choice → s.plan ≡ t.plan → s.all ≡ t.all → s.read ≡ t.read →
@@ -30,15 +31,17 @@ same_parts s t hc hp ha hr hb hk hs hx hd = λ i. record {
   candidates = hd i;
 }
 
--- On an image there is at most one record of all that is found, as if given extents had been reset.
-pub one_scrub_but : (resets : List ℕ) (image : Image) (s t : Scrubbed) → IsScrubbedBut resets image s → IsScrubbedBut resets image t → s ≡ t
-one_scrub_but resets image s t x y = same_parts s t choice plan all read bindings checked shared broken candidates
+-- On an image there is at most one record of all that is found, with the plan by given index runs, or by the choice as if given
+-- extents had been reset.
+pub one_scrub_from : (given : Option (List Locator)) (resets : List ℕ) (image : Image) (s t : Scrubbed) →
+    IsScrubbedFrom given resets image s → IsScrubbedFrom given resets image t → s ≡ t
+one_scrub_from given resets image s t x y = same_parts s t choice plan all read bindings checked shared broken candidates
   where
     choice : s.choice ≡ t.choice
     choice = one_choice_lem image s.choice t.choice x.choice y.choice
 
     plan : s.plan ≡ t.plan
-    plan = one_plan_but resets t.choice s.plan t.plan (rw choice at x.plan) y.plan
+    plan = one_plan_from given resets t.choice s.plan t.plan (rw choice at x.plan) y.plan
 
     all : s.all ≡ t.all
     all = one_reader image t.plan s.all t.all (rw plan at x.all) y.all
@@ -69,6 +72,10 @@ one_scrub_but resets image s t x y = same_parts s t choice plan all read binding
     candidates =
         one_list t.plan t.all t.checked (is_in_doubt t.choice t.read) s.candidates t.candidates (same x.candidates)
         y.candidates
+
+-- The same by the choice.
+pub one_scrub_but : (resets : List ℕ) (image : Image) (s t : Scrubbed) → IsScrubbedBut resets image s → IsScrubbedBut resets image t → s ≡ t
+one_scrub_but = one_scrub_from None
 
 -- On an image there is at most one record of all that is found.
 pub one_scrub : (image : Image) (s t : Scrubbed) → IsScrubbed image s → IsScrubbed image t → s ≡ t

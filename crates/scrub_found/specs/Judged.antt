@@ -1,5 +1,5 @@
 -- What the code keeps of a disk until it is written.
-use Rattle.std.specs.Prelude.{◌≡◌, ◌==◌, ◌&&◌, ℕ, Bool, List, [], is_some, length, map}
+use Rattle.std.specs.Prelude.{◌≡◌, ◌==◌, ◌&&◌, ℕ, Bool, List, [], Option, None, is_some, length, map}
 use Rattle.std.specs.List.{list_all}
 use Rattle.scrub_disk.specs.Image.{Image}
 use Rattle.scrub_frame.specs.declared.locator.Locator.{Locator}
@@ -24,16 +24,21 @@ use Rattle.scrub_check.specs.WholeScan.{IsWholeScan}
 use Rattle.scrub_found.specs.declared.judging.Judged.{Judged}
 use Rattle.scrub_found.specs.declared.runs.RunRow.{RunRow}
 use Rattle.scrub_found.specs.declared.scanning.Scan.{Scan}
-use Rattle.scrub_found.specs.Resets.{IsPlanBut, IsScrubbedBut}
+use Rattle.scrub_found.specs.Resets.{FollowsFrom, IsScrubbedFrom}
 use Rattle.scrub_found.specs.Scrubbed.{Scrubbed, entry_counts, is_clean_choice, is_clean_extent, is_in_doubt}
 
 module _ {D : Type 0} where
-  -- what was chosen, planned and scanned is as it is in the image, as if these extents had been reset
-  pub record IsScanBut (resets : List ℕ) (image : Image) (s : Scan D) : Type 0 where
+  -- what was chosen, planned and scanned is as it is in the image, with the plan by these index runs, if they are given, or else
+  -- by the choice as if these extents had been reset
+  pub record IsScanFrom (given : Option (List Locator)) (resets : List ℕ) (image : Image) (s : Scan D) : Type 0 where
     pub chosen : IsChoice image s.chosen
-    pub planned : IsPlanBut resets s.chosen s.plan
+    pub planned : FollowsFrom given resets s.chosen s.plan
     pub scanned : AreAllFindings image s.plan s.all.extents
     pub whole : IsWholeScan image s.plan s.all.extents
+
+  -- the same by the choice
+  abbrev pub IsScanBut : List ℕ → Image → Scan D → Type 0
+  IsScanBut resets image s = IsScanFrom None resets image s
 
   -- the same without resets
   abbrev pub IsScan : Image → Scan D → Type 0
@@ -58,16 +63,20 @@ pub record IsLivenessBy (plan : PlanValue) (all : List Scanned) (checked : List 
   pub candidates : AreCandidates plan all checked in_doubt l.candidates.items
 
 module _ {D : Type 0} where
-  -- the locators are judged as they are in an image, as if these extents had been reset, and the rows and the shard map are
-  -- those of the runs that were read
-  pub record AreJudgedBut (resets : List ℕ) (image : Image) (j : Judged D) : Type 0 where
+  -- the locators are judged as they are in an image, with the plan by these index runs, if they are given, or else by the choice as
+  -- if these extents had been reset; and the rows and the shard map are those of the runs that were read
+  pub record AreJudgedFrom (given : Option (List Locator)) (resets : List ℕ) (image : Image) (j : Judged D) : Type 0 where
     pub read : ReadRunsValue
     pub rows : AreRowsOf j.scan.plan.runs read j.runs.items
     pub doubt : j.in_doubt ≡ is_in_doubt j.scan.chosen read
-    pub scanned : IsScanBut resets image j.scan
+    pub scanned : IsScanFrom given resets image j.scan
     pub read_are : AreReadRuns image j.scan.plan read
     pub map_is : IsShardMap read.runs j.map
     pub checked : AreChecked image j.scan.plan (named_locators j.scan.plan.runs j.map) j.checked.items
+
+  -- the same by the choice
+  abbrev pub AreJudgedBut : List ℕ → Image → Judged D → Type 0
+  AreJudgedBut resets image j = AreJudgedFrom None resets image j
 
   -- what follows from which of its chunks are live
   abbrev pub IsLivenessOf : Judged D → Liveness → Type 0
@@ -96,11 +105,15 @@ module _ {D : Type 0} where
     candidates = b.candidates;
   }
 
-  -- with these beside them, the judged locators are what is found in the image, as if these extents had been reset, and
-  -- the rows are those of the runs that were read
-  pub record IsFoundBut (resets : List ℕ) (image : Image) (j : Judged D) (b : Beside) : Type 0 where
+  -- with these beside them, the judged locators are what is found in the image, with the plan by these index runs, if they are given,
+  -- or else by the choice as if these extents had been reset; and the rows are those of the runs that were read
+  pub record IsFoundFrom (given : Option (List Locator)) (resets : List ℕ) (image : Image) (j : Judged D) (b : Beside) : Type 0 where
     pub rows : AreRowsOf j.scan.plan.runs b.read j.runs.items
-    pub scrubbed : IsScrubbedBut resets image (found_in j b)
+    pub scrubbed : IsScrubbedFrom given resets image (found_in j b)
+
+  -- the same by the choice
+  abbrev pub IsFoundBut : List ℕ → Image → Judged D → Beside → Type 0
+  IsFoundBut resets image j b = IsFoundFrom None resets image j b
 
   -- the same without resets
   abbrev pub IsFoundOn : Image → Judged D → Beside → Type 0

@@ -1,15 +1,16 @@
 //! Finds what is on a whole disk, up to the status of each named locator, and what follows from the statuses.
 
-ghost use Rattle.std.specs.Prelude.{◌≡◌, ℕ, IfOk, List, is_none};
+ghost use Rattle.std.specs.Prelude.{◌≡◌, ℕ, IfOk, List, Option, is_none};
 ghost use Rattle.std.specs.List.{list_all, list_any};
 ghost use Rattle.scrub_disk.specs.Image.{Image};
+ghost use Rattle.scrub_frame.specs.declared.locator.Locator.{Locator};
 ghost use Rattle.scrub_merge.specs.ShardMap.{IsShardMap};
 ghost use Rattle.scrub_check.specs.Checked.{is_sound};
 ghost use Rattle.scrub_check.specs.declared.statuses.checked.Checked.{Checked};
 ghost use Rattle.scrub_check.specs.Chunks.{twins};
 ghost use Rattle.scrub_check.specs.WholeScan.{IsWholeScan};
 ghost use Rattle.scrub_check.specs.steps.LocatorIndex.{IsLocatorIndex};
-ghost use Rattle.scrub_found.specs.Judged.{AreJudgedBut, IsLivenessBy, IsLivenessOf, IsScanBut};
+ghost use Rattle.scrub_found.specs.Judged.{AreJudgedFrom, IsLivenessBy, IsLivenessOf, IsScanFrom};
 ghost use Rattle.scrub_found.specs.Resets.{IsScrubbedBut};
 ghost use Rattle.scrub_found.specs.Scrubbed.{Scrubbed, is_in_doubt};
 
@@ -71,8 +72,9 @@ pub fn judged_of<'d, R: Threads + Sync, D: PageSource>(
     scan: Scan<'d, D>,
 ) -> Result<Judged<'d, D>, OutOfMemory>
     requires { IsWholeScan (D.image scan.disk.now) scan.plan scan.all.extents }
-    ensures { (resets : List ℕ) → IsScanBut resets (D.image scan.entry.disk.now) scan.entry →
-        IfOk result (AreJudgedBut resets (D.image scan.entry.disk.now)) }
+    ensures { (given : Option (List Locator)) (resets : List ℕ) →
+        IsScanFrom given resets (D.image scan.entry.disk.now) scan.entry →
+        IfOk result (AreJudgedFrom given resets (D.image scan.entry.disk.now)) }
 {
     let (read, statuses) = read_all_runs(rt, alloc, scan.disk, &scan.plan, &scan.all)?;
     let in_doubt = is_in_doubt(&scan.chosen, &read);

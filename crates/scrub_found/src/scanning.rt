@@ -1,15 +1,18 @@
 //! The choice, the plan and the scan of a disk, by one reader or by workers.
 
-ghost use Rattle.std.specs.Prelude.{◌≡◌, ◌≤◌, ℕ, IfOk, List};
+ghost use Rattle.std.specs.Prelude.{◌≡◌, ◌<◌, ◌≤◌, ◌^◌, [], ℕ, All, IfOk, List, Option, Some, length};
 ghost use Rattle.scrub_disk.specs.Image.{Image};
+ghost use Rattle.scrub_frame.specs.declared.locator.Locator.{Locator};
+ghost use Rattle.scrub_frame.specs.Locator.{IsLocator};
 ghost use Rattle.scrub_super.specs.Chosen.{IsChoice};
-ghost use Rattle.scrub_found.specs.Takings.{ArePlannedExtents, AreTakingsBy};
-ghost use Rattle.scrub_found.specs.Judged.{IsScan, IsScanBut};
-ghost use Rattle.scrub_found.specs.Resets.{IsPlanBut};
+ghost use Rattle.scrub_found.specs.Takings.{ArePlannedExtents, AreTakingsBy, AreTakingsFrom};
+ghost use Rattle.scrub_found.specs.Judged.{IsScan, IsScanBut, IsScanFrom};
+ghost use Rattle.scrub_found.specs.Resets.{FollowsFrom, IsPlanBut};
 ghost use Rattle.std.specs.List.Sorted.{IsStrictlyIncreasing};
 
 use crate::fault::ScrubFault;
 use scrub_disk::{Geometry, OutOfMemory, PageSource};
+use scrub_frame::Locator;
 use scrub_pool::{ExtentQueue, Gate, Takings, scan_all};
 use scrub_scan::{AllFindings, scan_in_order};
 use scrub_super::{Chosen, Plan, choose};
@@ -84,8 +87,39 @@ fn plan_but(
     plan.with_resets(alloc, resets)
 }
 
-/// Does the same where it is known which superblock counts, as if these extents, which are ascending, had been
-/// reset.
+/// Scans a disk by a plan, and returns which extents each worker and the caller took.
+fn scan_planned<'d, D: PageSource, G: Gate, R: Threads + Wait + Sync>(
+    rt: &R,
+    alloc: Global,
+    disk: &'d D,
+    chosen: Chosen,
+    plan: Plan,
+    workers: u32,
+    gate: &G,
+) -> Result<(Scan<'d, D>, Takings), ScrubFault>
+    requires workers { workers ≤ 64 }
+    requires geometry { plan.geometry ≡ (D.image disk.now).geometry }
+    ensures image { IfOk result (λ r. D.image r.0.disk.now ≡ D.image disk.now) }
+    ensures scan { (given : Option (List Locator)) (resets : List ℕ) →
+        IsChoice (D.image disk.now) chosen.entry → FollowsFrom given resets chosen.entry plan.entry →
+        IfOk result (λ r. IsScanFrom given resets (D.image r.0.disk.now) r.0) }
+    ensures takings { (given : Option (List Locator)) (resets : List ℕ) →
+        IsChoice (D.image disk.now) chosen.entry → FollowsFrom given resets chosen.entry plan.entry →
+        IfOk result (λ r. AreTakingsFrom given (D.image disk.now) workers r.1) }
+{
+    let (queue, mut first) = ExtentQueue::new(rt, alloc, &plan)?;
+    let (all, takings) = scan_all(rt, alloc, disk, &plan, &queue, &mut first, workers, gate)?;
+    let scan = Scan {
+        disk,
+        chosen,
+        plan,
+        all,
+    };
+    Ok((scan, takings))
+}
+
+/// Does what `scan_by` does where it is known which superblock counts, as if these extents, which are ascending,
+/// had been reset.
 pub fn scan_chosen<'d, D: PageSource, G: Gate, R: Threads + Wait + Sync>(
     rt: &R,
     alloc: Global,
@@ -103,15 +137,31 @@ pub fn scan_chosen<'d, D: PageSource, G: Gate, R: Threads + Wait + Sync>(
     ensures takings { IfOk result (λ r. AreTakingsBy (D.image disk.now) workers r.1) }
 {
     let plan = plan_but(alloc, &chosen, disk.geometry(), resets)?;
-    let (queue, mut first) = ExtentQueue::new(rt, alloc, &plan)?;
-    let (all, takings) = scan_all(rt, alloc, disk, &plan, &queue, &mut first, workers, gate)?;
-    let scan = Scan {
-        disk,
-        chosen,
-        plan,
-        all,
-    };
-    Ok((scan, takings))
+    scan_planned(rt, alloc, disk, chosen, plan, workers, gate)
+}
+
+/// Scans a disk as `scan_by` does, but as if one superblock counted that lists these index runs, newest first and
+/// fewer than 2^32, retires nothing, and has each write pointer at its extent's end. What is in extent 0 doesn't
+/// matter, though its pages are read.
+pub fn scan_listed<'d, D: PageSource, G: Gate, R: Threads + Wait + Sync>(
+    rt: &R,
+    alloc: Global,
+    disk: &'d D,
+    runs: &[Locator],
+    workers: u32,
+    gate: &G,
+) -> Result<(Scan<'d, D>, Takings), ScrubFault>
+    requires workers { workers ≤ 64 }
+    requires few { length runs.now < 2 ^ 32 }
+    requires located { All IsLocator runs.now }
+    ensures image { IfOk result (λ r. D.image r.0.disk.now ≡ D.image disk.now) }
+    ensures scan { IfOk result (λ r. IsScanFrom (Some runs.now) [] (D.image r.0.disk.now) r.0) }
+    ensures takings { IfOk result (λ r. AreTakingsFrom (Some runs.now) (D.image disk.now) workers r.1) }
+{
+    let chosen = choose(alloc, disk)?;
+    let runs = Vec::from_slice(alloc, runs)?;
+    let plan = Plan::listing(alloc, disk.geometry(), runs)?;
+    scan_planned(rt, alloc, disk, chosen, plan, workers, gate)
 }
 
 /// A law: an image has at most one list of planned extents.

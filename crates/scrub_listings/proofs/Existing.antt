@@ -1,24 +1,34 @@
 -- Each image has a manifest, remarks, a summary, and listings of its locators and superblocks.
-use Rattle.std.proofs.Common.{◌==◌, ◌&&◌, ℕ, Bool, List, Option, [], length, refl}
+use Rattle.std.proofs.Common.{◌==◌, ◌&&◌, ◌<◌, ◌^◌, ℕ, Bool, All, List, Option, None, Some, IfSome, [], length, refl, tt}
 use Rattle.scrub_disk.specs.Image.{Image}
+use Rattle.scrub_frame.specs.declared.locator.Locator.{Locator}
+use Rattle.scrub_frame.specs.Locator.{IsLocator}
+use Rattle.scrub_super.specs.steps.Limits.{AreRunLocators}
 use Rattle.scrub_super.proofs.PagesThere.{some_pages}
 use Rattle.scrub_super.proofs.RecordsThere.{some_choice}
-use Rattle.scrub_found.specs.Resets.{IsScrubbedBut}
+use Rattle.scrub_found.specs.Resets.{IsScrubbedBut, IsScrubbedFrom}
 use Rattle.scrub_found.specs.Scrubbed.{Scrubbed, is_clean_disk}
-use Rattle.scrub_found.proofs.Existing.{plan_but_fits, some_scrub}
+use Rattle.scrub_found.proofs.Existing.{some_scrub, some_scrub_from}
+use Rattle.scrub_found.proofs.GivenPlans.{plan_from_fits}
 use Rattle.scrub_loose.specs.Loose.{AreLoose, LooseValue}
 use Rattle.scrub_loose.proofs.LooseThere.{some_loose}
 use Rattle.scrub_listings.specs.Locators.{IsLocatorListing, locator_lines}
-use Rattle.scrub_listings.specs.Manifest.{IsManifestBut, IsRemarkedManifest, is_whole, manifest_text}
+use Rattle.scrub_listings.specs.Manifest.{IsManifestBut, IsManifestFrom, IsRemarkedManifest, is_whole, manifest_text}
 use Rattle.scrub_listings.specs.Remarks.{AreSuperblockRemarks, superblock_remarks}
 use Rattle.scrub_listings.specs.Summary.{IsSummary, is_sound_verdict, summary_text, verdict}
 use Rattle.scrub_listings.specs.Superblocks.{IsSuperblockListing, are_clean_pages, superblock_lines}
 use Rattle.scrub_listings.specs.declared.remarks.SuperblockRemark.{SuperblockRemark}
 
--- What is found on an image has loose frames and crowded extents.
+-- What is found on an image has loose frames and crowded extents, also by given index runs.
+pub loose_found_from : (given : Option (List Locator)) (resets : List ℕ) (image : Image) (s : Scrubbed) →
+    IfSome given AreRunLocators → IsScrubbedFrom given resets image s → (v : LooseValue) × AreLoose resets image s.plan v
+loose_found_from given resets image s can x =
+    some_loose resets image s.plan (plan_from_fits given resets image s.choice s.plan can x.choice x.plan)
+
+-- The same by the superblock that counts.
 pub loose_found : (resets : List ℕ) (image : Image) (s : Scrubbed) → IsScrubbedBut resets image s →
     (v : LooseValue) × AreLoose resets image s.plan v
-loose_found resets image s x = some_loose resets image s.plan (plan_but_fits resets image s.choice s.plan x.choice x.plan)
+loose_found resets image s x = loose_found_from None resets image s tt x
 
 -- Each image has a listing of its named locators, with a verdict.
 pub some_locator_listing : (image : Image) → (text : List ℕ) × (clean : Bool) × IsLocatorListing image text clean
@@ -30,15 +40,25 @@ some_locator_listing image =
       record { found = s.0; scrubbed = s.1; loose = l.0; are_loose = l.1; text_is = refl; verdict = refl },
     )
 
--- Each image has a manifest with a verdict, as if any extents had been reset.
-pub some_manifest : (resets : List ℕ) (image : Image) → (text : List ℕ) × (whole : Bool) × IsManifestBut resets image text whole
-some_manifest resets image =
-    let s = some_scrub resets image in
-    let l = loose_found resets image s.0 s.1 in (
+-- Each image has a manifest with a verdict, by given index runs, or as if any extents had been reset.
+pub some_manifest_from : (given : Option (List Locator)) (resets : List ℕ) (image : Image) → IfSome given AreRunLocators →
+    (text : List ℕ) × (whole : Bool) × IsManifestFrom given resets image text whole
+some_manifest_from given resets image can =
+    let s = some_scrub_from given resets image can in
+    let l = loose_found_from given resets image s.0 can s.1 in (
       manifest_text s.0 l.0.frames,
       is_whole s.0,
       record { found = s.0; scrubbed = s.1; loose = l.0; are_loose = l.1; text_is = refl; verdict = refl },
     )
+
+-- The same by the superblock that counts.
+pub some_manifest : (resets : List ℕ) (image : Image) → (text : List ℕ) × (whole : Bool) × IsManifestBut resets image text whole
+some_manifest resets image = some_manifest_from None resets image tt
+
+-- The same by given index runs.
+pub some_manifest_by_runs : (runs : List Locator) (image : Image) → length runs < 2 ^ 32 → All IsLocator runs →
+    (text : List ℕ) × (whole : Bool) × IsManifestFrom (Some runs) [] image text whole
+some_manifest_by_runs runs image few each = some_manifest_from (Some runs) [] image (record { count = few; each = each })
 
 -- Each image has remarks on its superblocks.
 pub some_remarks : (image : Image) → (remarks : List SuperblockRemark) × AreSuperblockRemarks image remarks

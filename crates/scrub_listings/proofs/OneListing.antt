@@ -1,15 +1,16 @@
 -- An image has one listing of its named locators, one manifest, one summary and one list of remarks, since what is found on it is
 -- unique.
-use Rattle.std.proofs.Common.{◌≡◌, ◌==◌, ◌&&◌, [], ℕ, Bool, List, Option, length, sym, ◌∙◌, ap, subst}
+use Rattle.std.proofs.Common.{◌≡◌, ◌==◌, ◌&&◌, [], ℕ, Bool, List, Option, None, Some, length, sym, ◌∙◌, ap, subst}
 use Rattle.scrub_disk.specs.Image.{Image}
+use Rattle.scrub_frame.specs.declared.locator.Locator.{Locator}
 use Rattle.scrub_super.proofs.Laws.{one_choice_lem}
 use Rattle.scrub_super.proofs.PageLaws.{one_list_of_pages}
 use Rattle.scrub_found.specs.Scrubbed.{Scrubbed, is_clean_disk}
-use Rattle.scrub_found.proofs.OneScrub.{one_scrub, one_scrub_but}
+use Rattle.scrub_found.proofs.OneScrub.{one_scrub, one_scrub_from}
 use Rattle.scrub_loose.specs.Loose.{AreLoose, LooseValue}
 use Rattle.scrub_loose.proofs.OneLoose.{one_loose}
 use Rattle.scrub_listings.specs.Locators.{IsLocatorListing, locator_lines}
-use Rattle.scrub_listings.specs.Manifest.{IsManifestBut, IsRemarkedManifest, is_whole, manifest_text}
+use Rattle.scrub_listings.specs.Manifest.{IsManifestBut, IsManifestFrom, IsRemarkedManifest, is_whole, manifest_text}
 use Rattle.scrub_listings.specs.Remarks.{AreSuperblockRemarks, superblock_remarks}
 use Rattle.scrub_listings.specs.Summary.{IsSummary, is_sound_verdict, summary_text, verdict}
 use Rattle.scrub_listings.specs.declared.remarks.SuperblockRemark.{SuperblockRemark}
@@ -30,13 +31,23 @@ one_listing image a b v w x y =
       x.verdict ∙ ap is_clean_disk same ∙ sym y.verdict,
     )
 
+-- one manifest, by given index runs, or for each list of resets
+one_manifest_from : (given : Option (List Locator)) (resets : List ℕ) (image : Image) (a b : List ℕ) (v w : Bool) →
+    IsManifestFrom given resets image a v → IsManifestFrom given resets image b w → (a ≡ b) × (v ≡ w)
+one_manifest_from given resets image a b v w x y =
+    let same = one_scrub_from given resets image x.found y.found x.scrubbed y.scrubbed in
+    let loose = same_loose resets image x.found y.found x.loose y.loose same x.are_loose y.are_loose in
+    (x.text_is ∙ (λ i. manifest_text (same i) (loose i).frames) ∙ sym y.text_is, x.verdict ∙ ap is_whole same ∙ sym y.verdict)
+
 -- one manifest, for each list of resets
 pub one_manifest_lem : (resets : List ℕ) (image : Image) (a b : List ℕ) (v w : Bool) → IsManifestBut resets image a v →
     IsManifestBut resets image b w → (a ≡ b) × (v ≡ w)
-one_manifest_lem resets image a b v w x y =
-    let same = one_scrub_but resets image x.found y.found x.scrubbed y.scrubbed in
-    let loose = same_loose resets image x.found y.found x.loose y.loose same x.are_loose y.are_loose in
-    (x.text_is ∙ (λ i. manifest_text (same i) (loose i).frames) ∙ sym y.text_is, x.verdict ∙ ap is_whole same ∙ sym y.verdict)
+one_manifest_lem = one_manifest_from None
+
+-- one manifest by given index runs
+pub one_manifest_by_runs_lem : (runs : List Locator) (image : Image) (a b : List ℕ) (v w : Bool) →
+    IsManifestFrom (Some runs) [] image a v → IsManifestFrom (Some runs) [] image b w → (a ≡ b) × (v ≡ w)
+one_manifest_by_runs_lem runs = one_manifest_from (Some runs) []
 
 -- one list of remarks on its superblocks
 pub one_remarks_lem : (image : Image) (a b : List SuperblockRemark) → AreSuperblockRemarks image a → AreSuperblockRemarks image b → a ≡ b

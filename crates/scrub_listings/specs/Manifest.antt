@@ -21,7 +21,7 @@ use Rattle.scrub_check.specs.declared.statuses.checked.Checked.{Checked}
 use Rattle.scrub_check.specs.declared.statuses.status.Status.{Status}
 use Rattle.scrub_check.specs.Checked.{is_dangling, is_hidden, is_owned_by, is_sound}
 use Rattle.scrub_check.specs.ChunkForms.{form_at}
-use Rattle.scrub_found.specs.Resets.{IsScrubbedBut}
+use Rattle.scrub_found.specs.Resets.{IsScrubbedFrom}
 use Rattle.scrub_found.specs.Scrubbed.{Scrubbed}
 use Rattle.scrub_found.specs.Texts.{owner_text, status_text, uuid_text}
 use Rattle.scrub_loose.specs.Loose.{AreLoose, LooseValue, best_of}
@@ -151,15 +151,20 @@ is_whole_by has_superblock lost hidden shards = has_superblock && lost == 0 && h
 abbrev pub is_whole : Scrubbed → Bool
 is_whole s = is_whole_by s.plan.has_superblock (lost_runs s) (hidden_runs s) (of_shards s.checked)
 
--- the text is the manifest of what is found in an image, as if these extents had been reset, whose frames are no loose copies
--- then, and the truth value says whether nothing is missing
-pub record IsManifestBut (resets : List ℕ) (image : Image) (text : List ℕ) (whole : Bool) : Type 0 where
+-- the text is the manifest of what is found in an image, and the truth value says whether nothing is missing: by these index runs,
+-- if they are given, or else by the superblock that counts, as if these extents had been reset, whose frames are no loose copies
+-- then
+pub record IsManifestFrom (given : Option (List Locator)) (resets : List ℕ) (image : Image) (text : List ℕ) (whole : Bool) : Type 0 where
   pub found : Scrubbed
-  pub scrubbed : IsScrubbedBut resets image found
+  pub scrubbed : IsScrubbedFrom given resets image found
   pub loose : LooseValue
   pub are_loose : AreLoose resets image found.plan loose
   pub text_is : text ≡ manifest_text found loose.frames
   pub verdict : whole ≡ is_whole found
+
+-- the same by the superblock that counts
+abbrev pub IsManifestBut : List ℕ → Image → List ℕ → Bool → Type 0
+IsManifestBut resets image text whole = IsManifestFrom None resets image text whole
 
 -- the same without resets
 abbrev pub IsManifest : Image → List ℕ → Bool → Type 0

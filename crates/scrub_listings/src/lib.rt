@@ -11,7 +11,8 @@ pub mod superblocks;
 
 pub use listing::{Listing, each_image_has_a_locator_listing, list_locators, one_locator_listing};
 pub use manifest::{
-    Manifest, each_image_has_a_manifest, list_manifest, one_manifest, one_manifest_holds_the_same,
+    Manifest, each_image_has_a_manifest, list_manifest, list_manifest_by_runs, one_manifest,
+    one_manifest_holds_the_same,
 };
 pub use remarks::{
     SuperblockRemark, each_image_has_remarks, one_list_of_remarks, superblock_remarks,

@@ -1,19 +1,21 @@
 //! The manifest of a disk: its retired extents, its index runs that aren't read as usual, and what the
 //! locators of each shard name, wherever that lies; and what is said of the superblocks beside it.
 
-ghost use Rattle.std.specs.Prelude.{◌≡◌, ◌++◌, ◌≤◌, ◌&&◌, ◌==◌, Bool, List, ℕ, AllPairs, IfOk, OnOk};
-ghost use Rattle.std.specs.Prelude.{is_none, length, map, string_bytes};
+ghost use Rattle.std.specs.Prelude.{◌≡◌, ◌++◌, ◌<◌, ◌≤◌, ◌&&◌, ◌==◌, ◌^◌, [], Bool, List, ℕ, All, AllPairs, IfOk};
+ghost use Rattle.std.specs.Prelude.{OnOk, Option, Some, is_none, length, map, string_bytes};
 ghost use Rattle.std.specs.Fmt.{decimal};
 ghost use Rattle.std.specs.List.{count_by, flat_map};
 ghost use Rattle.std.specs.List.Sorted.{IsStrictlyIncreasing};
 ghost use Rattle.scrub_disk.specs.Image.{Image};
+ghost use Rattle.scrub_frame.specs.declared.locator.Locator.{Locator};
+ghost use Rattle.scrub_frame.specs.Locator.{IsLocator};
 ghost use Rattle.scrub_run.specs.Entry.{IsBelow};
 ghost use Rattle.scrub_scan.specs.Line.{spaced};
 ghost use Rattle.scrub_check.specs.Checked.{is_hidden, named_of};
 ghost use Rattle.scrub_check.specs.Named.{named_by_shard};
-ghost use Rattle.scrub_found.specs.Takings.{AreTakingsBy};
-ghost use Rattle.scrub_found.specs.Judged.{IsScanBut};
-ghost use Rattle.scrub_listings.specs.Manifest.{HoldTheSame, HoldsBytes, IsManifestBut};
+ghost use Rattle.scrub_found.specs.Takings.{AreTakingsBy, AreTakingsFrom};
+ghost use Rattle.scrub_found.specs.Judged.{IsScanFrom};
+ghost use Rattle.scrub_listings.specs.Manifest.{HoldTheSame, HoldsBytes, IsManifestBut, IsManifestFrom};
 ghost use Rattle.scrub_listings.specs.Manifest.{IsRemarkedManifest, all_traits, after_status, copy_word};
 ghost use Rattle.scrub_listings.specs.Manifest.{form_text, is_whole_by, looked_for};
 ghost use Rattle.scrub_listings.specs.Manifest.{numbered_line, numbered_lines, numbered_text, retired_line};
@@ -27,7 +29,7 @@ use scrub_check::{Checked, Owner, Status, form_at};
 use scrub_disk::{OutOfMemory, PageSource};
 use scrub_found::judging::are_sound;
 use scrub_found::texts::{owner_text, status_text};
-use scrub_found::{RunRow, Scan, ScrubFault, judged_of, scan_chosen};
+use scrub_found::{RunRow, Scan, ScrubFault, judged_of, scan_chosen, scan_listed};
 use scrub_frame::{Form, Locator};
 use scrub_loose::{BestCopy, Copies};
 use scrub_merge::Binding;
@@ -301,16 +303,17 @@ fn is_whole_by(plan: &Plan, lost: usize, hidden: usize, shards: &[Checked]) -> b
     plan.has_superblock() && lost == 0 && hidden == 0 && are_sound(shards)
 }
 
-/// The manifest of a scanned disk, as if these extents had been reset.
+/// The manifest of a scanned disk, by the index runs that were given, or as if these extents had been reset.
 fn manifest_of<R: Threads + Sync, D: PageSource>(
     rt: &R,
     alloc: Global,
     scan: Scan<'_, D>,
     resets: &[u32],
 ) -> Result<Listing, OutOfMemory>
-    requires { IsScanBut resets.now (D.image scan.disk.now) scan }
-    ensures { IfOk result (λ m.
-        IsManifestBut resets.now (D.image scan.entry.disk.now) m.text.items m.is_clean) }
+    requires { (given : Option (List Locator)) × IsScanFrom given resets.now (D.image scan.disk.now) scan }
+    ensures { (given : Option (List Locator)) →
+        IsScanFrom given resets.now (D.image scan.entry.disk.now) scan.entry → IfOk result (λ m.
+        IsManifestFrom given resets.now (D.image scan.entry.disk.now) m.text.items m.is_clean) }
 {
     let disk = scan.disk;
     let judged = judged_of(rt, alloc, scan)?;
@@ -393,11 +396,36 @@ pub fn list_manifest<D: PageSource, G: Gate, R: Threads + Wait + Sync>(
     ))
 }
 
-/// A law: an image has at most one manifest and one verdict, for each list of extents to be reset; and with
-/// it one list of remarks.
+/// Lists what a disk holds, as `list_manifest` does, but as if one superblock counted that lists these index runs,
+/// newest first and fewer than 2^32, retires nothing, and has each write pointer at its extent's end. What is in
+/// extent 0 doesn't matter, so there are no remarks.
+pub fn list_manifest_by_runs<D: PageSource, G: Gate, R: Threads + Wait + Sync>(
+    rt: &R,
+    alloc: Global,
+    disk: &D,
+    workers: u32,
+    gate: &G,
+    runs: &[Locator],
+) -> Result<(Listing, Takings), ScrubFault>
+    requires workers { workers ≤ 64 }
+    requires few { length runs.now < 2 ^ 32 }
+    requires located { All IsLocator runs.now }
+    ensures manifest { IfOk result (λ r.
+        IsManifestFrom (Some runs.now) [] (D.image disk.now) r.0.text.items r.0.is_clean) }
+    ensures takings { IfOk result (λ r. AreTakingsFrom (Some runs.now) (D.image disk.now) workers r.1) }
+{
+    let (scan, takings) = scan_listed(rt, alloc, disk, runs, workers, gate)?;
+    let manifest = manifest_of(rt, alloc, scan, &[])?;
+    Ok((manifest, takings))
+}
+
+/// A law: an image has at most one manifest and one verdict, for each list of extents to be reset, and for each
+/// list of index runs that are given; and with the first one list of remarks.
 pub fn one_manifest()
     ensures text { (resets : List ℕ) (image : Image) (a b : List ℕ) (v w : Bool) →
         IsManifestBut resets image a v → IsManifestBut resets image b w → (a ≡ b) × (v ≡ w) }
+    ensures by_runs { (runs : List Locator) (image : Image) (a b : List ℕ) (v w : Bool) →
+        IsManifestFrom (Some runs) [] image a v → IsManifestFrom (Some runs) [] image b w → (a ≡ b) × (v ≡ w) }
     ensures remarked { (resets : List ℕ) (image : Image) (a b : List ℕ) (r s : List SuperblockRemark)
         (v w : Bool) → IsRemarkedManifest resets image a r v → IsRemarkedManifest resets image b s w →
         (a ≡ b) × (r ≡ s) × (v ≡ w) }
@@ -421,11 +449,14 @@ pub fn one_manifest_holds_the_same()
         all_traits x.found x.loose.frames ≡ all_traits y.found y.loose.frames }
 {}
 
-/// A law: each image has a manifest, for each list of extents to be reset, and a verdict whether anything is
-/// missing; and with it remarks on its superblocks. With `one_manifest`, it has exactly one.
+/// A law: each image has a manifest, for each list of extents to be reset and for each list of index runs that can
+/// be given, and a verdict whether anything is missing; and with the first remarks on its superblocks. With
+/// `one_manifest`, it has exactly one.
 pub fn each_image_has_a_manifest()
     ensures text { (resets : List ℕ) (image : Image) →
         (text : List ℕ) × (whole : Bool) × IsManifestBut resets image text whole }
+    ensures by_runs { (runs : List Locator) (image : Image) → length runs < 2 ^ 32 → All IsLocator runs →
+        (text : List ℕ) × (whole : Bool) × IsManifestFrom (Some runs) [] image text whole }
     ensures remarked { (resets : List ℕ) (image : Image) → (text : List ℕ) ×
         (remarks : List SuperblockRemark) × (clean : Bool) × IsRemarkedManifest resets image text remarks clean }
 {}

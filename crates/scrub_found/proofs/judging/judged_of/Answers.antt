@@ -13,7 +13,7 @@ pub check_named-requires-clause-statuses : goal.check_named-requires-clause-stat
 check_named-requires-clause-statuses g c κs within = rw c.deref.ensures.value c.in_ok-read.ensures.statuses
 
 pub returns : goal.returns
-returns g c = λ resets scanned.
+returns g c = λ given resets scanned.
     record {
       read = c.in_ok-read.read;
       rows = search rules;

@@ -1,5 +1,5 @@
 -- The text and the verdict are those of what was found.
-use Rattle.std.proofs.Common.{[], ap, ◌∙◌}
+use Rattle.std.proofs.Common.{[], None, ap, ◌∙◌}
 use Rattle.std.specs.List.{flat_map, list_all}
 use Rattle.scrub_check.specs.declared.statuses.checked.Checked.{Checked}
 use Rattle.scrub_check.specs.Checked.{is_sound}
@@ -16,13 +16,13 @@ pub judged_of-requires-after_bounds : goal.judged_of-requires-after_bounds
 judged_of-requires-after_bounds g c κs within = c.requires.whole
 
 pub of-requires-after_bounds : goal.of-requires-after_bounds
-of-requires-after_bounds g c κs within = (c.in_ok-judged.ensures [] c.requires).scanned.whole
+of-requires-after_bounds g c κs within = (c.in_ok-judged.ensures None [] c.requires).scanned.whole
 
 pub returns : goal.returns
 returns g c =
     let image = g.D.PageSource.image c.args.scan.disk.now in
     let judged = c.in_ok-judged.judged in
-    let are = c.in_ok-judged.ensures [] c.requires in
+    let are = c.in_ok-judged.ensures None [] c.requires in
     let broken = some_broken judged.checked.items in
     let candidates = some_candidates_of [] image judged are in
     let shared = c.in_ok-shared_places.shared_places.items in

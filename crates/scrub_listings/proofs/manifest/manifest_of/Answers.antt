@@ -6,9 +6,9 @@ use Rattle.scrub_check.specs.declared.named.Owner.{Owner}
 use Rattle.scrub_check.specs.declared.statuses.checked.Checked.{Checked}
 use Rattle.scrub_check.specs.Checked.{is_hidden}
 use Rattle.scrub_found.specs.declared.runs.RunRow.{RunRow}
-use Rattle.scrub_found.specs.Judged.{Beside, IsFoundBut, found_in}
+use Rattle.scrub_found.specs.Judged.{Beside, IsFoundFrom, found_in}
 use Rattle.scrub_found.specs.Scrubbed.{Scrubbed}
-use Rattle.scrub_found.proofs.FoundBeside.{all_beside, found_beside}
+use Rattle.scrub_found.proofs.FoundBeside.{all_beside_from, found_beside_from}
 use Rattle.scrub_loose.specs.Loose.{AreCopies}
 use Rattle.scrub_listings.specs.Manifest.{after_status_in, hidden_runs, is_whole_by, lost_runs, of_shards, text_by}
 use Rattle.scrub_listings.specs.steps.Manifest.{after_status_by, is_of_read_row}
@@ -18,25 +18,25 @@ use Rattle.scrub_listings.proofs.ShardLines.{along_runs, runs_fit, shards_part}
 use Rattle.scrub_listings.proofs.manifest.manifest_of.Goals as goal
 
 pub judged_of-requires-after_bounds : goal.judged_of-requires-after_bounds
-judged_of-requires-after_bounds g c κs within = c.requires.whole
+judged_of-requires-after_bounds g c κs within = c.requires.1.whole
 
 pub of-requires-after_bounds : goal.of-requires-after_bounds
-of-requires-after_bounds g c κs within = (c.in_ok-judged.ensures c.args.resets.now c.requires).scanned.whole
+of-requires-after_bounds g c κs within = (c.in_ok-judged.ensures c.requires.0 c.args.resets.now c.requires.1).scanned.whole
 
 pub split_at-requires : goal.split_at-requires
 split_at-requires g c =
     let judged = c.in_ok-judged.judged in
     rw (c.runs.ensures.runs, c.deref.ensures.value)
-    (runs_fit judged.scan.plan.runs judged.map judged.checked.items (c.in_ok-judged.ensures c.args.resets.now c.requires).checked.same)
+    (runs_fit judged.scan.plan.runs judged.map judged.checked.items (c.in_ok-judged.ensures c.requires.0 c.args.resets.now c.requires.1).checked.same)
 
 pub text_by-requires-clause-along : goal.text_by-requires-clause-along
 text_by-requires-clause-along g c κs within =
     let judged = c.in_ok-judged.judged in
     rw (c.split_at.ensures.back, c.runs.ensures.runs, c.deref.ensures.value, c.bindings.ensures.bindings)
-    (along_runs judged.scan.plan.runs judged.map judged.checked.items (c.in_ok-judged.ensures c.args.resets.now c.requires).checked.same)
+    (along_runs judged.scan.plan.runs judged.map judged.checked.items (c.in_ok-judged.ensures c.requires.0 c.args.resets.now c.requires.1).checked.same)
 
 pub returns : goal.returns
-returns g c =
+returns g c = λ given scanned.
     let resets = c.args.resets.now in
     let judged = c.in_ok-judged.judged in
     let map = judged.map in
@@ -44,9 +44,9 @@ returns g c =
     let checked = judged.checked.items in
     let copies = c.in_ok-copies.copies in
     let image = g.D.PageSource.image c.args.scan.disk.now in
-    let are = c.in_ok-judged.ensures resets c.requires in
-    let b : Beside = all_beside resets image judged are in
-    let is : IsFoundBut resets image judged b = found_beside resets image judged are in
+    let are = c.in_ok-judged.ensures given resets scanned in
+    let b : Beside = all_beside_from given resets image judged are in
+    let is : IsFoundFrom given resets image judged b = found_beside_from given resets image judged are in
     let found : Scrubbed = found_in judged b in
     let lost_is : c.lost_runs-lost.result ≡ lost_runs found =
     c.lost_runs-lost.ensures

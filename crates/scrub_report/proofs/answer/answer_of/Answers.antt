@@ -1,5 +1,5 @@
 -- The bindings fit into one run, and each part of the answer is that of what was found.
-use Rattle.std.proofs.Common.{[], ap, sym, ◌∙◌}
+use Rattle.std.proofs.Common.{[], None, ap, sym, ◌∙◌}
 use Rattle.std.proofs.Math.Path.{ap₂}
 use Rattle.scrub_run.specs.Run.{run_bytes}
 use Rattle.scrub_found.proofs.FewBindings.{countable_map, locators_fit}
@@ -11,17 +11,17 @@ judged_of-requires-after_bounds g c κs within = c.requires.whole
 
 pub index_and_report-requires-clause-few : goal.index_and_report-requires-clause-few
 index_and_report-requires-clause-few g c κs within =
-    let are = c.in_ok-judged.ensures [] c.requires in
+    let are = c.in_ok-judged.ensures None [] c.requires in
     locators_fit [] (g.D.PageSource.image c.args.scan.disk.now) _ _ are.read _ are.scanned.chosen are.scanned.planned are.read_are are.map_is
 
 pub index_and_report-requires-clause-count : goal.index_and_report-requires-clause-count
 index_and_report-requires-clause-count g c κs within =
-    let are = c.in_ok-judged.ensures [] c.requires in
+    let are = c.in_ok-judged.ensures None [] c.requires in
     countable_map [] (g.D.PageSource.image c.args.scan.disk.now) _ _ are.read _ are.scanned.chosen are.scanned.planned are.read_are are.map_is
 
 pub returns : goal.returns
 returns g c =
-    let told = c.in_ok-index.ensures.report (g.D.PageSource.image c.args.scan.disk.now) (c.in_ok-judged.ensures [] c.requires) c.in_ok-shards.ensures in
+    let told = c.in_ok-index.ensures.report (g.D.PageSource.image c.args.scan.disk.now) (c.in_ok-judged.ensures None [] c.requires) c.in_ok-shards.ensures in
     record {
       found = told.found;
       scrubbed = told.scrubbed;

@@ -1,0 +1,105 @@
+-- A plan by given index runs, or by the choice as if extents had been reset: its sizes, what it plans, and that there is one.
+use Rattle.std.proofs.Common.{◌≡◌, ◌∷◌, [], ℕ, List, Option, None, Some, IfSome, refl, sym, ◌∙◌, ap}
+use Rattle.std.specs.List.Sorted.{IsStrictlyIncreasing}
+use Rattle.scrub_disk.specs.declared.geometry.Geometry.{Geometry}
+use Rattle.scrub_disk.specs.Image.{Image}
+use Rattle.scrub_frame.specs.declared.locator.Locator.{Locator}
+use Rattle.scrub_super.specs.Chosen.{Choice, IsChoice}
+use Rattle.scrub_super.specs.GivenRuns.{plan_listing}
+use Rattle.scrub_super.specs.Plan.{IsPlan, PlanValue}
+use Rattle.scrub_super.specs.Planned.{extents_in_use}
+use Rattle.scrub_super.specs.Reset.{pointers_reset}
+use Rattle.scrub_super.specs.steps.Limits.{AreRunLocators}
+use Rattle.scrub_super.proofs.GivenRuns.{listing_fits}
+use Rattle.scrub_super.proofs.PlanParts.{plan_parts}
+use Rattle.scrub_super.proofs.Plans.{in_use_planned}
+use Rattle.scrub_super.proofs.PlansFit.{plan_fits, reset_fits}
+use Rattle.scrub_super.proofs.RecordsThere.{some_plan}
+use Rattle.scrub_scan.specs.AllFindings.{AreAllFindings}
+use Rattle.scrub_scan.specs.Scanned.{Scanned}
+use Rattle.scrub_check.specs.WholeScan.{IsWholeScan}
+use Rattle.scrub_found.specs.Takings.{ArePlannedFrom}
+use Rattle.scrub_found.specs.Resets.{FollowsFrom, IsPlanBut}
+use Rattle.scrub_found.proofs.ResetPlans.{one_plan_but, planned_but, whole_but}
+
+-- ---- by the choice, as if extents had been reset
+
+-- The plan of a choice made in an image meets `IsPlan`, as if any extents had been reset.
+pub plan_but_fits : (resets : List ℕ) (image : Image) (choice : Choice) (plan : PlanValue) → IsChoice image choice →
+    IsPlanBut resets choice plan → IsPlan plan
+plan_but_fits [] image choice plan chosen is = plan_fits image choice plan chosen is
+plan_but_fits (e ∷ es) image choice plan chosen is =
+    reset_fits is.0 plan (e ∷ es) is.2 (plan_fits image choice is.0 chosen is.1)
+
+some_plan_but : (resets : List ℕ) (choice : Choice) → (plan : PlanValue) × IsPlanBut resets choice plan
+some_plan_but [] choice = some_plan choice
+some_plan_but (e ∷ es) choice =
+    let old = some_plan choice in (
+      record {
+        geometry = old.0.geometry;
+        planned = old.0.planned;
+        retired = old.0.retired;
+        pointers = pointers_reset (e ∷ es) old.0.pointers;
+        runs = old.0.runs;
+        has_superblock = old.0.has_superblock;
+      },
+      (old.0, old.1, record { planned = refl; geometry = refl; retired = refl; pointers = refl; runs = refl; has = refl }),
+    )
+
+geometry_but : (resets : List ℕ) (image : Image) (choice : Choice) (plan : PlanValue) → IsChoice image choice →
+    IsPlanBut resets choice plan → plan.geometry ≡ image.geometry
+geometry_but [] image choice plan chosen is = (plan_parts choice plan is).geometry ∙ chosen.geometry
+geometry_but (e ∷ es) image choice plan chosen is = is.2.geometry ∙ (plan_parts choice is.0 is.1).geometry ∙ chosen.geometry
+
+-- ---- also by given runs
+
+-- The plan is of the disk's sizes.
+pub geometry_from : (given : Option (List Locator)) (resets : List ℕ) (image : Image) (choice : Choice) (plan : PlanValue) →
+    IsChoice image choice → FollowsFrom given resets choice plan → plan.geometry ≡ image.geometry
+geometry_from None resets image choice plan chosen follows = geometry_but resets image choice plan chosen follows
+geometry_from (Some runs) resets image choice plan chosen follows = ap (λ (p : PlanValue). p.geometry) follows ∙ chosen.geometry
+
+-- Its planned extents ascend.
+pub rising_from : (given : Option (List Locator)) (resets : List ℕ) (image : Image) (choice : Choice) (plan : PlanValue) →
+    IsChoice image choice → FollowsFrom given resets choice plan → IsStrictlyIncreasing plan.planned
+rising_from None resets image choice plan chosen follows =
+    let fits : IsPlan plan = plan_but_fits resets image choice plan chosen follows in fits.extents.rising
+rising_from (Some runs) resets image choice plan chosen follows = rw follows (in_use_planned choice.geometry.extents []).rising
+
+-- It keeps the limits of a plan, if the given runs keep theirs.
+pub plan_from_fits : (given : Option (List Locator)) (resets : List ℕ) (image : Image) (choice : Choice) (plan : PlanValue) →
+    IfSome given AreRunLocators → IsChoice image choice → FollowsFrom given resets choice plan → IsPlan plan
+plan_from_fits None resets image choice plan can chosen follows = plan_but_fits resets image choice plan chosen follows
+plan_from_fits (Some runs) resets image choice plan can chosen follows = rw follows (listing_fits choice.geometry runs can)
+
+-- All extents in use are planned.
+pub whole_from : (given : Option (List Locator)) (resets : List ℕ) (choice : Choice) (plan : PlanValue) (image : Image) (all : List Scanned) →
+    IsChoice image choice → FollowsFrom given resets choice plan → AreAllFindings image plan all → IsWholeScan image plan all
+whole_from None resets choice plan image all chosen follows found = whole_but resets choice plan image all chosen follows found
+whole_from (Some runs) resets choice plan image all chosen follows found = record {
+  geometry = ap (λ (p : PlanValue). p.geometry) follows ∙ chosen.geometry;
+  planned =
+      ap (λ (p : PlanValue). p.planned) follows
+      ∙ ap (λ (g : Geometry). extents_in_use g.extents []) chosen.geometry
+      ∙ ap (extents_in_use image.geometry.extents) (sym (ap (λ (p : PlanValue). p.retired) follows));
+  findings = found;
+}
+
+-- The same extents are planned as without resets.
+pub planned_from : (given : Option (List Locator)) (resets : List ℕ) (choice : Choice) (plan : PlanValue) (image : Image) →
+    IsChoice image choice → FollowsFrom given resets choice plan → ArePlannedFrom given image plan.planned
+planned_from None resets choice plan image chosen follows = planned_but resets choice plan image chosen follows
+planned_from (Some runs) resets choice plan image chosen follows =
+    record { choice = choice; plan = plan; chosen = chosen; follows = follows; are = refl }
+
+-- There is one plan.
+pub one_plan_from : (given : Option (List Locator)) (resets : List ℕ) (choice : Choice) (p q : PlanValue) →
+    FollowsFrom given resets choice p → FollowsFrom given resets choice q → p ≡ q
+one_plan_from None resets choice p q x y = one_plan_but resets choice p q x y
+one_plan_from (Some runs) resets choice p q x y = x ∙ sym y
+
+-- There is a plan.
+pub some_plan_from : (given : Option (List Locator)) (resets : List ℕ) (choice : Choice) →
+    (plan : PlanValue) × FollowsFrom given resets choice plan
+some_plan_from None resets choice = some_plan_but resets choice
+some_plan_from (Some runs) resets choice = (plan_listing choice.geometry runs, refl)
