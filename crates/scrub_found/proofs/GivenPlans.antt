@@ -1,5 +1,5 @@
 -- A plan by given index runs, or by the choice as if extents had been reset: its sizes, what it plans, and that there is one.
-use Rattle.std.proofs.Common.{◌≡◌, ◌∷◌, [], ℕ, List, Option, None, Some, IfSome, refl, sym, ◌∙◌, ap}
+use Rattle.std.proofs.Common.{◌≡◌, ◌+◌, ◌∷◌, [], ℕ, List, Option, None, Some, IfSome, length, refl, sym, ◌∙◌, ap, subst}
 use Rattle.std.specs.List.Sorted.{IsStrictlyIncreasing}
 use Rattle.scrub_disk.specs.declared.geometry.Geometry.{Geometry}
 use Rattle.scrub_disk.specs.Image.{Image}
@@ -18,7 +18,8 @@ use Rattle.scrub_super.proofs.RecordsThere.{some_plan}
 use Rattle.scrub_scan.specs.AllFindings.{AreAllFindings}
 use Rattle.scrub_scan.specs.Scanned.{Scanned}
 use Rattle.scrub_check.specs.WholeScan.{IsWholeScan}
-use Rattle.scrub_found.specs.Takings.{ArePlannedFrom}
+use Rattle.scrub_pool.specs.Takings.{IsPartition, TakingsValue}
+use Rattle.scrub_found.specs.GivenTakings.{AreTakingsFrom}
 use Rattle.scrub_found.specs.Resets.{FollowsFrom, IsPlanBut}
 use Rattle.scrub_found.proofs.ResetPlans.{one_plan_but, planned_but, whole_but}
 
@@ -85,12 +86,25 @@ whole_from (Some runs) resets choice plan image all chosen follows found = recor
   findings = found;
 }
 
--- The same extents are planned as without resets.
-pub planned_from : (given : Option (List Locator)) (resets : List ℕ) (choice : Choice) (plan : PlanValue) (image : Image) →
-    IsChoice image choice → FollowsFrom given resets choice plan → ArePlannedFrom given image plan.planned
-planned_from None resets choice plan image chosen follows = planned_but resets choice plan image chosen follows
-planned_from (Some runs) resets choice plan image chosen follows =
-    record { choice = choice; plan = plan; chosen = chosen; follows = follows; are = refl }
+-- A scan by it takes what one without resets takes.
+pub takings_from : (given : Option (List Locator)) (resets : List ℕ) (choice : Choice) (plan : PlanValue) (image : Image) (workers : ℕ)
+    (takings : TakingsValue) → IsChoice image choice → FollowsFrom given resets choice plan → length takings.lists ≡ workers + 1 →
+    IsPartition plan.planned takings.lists → takings.counted ≡ length plan.planned → AreTakingsFrom given image workers takings
+takings_from None resets choice plan image workers takings chosen follows members partition counted = record {
+  planned = plan.planned;
+  are_planned = planned_but resets choice plan image chosen follows;
+  members = members;
+  partition = partition;
+  counted = counted;
+}
+takings_from (Some runs) resets choice plan image workers takings chosen follows members partition counted =
+    let all : plan.planned ≡ extents_in_use image.geometry.extents [] =
+    ap (λ (p : PlanValue). p.planned) follows ∙ ap (λ (g : Geometry). extents_in_use g.extents []) chosen.geometry in
+    record {
+      members = members;
+      partition = subst (λ (es : List ℕ). IsPartition es takings.lists) all partition;
+      counted = counted ∙ ap length all;
+    }
 
 -- There is one plan.
 pub one_plan_from : (given : Option (List Locator)) (resets : List ℕ) (choice : Choice) (p q : PlanValue) →

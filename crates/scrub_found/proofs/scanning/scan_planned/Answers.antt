@@ -1,6 +1,6 @@
--- The planned extents are those of the plan without resets.
+-- All extents in use were planned, and taken.
 use Rattle.std.proofs.Common.{rules}
-use Rattle.scrub_found.proofs.GivenPlans.{planned_from, whole_from}
+use Rattle.scrub_found.proofs.GivenPlans.{takings_from, whole_from}
 use Rattle.scrub_found.proofs.scanning.scan_planned.Goals as goal
 
 pub returns-clause-scan : goal.returns-clause-scan
@@ -16,10 +16,5 @@ returns-clause-scan g c = λ given resets chosen follows.
 
 pub returns-clause-takings : goal.returns-clause-takings
 returns-clause-takings g c = λ given resets chosen follows.
-    record {
-      planned = c.args.plan.planned;
-      are_planned = planned_from given resets c.args.chosen c.args.plan (g.D.PageSource.image c.args.disk.now) chosen follows;
-      members = c.in_ok-all.ensures.workers;
-      partition = c.in_ok-all.ensures.partition;
-      counted = c.in_ok-all.ensures.counted;
-    }
+    takings_from given resets c.args.chosen c.args.plan (g.D.PageSource.image c.args.disk.now) c.args.workers _ chosen follows
+    c.in_ok-all.ensures.workers c.in_ok-all.ensures.partition c.in_ok-all.ensures.counted
