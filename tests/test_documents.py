@@ -27,7 +27,8 @@ class Tools(Case):
         self.true(tool, done.returncode == 0, done.stdout + done.stderr)
 
     def test_book(self):
-        """docs/THEOREM.md has the theorem, and docs/LAWS.md the laws, with the definitions that they rest on."""
+        """docs/THEOREM.md has the theorem, and docs/LAWS.md the laws, with the definitions that they rest on. Each chapter and the
+        functions of reference/shardscrub.py that compute the same name each other."""
         self.check("book.py")
 
     def test_comments(self):
