@@ -1,5 +1,6 @@
 """How the released programs are installed: by release/install, by release/Makefile, and by dpkg from the package that
-release/package makes. Nobody has to be superuser, and nothing outside a folder for passing files is touched."""
+release/package makes. Nobody has to be superuser, and nothing outside a folder for passing files is touched. The examples of the
+installed pages run, as lib/examples.py finds them; each is named by its line in the page of the sources."""
 import gzip
 import hashlib
 import io
@@ -16,6 +17,7 @@ import unittest
 from datetime import datetime, timezone
 from pathlib import Path
 
+from lib.examples import PAGES, ExampleCase, Installed, examples_of, without_sources
 from lib.program import FASTER, GENERAL, TOP, TUNABLES, V2_FLAGS, V3_FLAGS, has_v3, need, processors, with_processor, write
 
 # Each installed file: its mode, and what it is a copy of.
@@ -34,6 +36,7 @@ INSTALLED = {
     **{f"share/doc/shardscrub/examples/{path.name}": (0o644, f"examples/{path.name}") for path in (TOP / "examples").iterdir()},
     "share/fish/vendor_completions.d/shardscrub.fish": (0o644, "release/completions/shardscrub.fish"),
     "share/man/man1/shardscrub.1": (0o644, "docs/shardscrub.1"),
+    "share/shardscrub/reference/shardscrub.py": (0o755, "reference/shardscrub.py"),
     "share/shardscrub/view/metrics": (0o755, "view/metrics"),
     "share/shardscrub/view/monitoring/cron": (0o644, "view/monitoring/cron"),
     "share/shardscrub/view/monitoring/nightly": (0o755, "view/monitoring/nightly"),
@@ -61,7 +64,7 @@ FIELDS = {
     "Architecture": "amd64",
     "Maintainer": "Tuzbelic maintainers <maintainers@users.noreply.tuzbelic.example>",
     "Recommends": "jq",
-    "Suggests": "gddrescue, parallel",
+    "Suggests": "gddrescue, parallel, python3",
     "Section": "admin",
     "Priority": "optional",
 }
@@ -99,9 +102,21 @@ def unpacked(name, data):
     return gzip.decompress(data) if name.endswith(".gz") else data
 
 
-def without_links(name, data):
-    """The content of a file, of a document without its links."""
-    return LINK.sub(r"\1", data.decode()) if name.endswith(".md") else data
+def without_places(name, data, place=None):
+    """The content of a file; of a document without its links, and without what says where things are. If `place` is None, it is a
+    document of the sources, and else one that is installed below that folder."""
+    if not re.search(r"\.md$|\.1(\.gz)?$|\.tsv$", name):
+        return data
+    text = data.decode().replace("\\e", "\\").replace("\\-", "-")
+    if place is None:
+        text = "\n".join(without_sources(text.split("\n"))).replace("/usr/share/shardscrub/", "")
+        text = text.replace("./shardscrub", "shardscrub").replace("the repository's root directory", "any folder")
+        text = text.replace("man -l docs/shardscrub.1", "man shardscrub")
+        text = re.sub(r"^An installation has\n.*?(?=^\.TP$)", "", text, flags=re.M | re.S)
+    else:
+        text = text.replace(place.replace(" ", "\\ "), place).replace(f"{place}/doc/shardscrub/", "").replace(f"{place}/shardscrub/", "")
+    text = LINK.sub(r"\1", text) if name.endswith(".md") else text
+    return [line for line in text.splitlines() if line]
 
 
 def anchors(text):
@@ -132,16 +147,16 @@ class OfTheRelease(unittest.TestCase):
         self.addCleanup(folder.cleanup)
         self.folder = Path(folder.name)
 
-    def copied(self, name, data, origin):
-        """Checks that an installed file is a copy, or a document that differs in its links alone."""
+    def copied(self, name, data, origin, place):
+        """Checks that an installed file is a copy, or a document that differs only in its links and in where things are."""
         if origin is not None:
-            self.assertEqual(without_links(name, unpacked(name, data)), without_links(name, (TOP / origin).read_bytes()), name)
+            self.assertEqual(without_places(name, unpacked(name, data), place), without_places(name, (TOP / origin).read_bytes()), name)
 
-    def installed(self, folder, files):
-        """Checks that these files and nothing else are installed in a folder."""
+    def installed(self, folder, files, prefix=None):
+        """Checks that these files and nothing else are installed in a folder, which will be at this prefix."""
         self.assertEqual(tree(folder), with_folders(files))
         for name, (_, origin) in files.items():
-            self.copied(name, (folder / name).read_bytes(), origin)
+            self.copied(name, (folder / name).read_bytes(), origin, f"{folder if prefix is None else prefix}/share")
 
     def runs(self, program):
         version = f"shardscrub {newest()[0]}\n"
@@ -182,6 +197,43 @@ class Install(OfTheRelease):
         for line in lines:
             done(command, *line.split(), cwd=self.folder / "prefix/share/doc/shardscrub")
 
+    def test_the_commands_of_each_page(self):
+        """No page has fewer of them than that of the sources, or more, but for those that only the sources can do."""
+        done("release/install", self.folder / "prefix")
+        for page in PAGES:
+            wanted = examples_of(page, are_sources_left_out=True)
+            self.assertEqual(len(examples_of(page, self.folder / "prefix")), len(wanted), page)
+            self.assertEqual(len(examples_of(page)) - len(wanted), 4 if page == "Readme" else 0, page)
+
+    def test_no_page_names_what_only_the_sources_have(self):
+        """In commands, texts for a shell and code in a line, apart from what is said to be of the sources."""
+        done("release/install", self.folder / "prefix")
+        known = {path.name for path in TOP.iterdir() if path.is_dir()} - {"view", "docs", "examples", "reference"}
+        said = {"docs/RECLAIMING.md": {"tests", "fuzz"}, "shardscrub/README.md": {"crates"}}
+        for path in [*sorted((self.folder / "prefix").rglob("*.md")), self.folder / "prefix/share/man/man1/shardscrub.1"]:
+            text = path.read_text(encoding="utf-8")
+            self.assertNotIn("./shardscrub ", text.replace("../shardscrub", ""), path.name)
+            code = "\n".join(re.findall(r"^```.*?^```$|`[^`\n]+`", text, re.M | re.S))
+            found = {word for word in re.findall(r"(?<![\w./-])(\w+)/\w", code) if word in known}
+            self.assertEqual(found, said.get(f"{path.parent.name}/{path.name}", set()), path.name)
+            self.assertNotRegex(text, r"<!--|(?<![\w./-])docs/\w+\.md, box|repository")
+
+    def test_the_reference(self):
+        """It runs where it lies, and prints what the program prints."""
+        done("release/install", self.folder / "a prefix")
+        prefix, folder = self.folder / "a prefix", self.folder / "folder"
+        folder.mkdir()
+        count = 0
+        for image in sorted((prefix / "share/doc/shardscrub/examples").glob("*.img")):
+            for command in ("summary", "scan"):
+                program, reference = (run(one, command, image, cwd=folder) for one in
+                                      (prefix / "bin/shardscrub", prefix / "share/shardscrub/reference/shardscrub.py"))
+                self.assertEqual((reference.stdout, reference.stderr, reference.returncode),
+                                 (program.stdout, program.stderr, program.returncode), f"{command} {image.name}")
+                count += program.returncode < 2
+        self.assertGreater(count, 20)
+        self.assertEqual(tree(prefix).keys() & {"share/shardscrub/reference/__pycache__/"}, set())
+
     def test_which_program_is_started(self):
         """By the processor, by SHARDSCRUB_CPU, and if one of the programs isn't there any more."""
         done("release/install", self.folder / "a prefix")
@@ -204,8 +256,15 @@ class Install(OfTheRelease):
 
     def test_below_destdir(self):
         done("release/install", "/usr", more={"DESTDIR": str(self.folder / "stage")})
-        self.installed(self.folder / "stage/usr", INSTALLED)
+        self.installed(self.folder / "stage/usr", INSTALLED, "/usr")
         self.assertEqual(os.listdir(self.folder / "stage"), ["usr"])
+
+    def test_below_a_folder_of_the_callers(self):
+        """A prefix that isn't a whole path is one from the caller's folder on, or from DESTDIR on."""
+        done(TOP / "release/install", "a prefix", cwd=self.folder)
+        self.installed(self.folder / "a prefix", INSTALLED)
+        done(TOP / "release/install", "opt", cwd=self.folder, more={"DESTDIR": str(self.folder / "stage")})
+        self.installed(self.folder / "stage/opt", INSTALLED, "/opt")
 
     def test_over_itself(self):
         for _ in range(2):
@@ -230,7 +289,7 @@ class Make(OfTheRelease):
         words = [f"DESTDIR={self.folder}", "PREFIX=/opt/a folder"]
         prefix = self.folder / "opt/a folder"
         self.assertEqual(self.make("install", *words).returncode, 0)
-        self.installed(prefix, INSTALLED)
+        self.installed(prefix, INSTALLED, "/opt/a folder")
         other = prefix / "share/man/man1/other.1"
         other.write_text("another program's")
         self.assertEqual(self.make("uninstall", *words).returncode, 0)
@@ -239,7 +298,7 @@ class Make(OfTheRelease):
 
     def test_destdir_of_the_environment(self):
         self.assertEqual(self.make("install", more={"DESTDIR": str(self.folder)}).returncode, 0)
-        self.installed(self.folder / "usr/local", INSTALLED)
+        self.installed(self.folder / "usr/local", INSTALLED, "/usr/local")
 
     def test_package(self):
         need("dpkg-deb")
@@ -308,7 +367,7 @@ class Package(OfTheRelease):
         for member, data in members:
             if data is not None:
                 origin = PACKED[member.name.removeprefix("./usr/")][1]
-                self.copied(member.name, data, origin)
+                self.copied(member.name, data, origin, "/usr/share")
 
     def member(self, name):
         return next(data for member, data in self.members(self.package) if member.name == f"./usr/share/{name}")
@@ -420,7 +479,7 @@ class Dpkg(OfTheRelease):
 
     def test_installed(self):
         self.assertEqual(self.state().stdout, "ii ")
-        self.installed(self.root / "usr", PACKED)
+        self.installed(self.root / "usr", PACKED, "/usr")
         self.runs(self.root / "usr/bin/shardscrub")
         self.assertEqual(self.dpkg("--verify", "shardscrub"), "")
 
@@ -448,6 +507,21 @@ class Dpkg(OfTheRelease):
                 self.assertEqual([name for name in tree(self.root) if "shardscrub" in name], [])
                 self.assertNotEqual(self.state().returncode, 0)
                 self.dpkg("--force-depends", "--install", self.package)
+
+
+TRANSCRIPT = Installed()
+
+
+def setUpModule():
+    if platform.machine() != "x86_64":
+        raise unittest.SkipTest("the released program is for x86-64")
+    unittest.addModuleCleanup(TRANSCRIPT.close)
+
+
+def load_tests(loader, tests, _):
+    """Adds a test for each example of the installed pages."""
+    tests.addTests(ExampleCase(TRANSCRIPT, number) for number in range(len(TRANSCRIPT.examples)))
+    return tests
 
 
 if __name__ == "__main__":

@@ -26,11 +26,12 @@ NAMED = "SHARDSCRUB_PROGRAM"
 NO_PROGRAM = 70
 # The package of Debian that each tool is in.
 PACKAGES = {
-    "bash": "bash", "cc": "gcc", "chromedriver": "chromium-driver", "chromium": "chromium", "ddrescue": "gddrescue", "dpkg": "dpkg",
-    "dpkg-deb": "dpkg", "dpkg-parsechangelog": "dpkg-dev", "fish": "fish", "flock": "util-linux", "git": "git", "groff": "groff-base",
-    "jq": "jq", "lintian": "lintian", "losetup": "mount", "make": "make", "man": "man-db", "mandoc": "mandoc", "node": "nodejs",
-    "objdump": "binutils", "parallel": "parallel", "promtool": "prometheus", "python3": "python3", "strace": "strace",
-    "systemd-analyze": "systemd", "zsh": "zsh",
+    "awk": "mawk", "bash": "bash", "cc": "gcc", "chromedriver": "chromium-driver", "chromium": "chromium", "cmp": "diffutils", "ddrescue": "gddrescue",
+    "diff": "diffutils", "dpkg": "dpkg", "dpkg-deb": "dpkg", "dpkg-parsechangelog": "dpkg-dev", "fish": "fish", "flock": "util-linux",
+    "git": "git", "groff": "groff-base", "jq": "jq", "ldd": "libc-bin", "lintian": "lintian", "losetup": "mount", "make": "make",
+    "man": "man-db", "mandoc": "mandoc", "node": "nodejs", "objdump": "binutils", "od": "coreutils", "parallel": "parallel",
+    "promtool": "prometheus", "python3": "python3", "strace": "strace", "systemd-analyze": "systemd", "tar": "tar", "xargs": "findutils",
+    "zsh": "zsh",
     "Python's jsonschema": "python3-jsonschema", "Python's selenium": "python3-selenium", "Python's yaml": "python3-yaml",
 }
 # Some tools are in folders that only a superuser's path has.
