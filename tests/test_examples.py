@@ -35,6 +35,20 @@ class ReportCase(Case):
                 check_line(self, f"scan {words}", done.stdout.rstrip("\n"))
 
 
+def path_without(tool, folder):
+    """A path on which this tool isn't. In place of a folder that has it, there is one with links to all else in it."""
+    places = []
+    for number, place in enumerate(os.get_exec_path()):
+        if os.access(os.path.join(place, tool), os.X_OK):
+            links = os.path.join(folder, f"path-{number}")
+            os.mkdir(links)
+            for name in set(os.listdir(place)) - {tool}:
+                os.symlink(os.path.abspath(os.path.join(place, name)), os.path.join(links, name))
+            place = links
+        places.append(place)
+    return os.pathsep.join(places)
+
+
 class Clone(Case):
     def test_a_clone_answers_at_once(self):
         """The first example of the README.md, in a clone of the last commit, without the toolchain."""
@@ -42,9 +56,8 @@ class Clone(Case):
         if subprocess.run(["git", "rev-parse", "--git-dir"], cwd=TOP, capture_output=True).returncode != 0:
             self.skipTest("this folder is no clone of git")
         example = examples_of("Readme")[0]
-        path = os.pathsep.join(place for place in os.get_exec_path() if not os.access(os.path.join(place, "rt"), os.X_OK))
         with tempfile.TemporaryDirectory(prefix="shardscrub-clone-") as folder:
-            clone = os.path.join(folder, "clone")
+            clone, path = os.path.join(folder, "clone"), path_without("rt", folder)
             subprocess.run(["git", "clone", "-q", TOP, clone], check=True)
             done = subprocess.run(["sh", "-c", example.command], cwd=clone, env={**os.environ, "PATH": path}, timeout=300,
                                   stdin=subprocess.DEVNULL, stdout=subprocess.PIPE, stderr=subprocess.STDOUT, encoding="utf-8")
