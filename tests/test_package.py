@@ -18,7 +18,8 @@ from datetime import datetime, timezone
 from pathlib import Path
 
 from lib.examples import PAGES, ExampleCase, Installed, examples_of, without_sources
-from lib.program import FASTER, GENERAL, TOP, TUNABLES, V2_FLAGS, V3_FLAGS, has_v3, need, processors, with_processor, write
+from lib.program import (
+    FASTER, GENERAL, METRICS_TOOLS, PACKAGE_TOOLS, ROW_TOOLS, TOP, TUNABLES, V2_FLAGS, V3_FLAGS, has_v3, need, processors, with_processor, write)
 
 # Each installed file: its mode, and what it is a copy of.
 INSTALLED = {
@@ -301,7 +302,7 @@ class Make(OfTheRelease):
         self.installed(self.folder / "usr/local", INSTALLED, "/usr/local")
 
     def test_package(self):
-        need("dpkg-deb")
+        need(*PACKAGE_TOOLS)
         made = self.make("package", f"FOLDER={self.folder / 'a folder'}")
         package = Path(done("release/package", self.folder / "other").strip())
         self.assertEqual(made.stdout, f"{self.folder / 'a folder' / package.name}\n")
@@ -323,7 +324,7 @@ class Package(OfTheRelease):
     @classmethod
     def setUpClass(cls):
         super().setUpClass()
-        need("dpkg-deb")
+        need(*PACKAGE_TOOLS)
         cls.passing = tempfile.TemporaryDirectory()
         cls.addClassCleanup(cls.passing.cleanup)
         cls.package = Path(done("release/package", cls.passing.name).strip())
@@ -456,8 +457,7 @@ class Dpkg(OfTheRelease):
     @classmethod
     def setUpClass(cls):
         super().setUpClass()
-        need("dpkg-deb")
-        need("dpkg")
+        need("dpkg", *PACKAGE_TOOLS)
         passing = tempfile.TemporaryDirectory()
         cls.addClassCleanup(passing.cleanup)
         cls.package = done("release/package", passing.name).strip()
@@ -484,7 +484,7 @@ class Dpkg(OfTheRelease):
         self.assertEqual(self.dpkg("--verify", "shardscrub"), "")
 
     def test_row(self):
-        need("jq")
+        need(*ROW_TOOLS)
         path = f"{self.root}/usr/bin:{os.environ['PATH']}"
         for command, first in (("scan", r'"broken":\[\]'), ("summary", '"verdict":"sound"')):
             row = done(self.root / "usr/share/shardscrub/view/row", command, "a disk\texamples/one-shard.img\t64\t4\t3\t-\t-",
@@ -492,6 +492,7 @@ class Dpkg(OfTheRelease):
             self.assertRegex(row, rf'\A\{{"disk":"a disk","status":0,"text":"",{first},.*\}}\n\Z')
 
     def test_metrics(self):
+        need(*METRICS_TOOLS)
         summary = done(self.root / "usr/bin/shardscrub", "summary", "examples/one-shard.img")
         metrics = done(self.root / "usr/share/shardscrub/view/metrics", "sda", input=summary)
         self.assertIn('\nshardscrub_verdict{disk="sda"} 0\n', metrics)

@@ -8,7 +8,7 @@ from collections import Counter
 from lib.cases import RoomCase
 from lib.disks import geometry
 from lib.examples import check_line, examples, listed, made_up, summary_of
-from lib.program import TOP, need
+from lib.program import METRICS_TOOLS, ROW_TOOLS, TOP, need
 
 METRICS, ROW = TOP / "view/metrics", TOP / "view/row"
 VERDICTS = {"sound": "0", "doubt": "1", "wrong": "2"}
@@ -33,6 +33,7 @@ class Metrics(RoomCase):
 
     @classmethod
     def setUpClass(cls):
+        need(*METRICS_TOOLS)
         super().setUpClass()
         cls.summaries = [one for one in map(summary_of, [*examples(), *made_up(cls.room)]) if one is not None]
 
@@ -114,11 +115,11 @@ class Metrics(RoomCase):
 
 
 class RowCase(RoomCase):
-    """Tests that need jq, which view/row uses. The made-up disks stay the same for all tests of a class."""
+    """Tests of view/row. The made-up disks stay the same for all tests of a class."""
 
     @classmethod
     def setUpClass(cls):
-        need("jq")
+        need(*ROW_TOOLS)
         super().setUpClass()
         cls.made_up, cls.known = list(made_up(cls.room)), {}
 
@@ -270,6 +271,5 @@ class Rows(RowCase):
 
     def test_a_row_waits_for_its_turn(self):
         """While another row is being printed."""
-        need("flock")
         done = subprocess.run(["flock", ROW, "timeout", "1", ROW, "scan", "a disk"], capture_output=True, stdin=subprocess.DEVNULL)
         self.same("status and output", (done.returncode, done.stdout), (124, b""))

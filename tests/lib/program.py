@@ -28,7 +28,7 @@ NO_PROGRAM = 70
 PACKAGES = {
     "awk": "mawk", "bash": "bash", "cc": "gcc", "chromedriver": "chromium-driver", "chromium": "chromium", "cmp": "diffutils", "ddrescue": "gddrescue",
     "diff": "diffutils", "dpkg": "dpkg", "dpkg-deb": "dpkg", "dpkg-parsechangelog": "dpkg-dev", "fish": "fish", "flock": "util-linux",
-    "git": "git", "groff": "groff-base", "jq": "jq", "ldd": "libc-bin", "lintian": "lintian", "losetup": "mount", "make": "make",
+    "git": "git", "groff": "groff-base", "gzip": "gzip", "jq": "jq", "ldd": "libc-bin", "lintian": "lintian", "losetup": "mount", "make": "make",
     "man": "man-db", "mandoc": "mandoc", "node": "nodejs", "objdump": "binutils", "od": "coreutils", "parallel": "parallel",
     "promtool": "prometheus", "python3": "python3", "strace": "strace", "systemd-analyze": "systemd", "tar": "tar", "xargs": "findutils",
     "zsh": "zsh",
@@ -83,11 +83,16 @@ def absent(tool):
     return f"{tool} isn't there: install {PACKAGES[tool]}"
 
 
-def need(tool):
-    """Skips the test that calls this if there is no such command."""
-    why = absent(tool)
-    if shutil.which(tool) is None:
-        raise unittest.SkipTest(why)
+def need(*tools):
+    """Skips the test that calls this if there isn't each of these commands."""
+    for tool in tools:
+        why = absent(tool)
+        if shutil.which(tool) is None:
+            raise unittest.SkipTest(why)
+
+
+# What view/row, view/metrics and release/package call, beside what each machine has.
+ROW_TOOLS, METRICS_TOOLS, PACKAGE_TOOLS = ("jq", "flock", "awk"), ("awk",), ("dpkg-deb", "awk", "xargs", "gzip")
 
 
 # For tests of ./shardscrub
