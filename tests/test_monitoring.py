@@ -12,7 +12,7 @@ from pathlib import Path
 
 from lib.cases import Case, RoomCase
 from lib.disks import Disk, run, shard, uuid
-from lib.program import TOP, absent, need
+from lib.program import METRICS_TOOLS, TOP, absent, need
 from reference.shardscrub import Image, summary
 
 try:
@@ -39,6 +39,11 @@ def done(*words, **more):
     """The status and both outputs of a run."""
     ended = subprocess.run([str(word) for word in words], capture_output=True, encoding="utf-8", stdin=subprocess.DEVNULL, **more)
     return ended.returncode, ended.stdout, ended.stderr
+
+
+def setUpModule():
+    """Each night view/metrics runs."""
+    need(*METRICS_TOOLS)
 
 
 def settings(unit):
