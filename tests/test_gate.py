@@ -286,7 +286,7 @@ class Elsewhere(TreeCase):
         for path in TOP.glob("*.md"):
             shutil.copy(path, top)
         shutil.copy(program(), top / "the program")
-        names = ["views.Rows.test_digits_are_kept", "views.Metrics.test_the_program", "examples.Examples.test_line_0016", "questions"]
+        names = ["views.Rows.test_digits_are_kept", "views.Metrics.test_the_program", "examples.Examples.test_line_00", "questions"]
         begun = self.begin(sys.executable, top / "tests/run", "--program", top / "the program", *names)
         out, error = begun.communicate(timeout=SECONDS)
         self.assertEqual((begun.returncode, error), (0, ""), out)
@@ -300,8 +300,8 @@ class Packages(Case):
         known = {}
         for tool, package in PACKAGES.items():
             done = subprocess.run(["dpkg-query", "--listfiles", package], capture_output=True, text=True)
-            # cc is a link of this machine, and python3 is in a package that python3 depends on.
-            if done.returncode == 0 and not tool.startswith("Python's ") and tool not in ("cc", "python3"):
+            # awk and cc are links of this machine, and python3 is in a package that python3 depends on.
+            if done.returncode == 0 and not tool.startswith("Python's ") and tool not in ("awk", "cc", "python3"):
                 known[tool] = [path for path in done.stdout.splitlines() if re.fullmatch(rf"(/usr)?/s?bin/{re.escape(tool)}", path)]
         self.true("some of these packages are installed", known)
         self.same("tools that aren't in their package", [tool for tool, paths in known.items() if paths == []], [])

@@ -221,6 +221,7 @@ class Install(OfTheRelease):
 
     def test_the_reference(self):
         """It runs where it lies, and prints what the program prints."""
+        need("python3")
         done("release/install", self.folder / "a prefix")
         prefix, folder = self.folder / "a prefix", self.folder / "folder"
         folder.mkdir()
