@@ -15,7 +15,7 @@ from unittest import mock
 
 from lib import watched
 from lib.cases import Case
-from lib.program import PACKAGES, TOP, need, program, write
+from lib.program import PACKAGES, TOP, need, path_without, program, write
 
 SECONDS = 300
 # An rt whose prover works on a crate until the file `go` is there.
@@ -58,11 +58,10 @@ class TreeCase(unittest.TestCase):
 
     def begin(self, *words, path="", **more):
         """Starts a command in the tree, in a group of its own."""
-        others = [place for place in os.get_exec_path() if not os.access(os.path.join(place, "rt"), os.X_OK)]
         # python3 is the one that runs the tests. What is on the path may be slow to start.
         write(self.top / "tools/python3", f"#!/bin/sh\nexec '{sys.executable}' \"$@\"\n", 0o755)
         environment = {name: text for name, text in os.environ.items() if name not in ("RT_JOBS", "PYTHONUNBUFFERED")}
-        environment["PATH"] = os.pathsep.join([*[path] * (path != ""), str(self.top / "tools"), *others])
+        environment["PATH"] = os.pathsep.join([*[path] * (path != ""), str(self.top / "tools"), path_without("rt", self.top.parent)])
         begun = subprocess.Popen(words, cwd=self.top, env=environment, stdin=subprocess.DEVNULL, stdout=subprocess.PIPE,
                                  stderr=subprocess.PIPE, text=True, start_new_session=True, **more)
         self.addCleanup(begun.__exit__, None, None, None)
@@ -80,6 +79,7 @@ class Check(TreeCase):
     """`check` passes on what rt and tests/run print, says what it is at, and adds their counts."""
 
     def setUp(self):
+        need("awk")
         super().setUp()
         script = (TOP / "check").read_text(encoding="utf-8")
         self.assertEqual(script.count("\nevery=60\n"), 1)
