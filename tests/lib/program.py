@@ -32,7 +32,7 @@ PACKAGES = {
     "ldd": "libc-bin", "lintian": "lintian", "losetup": "mount", "make": "make", "man": "man-db", "mandoc": "mandoc", "node": "nodejs",
     "objdump": "binutils", "od": "coreutils", "parallel": "parallel", "promtool": "prometheus", "python3": "python3",
     "strace": "strace", "systemd-analyze": "systemd", "tar": "tar", "xargs": "findutils", "zsh": "zsh",
-    "Python's jsonschema": "python3-jsonschema", "Python's selenium": "python3-selenium", "Python's yaml": "python3-yaml",
+    "choom": "util-linux", "Python's jsonschema": "python3-jsonschema", "Python's selenium": "python3-selenium", "Python's yaml": "python3-yaml",
 }
 # Some tools are in folders that only a superuser's path has.
 os.environ["PATH"] = os.pathsep.join(dict.fromkeys([*os.get_exec_path(), "/usr/local/sbin", "/usr/sbin", "/sbin"]))
