@@ -8,7 +8,7 @@ import subprocess
 import sys
 
 from lib.cases import Case, RoomCase
-from lib.program import TOP
+from lib.program import TOP, need
 
 PAGES = [*(TOP / name for name in ("README.md", "CONTRIBUTING.md", "CHANGELOG.md", "examples/README.md")), *sorted(TOP.glob("docs/*.md"))]
 # Texts in a page that aren't prose: blocks, and code between backquotes.
@@ -63,6 +63,7 @@ class Shell(RoomCase):
     """`ask` and `look` of docs/RECLAIMING.md, as a file that a shell reads. In no language but C `cmp` says `char`."""
 
     def test_ask_and_look(self):
+        need("cmp")
         text = re.search(r"^```sh\n(.*?)^```$", (TOP / "docs/RECLAIMING.md").read_text(encoding="utf-8"), re.M | re.S)[1]
         for name, value in {"page": "64 pages=16 extents=5", "map": '""', "lost": '"3:1"'}.items():
             text = re.sub(rf"^{name}=.*? {{2,}}#", f"{name}={value}  #", text, flags=re.M)

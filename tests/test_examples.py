@@ -9,7 +9,7 @@ import unittest
 
 from lib.cases import Case
 from lib.examples import PAGES, ExampleCase, Transcript, check_line, examples_of, is_row, scans_of, starting
-from lib.program import TOP, need, program
+from lib.program import BUILD_TOOLS, TOP, need, path_without, program
 
 
 class ReportCase(Case):
@@ -35,24 +35,10 @@ class ReportCase(Case):
                 check_line(self, f"scan {words}", done.stdout.rstrip("\n"))
 
 
-def path_without(tool, folder):
-    """A path on which this tool isn't. In place of a folder that has it, there is one with links to all else in it."""
-    places = []
-    for number, place in enumerate(os.get_exec_path()):
-        if os.access(os.path.join(place, tool), os.X_OK):
-            links = os.path.join(folder, f"path-{number}")
-            os.mkdir(links)
-            for name in set(os.listdir(place)) - {tool}:
-                os.symlink(os.path.abspath(os.path.join(place, name)), os.path.join(links, name))
-            place = links
-        places.append(place)
-    return os.pathsep.join(places)
-
-
 class Clone(Case):
     def test_a_clone_answers_at_once(self):
         """The first example of the README.md, in a clone of the last commit, without the toolchain."""
-        need("git")
+        need("git", *BUILD_TOOLS)
         if subprocess.run(["git", "rev-parse", "--git-dir"], cwd=TOP, capture_output=True).returncode != 0:
             self.skipTest("this folder is no clone of git")
         example = examples_of("Readme")[0]

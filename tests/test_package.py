@@ -24,6 +24,8 @@ from lib.program import (
 # Each installed file: its mode, and what it is a copy of.
 INSTALLED = {
     "bin/shardscrub": (0o755, "shardscrub"),
+    "lib/systemd/system/shardscrub@.service": (0o644, "view/monitoring/shardscrub@.service"),
+    "lib/systemd/system/shardscrub@.timer": (0o644, "view/monitoring/shardscrub@.timer"),
     "lib/shardscrub/shardscrub": (0o755, "release/shardscrub"),
     "lib/shardscrub/shardscrub-x86-64-v3": (0o755, "release/shardscrub-x86-64-v3"),
     "share/bash-completion/completions/shardscrub": (0o644, "release/completions/shardscrub.bash"),
@@ -42,8 +44,6 @@ INSTALLED = {
     "share/shardscrub/view/monitoring/cron": (0o644, "view/monitoring/cron"),
     "share/shardscrub/view/monitoring/nightly": (0o755, "view/monitoring/nightly"),
     "share/shardscrub/view/monitoring/shardscrub.rules.yml": (0o644, "view/monitoring/shardscrub.rules.yml"),
-    "share/shardscrub/view/monitoring/shardscrub@.service": (0o644, "view/monitoring/shardscrub@.service"),
-    "share/shardscrub/view/monitoring/shardscrub@.timer": (0o644, "view/monitoring/shardscrub@.timer"),
     "share/shardscrub/view/questions.jq": (0o644, "view/questions.jq"),
     "share/shardscrub/view/report.html": (0o644, "view/report.html"),
     "share/shardscrub/view/row": (0o755, "view/row"),
@@ -106,15 +106,19 @@ def unpacked(name, data):
 def without_places(name, data, place=None):
     """The content of a file; of a document without its links, and without what says where things are. If `place` is None, it is a
     document of the sources, and else one that is installed below that folder."""
+    if name.endswith(("/cron", "@.service")):
+        return data.decode() if place is None else data.decode().replace("\\ ", " ").replace("%%20", " ").replace(place, "/usr/share")
     if not re.search(r"\.md$|\.1(\.gz)?$|\.tsv$", name):
         return data
     text = data.decode().replace("\\e", "\\").replace("\\-", "-")
     if place is None:
         text = "\n".join(without_sources(text.split("\n"))).replace("/usr/share/shardscrub/", "")
+        text = text.replace("/usr/lib/systemd/system", "systemd/system")
         text = text.replace("./shardscrub", "shardscrub").replace("the repository's root directory", "any folder")
         text = text.replace("man -l docs/shardscrub.1", "man shardscrub")
         text = re.sub(r"^An installation has\n.*?(?=^\.TP$)", "", text, flags=re.M | re.S)
     else:
+        text = text.replace(f"{place.removesuffix('/share')}/lib/systemd/system", "systemd/system")
         text = text.replace(place.replace(" ", "\\ "), place).replace(f"{place}/doc/shardscrub/", "").replace(f"{place}/shardscrub/", "")
     text = LINK.sub(r"\1", text) if name.endswith(".md") else text
     return [line for line in text.splitlines() if line]
@@ -221,6 +225,7 @@ class Install(OfTheRelease):
 
     def test_the_reference(self):
         """It runs where it lies, and prints what the program prints."""
+        need("python3")
         done("release/install", self.folder / "a prefix")
         prefix, folder = self.folder / "a prefix", self.folder / "folder"
         folder.mkdir()
@@ -266,6 +271,25 @@ class Install(OfTheRelease):
         self.installed(self.folder / "a prefix", INSTALLED)
         done(TOP / "release/install", "opt", cwd=self.folder, more={"DESTDIR": str(self.folder / "stage")})
         self.installed(self.folder / "stage/opt", INSTALLED, "/opt")
+
+    def test_units(self):
+        """They are where systemd looks below /usr and /usr/local. Below any folder they name what is installed, which needs no path."""
+        need("flock", *METRICS_TOOLS)
+        for prefix in (self.folder / "prefix", self.folder / "a $prefix with 100%"):
+            done("release/install", prefix)
+            service, timer = (prefix / f"lib/systemd/system/shardscrub@.{kind}" for kind in ("service", "timer"))
+            text = service.read_text(encoding="utf-8")
+            nightly = re.search(r'^ExecStart="(.+?)" ', text, re.M)[1].replace("%%", "%")
+            self.assertEqual(nightly, f"{prefix}/share/shardscrub/view/monitoring/nightly")
+            collected = self.folder / "collected"
+            collected.mkdir(exist_ok=True)
+            done(nightly, "sda", collected, TOP / "examples/one-shard.img", more={"PATH": "/usr/bin:/bin"})
+            self.assertIn('\nshardscrub_verdict{disk="sda"} 0\n', (collected / "shardscrub-sda.prom").read_text(encoding="utf-8"))
+            shutil.rmtree(collected)
+            if shutil.which("systemd-analyze"):
+                names = [str(path).replace("@", "@sda") for path in (service, timer)]
+                said = run("systemd-analyze", "verify", "--man=no", *names)
+                self.assertEqual([line for line in said.stderr.splitlines() if "shardscrub" in line], [])
 
     def test_over_itself(self):
         for _ in range(2):
@@ -410,7 +434,7 @@ class Package(OfTheRelease):
 
     def test_checksums(self):
         done("dpkg-deb", "--control", self.package, self.folder)
-        self.assertEqual(tree(self.folder), {"control": 0o644, "md5sums": 0o644})
+        self.assertEqual(tree(self.folder), {"control": 0o644, "md5sums": 0o644, "postinst": 0o755, "prerm": 0o755})
         lines = sorted(f"{hashlib.md5(data).hexdigest()}  {member.name.removeprefix('./')}"
                        for member, data in self.members(self.package) if data is not None)
         self.assertEqual(sorted((self.folder / "md5sums").read_text().splitlines()), lines)
@@ -471,8 +495,9 @@ class Dpkg(OfTheRelease):
         self.dpkg("--force-depends", "--install", self.package)
 
     def dpkg(self, *words):
-        # Some machines are set up to leave out man pages and documents.
-        return done("dpkg", f"--root={self.root}", f"--log={self.folder}/log", "--force-not-root", "--path-include=*", *words)
+        # Some machines are set up to leave out man pages and documents. The scripts run on this machine, for that root.
+        return done("dpkg", f"--root={self.root}", f"--log={self.folder}/log", "--force-not-root", "--force-script-chrootless",
+                    "--path-include=*", *words)
 
     def state(self):
         return run("dpkg-query", f"--admindir={self.root}/var/lib/dpkg", "-W", "-f", "${db:Status-Abbrev}", "shardscrub")
@@ -492,13 +517,28 @@ class Dpkg(OfTheRelease):
             self.assertRegex(row, rf'\A\{{"disk":"a disk","status":0,"text":"",{first},.*\}}\n\Z')
 
     def test_metrics(self):
-        need(*METRICS_TOOLS)
+        need("flock", *METRICS_TOOLS)
         summary = done(self.root / "usr/bin/shardscrub", "summary", "examples/one-shard.img")
         metrics = done(self.root / "usr/share/shardscrub/view/metrics", "sda", input=summary)
         self.assertIn('\nshardscrub_verdict{disk="sda"} 0\n', metrics)
-        done(self.root / "usr/share/shardscrub/view/monitoring/nightly", "sda", self.folder, "examples/one-shard.img",
-             more={"PATH": f"{self.root}/usr/bin:{os.environ['PATH']}"})
-        self.assertEqual((self.folder / "shardscrub-sda.prom").read_text(), metrics)
+        done(self.root / "usr/share/shardscrub/view/monitoring/nightly", "sda", self.folder, "examples/one-shard.img")
+        scan, numbers = (self.folder / "shardscrub-sda.prom").read_text().split("# HELP shardscrub_verdict")
+        self.assertIn('\nshardscrub_answered{disk="sda"} 1\n', scan)
+        self.assertEqual("# HELP shardscrub_verdict" + numbers, metrics)
+
+    def test_timers(self):
+        """Those of the package are disabled before it is removed, and no others. An upgrade leaves all."""
+        units = self.root / "etc/systemd/system"
+        wants, others = units / "timers.target.wants", units / "other.target.wants"
+        own = [wants / "shardscrub@sdb.timer", wants / r"shardscrub@disk-by\x2did-a b.timer", others / "shardscrub@sdc.timer"]
+        other = [wants / "shardscrubs@sdb.timer", wants / "other.timer", wants / "shardscrub@sdb.service", units / "shardscrub@.timer"]
+        for link in own + other:
+            link.parent.mkdir(parents=True, exist_ok=True)
+            link.symlink_to("/usr/lib/systemd/system/shardscrub@.timer")
+        self.dpkg("--force-depends", "--install", self.package)
+        self.assertEqual([link for link in own + other if not link.is_symlink()], [])
+        self.dpkg("--remove", "shardscrub")
+        self.assertEqual([link for link in own + other if link.is_symlink()], other)
 
     def test_removed(self):
         for way in ("--remove", "--purge"):

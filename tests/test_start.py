@@ -12,7 +12,7 @@ import unittest
 from pathlib import Path
 
 from lib.cases import RoomCase
-from lib.program import (FASTER, GENERAL, TOP, TUNABLES, V2_FLAGS, V3_FLAGS, find, has_v3, need, processors, with_processor,
+from lib.program import (BUILD_TOOLS, FASTER, GENERAL, TOP, TUNABLES, V2_FLAGS, V3_FLAGS, find, has_v3, need, processors, with_processor,
                          write)
 from lib.system import Library, run_with
 
@@ -45,6 +45,7 @@ class StartCase(unittest.TestCase):
     """A small tree with the scripts."""
 
     def setUp(self):
+        need(*BUILD_TOOLS)
         folder = tempfile.TemporaryDirectory()
         self.addCleanup(folder.cleanup)
         self.folder = Path(folder.name).resolve()
