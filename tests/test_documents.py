@@ -36,8 +36,12 @@ class Tools(Case):
         self.check("comments.py")
 
     def test_manual(self):
-        """docs/shardscrub.1 has the texts of the help."""
+        """docs/shardscrub.1 has the texts of the help, and the messages."""
         self.check("manual.py")
+
+    def test_messages(self):
+        """docs/READING.md has the tables of messages."""
+        self.check("messages.py")
 
     def test_images(self):
         """The images and maps of examples/."""
