@@ -206,13 +206,14 @@ def sentences(text):
 
 
 def message_text(group, message):
-    """A message with its status, what it means, an example, and where to read on."""
+    """A message with its status, what it means, an example, none of whose words is cut or moved apart, and where to read on."""
     page, heading = message.read
     text = "".join(f"\\f{'I' if varies else 'B'}{roff(part)}\\fP" for part, varies in parts_of(message.text)) if group.before else \
         sentences(message.text)
+    words = " ".join(f"\\%{word}" for word in roff(f"shardscrub {message.example}").split(" "))
     place = page.removeprefix("../") if page.startswith("../") else f"docs/{page}"
     return [".TP", text, f"Status {status_of(group, message)}.", sentences(f"{message.wrong} {message.to_do}"), "For example:",
-            ".br", ".B " + " ".join(f"\\%{roff(word)}" for word in f"shardscrub {message.example}".split(" ")), ".br", f"See {roff(place)}{roff(', ' * (heading != '') + heading)}."]
+            ".br", ".na", f".B {words}", ".br", ".ad", f"See {roff(place)}{roff(', ' * (heading != '') + heading)}."]
 
 
 def messages_text():
