@@ -10,6 +10,7 @@ import re
 import shutil
 import stat
 import subprocess
+import sys
 import tarfile
 import tempfile
 import time
@@ -20,6 +21,9 @@ from pathlib import Path
 from lib.examples import PAGES, ExampleCase, Installed, examples_of, without_sources
 from lib.program import (
     FASTER, GENERAL, METRICS_TOOLS, PACKAGE_TOOLS, ROW_TOOLS, TOP, TUNABLES, V2_FLAGS, V3_FLAGS, has_v3, need, processors, with_processor, write)
+
+sys.path.insert(0, str(TOP / "tools"))
+from messages import GROUPS  # noqa: E402
 
 # Each installed file: its mode, and what it is a copy of.
 INSTALLED = {
@@ -222,6 +226,19 @@ class Install(OfTheRelease):
             found = {word for word in re.findall(r"(?<![\w./-])(\w+)/\w", code) if word in known}
             self.assertEqual(found, said.get(f"{path.parent.name}/{path.name}", set()), path.name)
             self.assertNotRegex(text, r"<!--|(?<![\w./-])docs/\w+\.md, box|repository")
+
+    def test_the_examples_of_messages(self):
+        """Those of the tables in READING, and of the man page, run in any folder, with the statuses of tools/messages.py."""
+        done("release/install", self.folder / "a prefix")
+        prefix, wanted = self.folder / "a prefix", [message.ends for group in GROUPS for message in group.messages]
+        page = (prefix / "share/doc/shardscrub/docs/READING.md").read_text(encoding="utf-8").partition("\n## What a message means\n")[2]
+        manual = (prefix / "share/man/man1/shardscrub.1").read_text(encoding="utf-8").partition(".SH DIAGNOSTICS")[2]
+        for words in (re.findall(r"^\| .* \| `([^`]*)` \| \[[^|]*\|$", page, re.M),
+                      [line.replace("\\%", "").replace("\\-", "-").replace("\\e", "\\")
+                       for line in re.findall(r"^\.B \\%shardscrub (.*)$", manual, re.M)]):
+            ended = [run("sh", "-c", f"shardscrub {line}", cwd=self.folder, more={"PATH": f"{prefix}/bin:{os.environ['PATH']}"})
+                     for line in words]
+            self.assertEqual([one.returncode for one in ended], wanted, [one.stderr for one in ended])
 
     def test_the_reference(self):
         """It runs where it lies, and prints what the program prints."""
