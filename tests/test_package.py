@@ -43,6 +43,7 @@ INSTALLED = {
     **{f"share/doc/shardscrub/examples/{path.name}": (0o644, f"examples/{path.name}") for path in (TOP / "examples").iterdir()},
     "share/fish/vendor_completions.d/shardscrub.fish": (0o644, "release/completions/shardscrub.fish"),
     "share/man/man1/shardscrub.1": (0o644, "docs/shardscrub.1"),
+    "share/shardscrub/act/order": (0o755, "act/order"),
     "share/shardscrub/reference/shardscrub.py": (0o755, "reference/shardscrub.py"),
     "share/shardscrub/view/metrics": (0o755, "view/metrics"),
     "share/shardscrub/view/monitoring/cron": (0o644, "view/monitoring/cron"),
@@ -217,7 +218,7 @@ class Install(OfTheRelease):
     def test_no_page_names_what_only_the_sources_have(self):
         """In commands, texts for a shell and code in a line, apart from what is said to be of the sources."""
         done("release/install", self.folder / "prefix")
-        known = {path.name for path in TOP.iterdir() if path.is_dir()} - {"view", "docs", "examples", "reference"}
+        known = {path.name for path in TOP.iterdir() if path.is_dir()} - {"act", "view", "docs", "examples", "reference"}
         said = {"docs/RECLAIMING.md": {"tests", "fuzz"}, "shardscrub/README.md": {"crates"}}
         for path in [*sorted((self.folder / "prefix").rglob("*.md")), self.folder / "prefix/share/man/man1/shardscrub.1"]:
             text = path.read_text(encoding="utf-8")
