@@ -8,7 +8,7 @@ import subprocess
 import sys
 
 from lib.cases import Case, RoomCase
-from lib.program import TOP
+from lib.program import TOP, need
 
 PAGES = [*(TOP / name for name in ("README.md", "CONTRIBUTING.md", "CHANGELOG.md", "examples/README.md")), *sorted(TOP.glob("docs/*.md"))]
 # Texts in a page that aren't prose: blocks, and code between backquotes.
@@ -27,7 +27,8 @@ class Tools(Case):
         self.true(tool, done.returncode == 0, done.stdout + done.stderr)
 
     def test_book(self):
-        """docs/THEOREM.md has the theorem, and docs/LAWS.md the laws, with the definitions that they rest on."""
+        """docs/THEOREM.md has the theorem, and docs/LAWS.md the laws, with the definitions that they rest on. Each chapter and the
+        functions of reference/shardscrub.py that compute the same name each other."""
         self.check("book.py")
 
     def test_comments(self):
@@ -35,8 +36,12 @@ class Tools(Case):
         self.check("comments.py")
 
     def test_manual(self):
-        """docs/shardscrub.1 has the texts of the help."""
+        """docs/shardscrub.1 has the texts of the help, and the messages."""
         self.check("manual.py")
+
+    def test_messages(self):
+        """docs/READING.md has the tables of messages."""
+        self.check("messages.py")
 
     def test_images(self):
         """The images and maps of examples/."""
@@ -61,22 +66,45 @@ class Links(Case):
 class Shell(RoomCase):
     """`ask` and `look` of docs/RECLAIMING.md, as a file that a shell reads. In no language but C `cmp` says `char`."""
 
-    def test_ask_and_look(self):
-        text = re.search(r"^```sh\n(.*?)^```$", (TOP / "docs/RECLAIMING.md").read_text(encoding="utf-8"), re.M | re.S)[1]
-        for name, value in {"page": "64 pages=16 extents=5", "map": '""', "lost": '"3:1"'}.items():
-            text = re.sub(rf"^{name}=.*? {{2,}}#", f"{name}={value}  #", text, flags=re.M)
-        (self.room / "ask.sh").write_text(text)
-        (self.room / "shardscrub").write_text(f'#!/bin/sh\nexec {shlex.quote(self.program)} "$@"\n')
-        (self.room / "shardscrub").chmod(0o755)
-        shutil.copyfile(TOP / "examples/several-findings.img", self.room / "1.img")
+    # The settings of `ask.sh` that make page 1 of extent 3 unreadable, as a page and by a map whose path has a blank.
+    BY_PAGE = {"map": '""', "lost": '"3:1"'}
+    BY_MAP = {"map": '"a rescue/the map"', "lost": '""'}
+
+    @classmethod
+    def setUpClass(cls):
+        super().setUpClass()
+        (cls.room / "shardscrub").write_text(f'#!/bin/sh\nexec {shlex.quote(cls.program)} "$@"\n')
+        (cls.room / "shardscrub").chmod(0o755)
+        (cls.room / "a rescue").mkdir()
+        (cls.room / "a rescue/the map").write_text("0 +\n0 3136 +\n3136 64 -\n3200 1920 +\n")
+        for name in "1.img", "a rescue/1.img":
+            shutil.copyfile(TOP / "examples/several-findings.img", cls.room / name)
         words = ["manifest", "--page", "64", "--pages", "16", "--extents", "5", "1.img", "3:1"]
-        right = subprocess.run([self.program, *words], cwd=self.room, capture_output=True, text=True, stdin=subprocess.DEVNULL)
-        for shell in "sh", "bash":
-            if shutil.which(shell):
-                self.same(f"{shell}: ask", self.printed(shell, "ask manifest 1.img"), (right.stdout, f"status {right.returncode}\n"))
-                self.same(f"{shell}: look at zeros", self.printed(shell, "look 1.img 4 678 268"), ("", ""))
-                out, error = self.printed(shell, "look 1.img 1 124 53")
-                self.true(f"{shell}: look at a chunk", "differ: char 1," in out and not error, (out, error))
+        cls.right = subprocess.run([cls.program, *words], cwd=cls.room, capture_output=True, text=True, stdin=subprocess.DEVNULL)
+
+    def test_ask(self):
+        for settings in self.BY_PAGE, self.BY_MAP:
+            self.write(settings)
+            for shell in filter(shutil.which, ("sh", "bash")):
+                for image in "1.img", "'a rescue/1.img'":
+                    self.same(f"{shell}: {settings}: ask manifest {image}", self.printed(shell, f"ask manifest {image}"),
+                              (self.right.stdout, f"status {self.right.returncode}\n"))
+
+    def test_look(self):
+        need("cmp")
+        self.write(self.BY_PAGE)
+        for shell in filter(shutil.which, ("sh", "bash")):
+            self.same(f"{shell}: look at zeros", self.printed(shell, "look 1.img 4 678 268"), ("", ""))
+            out, error = self.printed(shell, "look 1.img 1 124 53")
+            self.true(f"{shell}: look at a chunk", "differ: char 1," in out and not error, (out, error))
+
+    def write(self, settings):
+        """Makes `ask.sh` from the page, with these settings."""
+        text = re.search(r"^```sh\n(.*?)^```$", (TOP / "docs/RECLAIMING.md").read_text(encoding="utf-8"), re.M | re.S)[1]
+        for name, value in {"page": "64 pages=16 extents=5", **settings}.items():
+            text, count = re.subn(rf"^{name}=.*? {{2,}}#", f"{name}={value}  #", text, flags=re.M)
+            self.same(f"lines of {name}", count, 1)
+        (self.room / "ask.sh").write_text(text)
 
     def printed(self, shell, command):
         environment = os.environ | {"PATH": f"{self.room}:{os.environ['PATH']}", "LC_ALL": "C.UTF-8"}

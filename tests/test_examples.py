@@ -1,7 +1,6 @@
 """Runs the examples of five pages, as lib/examples.py finds them, and compares their output with the pages.
 
-An example needs ddrescue, parallel or python3 if it has that word, and jq if it has the word jq, row or rows; and what the
-example needs that wrote a file which it names.
+An example needs the tools whose words it has, and what the examples need that wrote a file which it names.
 """
 import os
 import subprocess
@@ -9,25 +8,8 @@ import tempfile
 import unittest
 
 from lib.cases import Case
-from lib.examples import PAGES, Transcript, check_line, examples_of, is_row, scans_of, starting
-from lib.program import TOP, need, program
-
-
-class ExampleCase(Case):
-    """An example of a page, named by its line."""
-
-    def __init__(self, transcript, number):
-        super().__init__("check")
-        self.transcript, self.number, self.example = transcript, number, transcript.examples[number]
-
-    def id(self):
-        return f"test_examples.{self.example.page}.test_line_{self.example.line:04}"
-
-    def check(self):
-        for tool in sorted(self.transcript.tools(self.number)):
-            need(tool)
-        found = self.transcript.up_to(self.number)
-        self.same(f"$ {self.example.command}\n", found, self.example.wanted)
+from lib.examples import PAGES, ExampleCase, Transcript, check_line, examples_of, is_row, scans_of, starting
+from lib.program import BUILD_TOOLS, TOP, need, path_without, program
 
 
 class ReportCase(Case):
@@ -56,13 +38,12 @@ class ReportCase(Case):
 class Clone(Case):
     def test_a_clone_answers_at_once(self):
         """The first example of the README.md, in a clone of the last commit, without the toolchain."""
-        need("git")
+        need("git", *BUILD_TOOLS)
         if subprocess.run(["git", "rev-parse", "--git-dir"], cwd=TOP, capture_output=True).returncode != 0:
             self.skipTest("this folder is no clone of git")
         example = examples_of("Readme")[0]
-        path = os.pathsep.join(place for place in os.get_exec_path() if not os.access(os.path.join(place, "rt"), os.X_OK))
         with tempfile.TemporaryDirectory(prefix="shardscrub-clone-") as folder:
-            clone = os.path.join(folder, "clone")
+            clone, path = os.path.join(folder, "clone"), path_without("rt", folder)
             subprocess.run(["git", "clone", "-q", TOP, clone], check=True)
             done = subprocess.run(["sh", "-c", example.command], cwd=clone, env={**os.environ, "PATH": path}, timeout=300,
                                   stdin=subprocess.DEVNULL, stdout=subprocess.PIPE, stderr=subprocess.STDOUT, encoding="utf-8")

@@ -15,7 +15,7 @@ from unittest import mock
 
 from lib import watched
 from lib.cases import Case
-from lib.program import PACKAGES, TOP, need, program, write
+from lib.program import PACKAGES, TOP, need, path_without, program, write
 
 SECONDS = 300
 # An rt whose prover works on a crate until the file `go` is there.
@@ -58,11 +58,10 @@ class TreeCase(unittest.TestCase):
 
     def begin(self, *words, path="", **more):
         """Starts a command in the tree, in a group of its own."""
-        others = [place for place in os.get_exec_path() if not os.access(os.path.join(place, "rt"), os.X_OK)]
         # python3 is the one that runs the tests. What is on the path may be slow to start.
         write(self.top / "tools/python3", f"#!/bin/sh\nexec '{sys.executable}' \"$@\"\n", 0o755)
         environment = {name: text for name, text in os.environ.items() if name not in ("RT_JOBS", "PYTHONUNBUFFERED")}
-        environment["PATH"] = os.pathsep.join([*[path] * (path != ""), str(self.top / "tools"), *others])
+        environment["PATH"] = os.pathsep.join([*[path] * (path != ""), str(self.top / "tools"), path_without("rt", self.top.parent)])
         begun = subprocess.Popen(words, cwd=self.top, env=environment, stdin=subprocess.DEVNULL, stdout=subprocess.PIPE,
                                  stderr=subprocess.PIPE, text=True, start_new_session=True, **more)
         self.addCleanup(begun.__exit__, None, None, None)
@@ -80,6 +79,7 @@ class Check(TreeCase):
     """`check` passes on what rt and tests/run print, says what it is at, and adds their counts."""
 
     def setUp(self):
+        need("awk")
         super().setUp()
         script = (TOP / "check").read_text(encoding="utf-8")
         self.assertEqual(script.count("\nevery=60\n"), 1)
@@ -286,7 +286,7 @@ class Elsewhere(TreeCase):
         for path in TOP.glob("*.md"):
             shutil.copy(path, top)
         shutil.copy(program(), top / "the program")
-        names = ["views.Rows.test_digits_are_kept", "views.Metrics.test_the_program", "examples.Examples.test_line_0016", "questions"]
+        names = ["views.Rows.test_digits_are_kept", "views.Metrics.test_the_program", "examples.Examples.test_line_00", "questions"]
         begun = self.begin(sys.executable, top / "tests/run", "--program", top / "the program", *names)
         out, error = begun.communicate(timeout=SECONDS)
         self.assertEqual((begun.returncode, error), (0, ""), out)
@@ -300,8 +300,8 @@ class Packages(Case):
         known = {}
         for tool, package in PACKAGES.items():
             done = subprocess.run(["dpkg-query", "--listfiles", package], capture_output=True, text=True)
-            # cc is a link of this machine, and python3 is in a package that python3 depends on.
-            if done.returncode == 0 and not tool.startswith("Python's ") and tool not in ("cc", "python3"):
+            # awk and cc are links of this machine, and python3 is in a package that python3 depends on.
+            if done.returncode == 0 and not tool.startswith("Python's ") and tool not in ("awk", "cc", "python3"):
                 known[tool] = [path for path in done.stdout.splitlines() if re.fullmatch(rf"(/usr)?/s?bin/{re.escape(tool)}", path)]
         self.true("some of these packages are installed", known)
         self.same("tools that aren't in their package", [tool for tool, paths in known.items() if paths == []], [])

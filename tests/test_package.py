@@ -1,5 +1,6 @@
 """How the released programs are installed: by release/install, by release/Makefile, and by dpkg from the package that
-release/package makes. Nobody has to be superuser, and nothing outside a folder for passing files is touched."""
+release/package makes. Nobody has to be superuser, and nothing outside a folder for passing files is touched. The examples of the
+installed pages run, as lib/examples.py finds them; each is named by its line in the page of the sources."""
 import gzip
 import hashlib
 import io
@@ -9,6 +10,7 @@ import re
 import shutil
 import stat
 import subprocess
+import sys
 import tarfile
 import tempfile
 import time
@@ -16,11 +18,18 @@ import unittest
 from datetime import datetime, timezone
 from pathlib import Path
 
-from lib.program import FASTER, GENERAL, TOP, TUNABLES, V2_FLAGS, V3_FLAGS, has_v3, need, processors, with_processor, write
+from lib.examples import PAGES, ExampleCase, Installed, examples_of, without_sources
+from lib.program import (
+    FASTER, GENERAL, METRICS_TOOLS, PACKAGE_TOOLS, ROW_TOOLS, TOP, TUNABLES, V2_FLAGS, V3_FLAGS, has_v3, need, processors, with_processor, write)
+
+sys.path.insert(0, str(TOP / "tools"))
+from messages import GROUPS  # noqa: E402
 
 # Each installed file: its mode, and what it is a copy of.
 INSTALLED = {
     "bin/shardscrub": (0o755, "shardscrub"),
+    "lib/systemd/system/shardscrub@.service": (0o644, "view/monitoring/shardscrub@.service"),
+    "lib/systemd/system/shardscrub@.timer": (0o644, "view/monitoring/shardscrub@.timer"),
     "lib/shardscrub/shardscrub": (0o755, "release/shardscrub"),
     "lib/shardscrub/shardscrub-x86-64-v3": (0o755, "release/shardscrub-x86-64-v3"),
     "share/bash-completion/completions/shardscrub": (0o644, "release/completions/shardscrub.bash"),
@@ -34,12 +43,12 @@ INSTALLED = {
     **{f"share/doc/shardscrub/examples/{path.name}": (0o644, f"examples/{path.name}") for path in (TOP / "examples").iterdir()},
     "share/fish/vendor_completions.d/shardscrub.fish": (0o644, "release/completions/shardscrub.fish"),
     "share/man/man1/shardscrub.1": (0o644, "docs/shardscrub.1"),
+    "share/shardscrub/act/order": (0o755, "act/order"),
+    "share/shardscrub/reference/shardscrub.py": (0o755, "reference/shardscrub.py"),
     "share/shardscrub/view/metrics": (0o755, "view/metrics"),
     "share/shardscrub/view/monitoring/cron": (0o644, "view/monitoring/cron"),
     "share/shardscrub/view/monitoring/nightly": (0o755, "view/monitoring/nightly"),
     "share/shardscrub/view/monitoring/shardscrub.rules.yml": (0o644, "view/monitoring/shardscrub.rules.yml"),
-    "share/shardscrub/view/monitoring/shardscrub@.service": (0o644, "view/monitoring/shardscrub@.service"),
-    "share/shardscrub/view/monitoring/shardscrub@.timer": (0o644, "view/monitoring/shardscrub@.timer"),
     "share/shardscrub/view/questions.jq": (0o644, "view/questions.jq"),
     "share/shardscrub/view/report.html": (0o644, "view/report.html"),
     "share/shardscrub/view/row": (0o755, "view/row"),
@@ -61,7 +70,7 @@ FIELDS = {
     "Architecture": "amd64",
     "Maintainer": "Tuzbelic maintainers <maintainers@users.noreply.tuzbelic.example>",
     "Recommends": "jq",
-    "Suggests": "gddrescue, parallel",
+    "Suggests": "gddrescue, parallel, python3",
     "Section": "admin",
     "Priority": "optional",
 }
@@ -99,9 +108,25 @@ def unpacked(name, data):
     return gzip.decompress(data) if name.endswith(".gz") else data
 
 
-def without_links(name, data):
-    """The content of a file, of a document without its links."""
-    return LINK.sub(r"\1", data.decode()) if name.endswith(".md") else data
+def without_places(name, data, place=None):
+    """The content of a file; of a document without its links, and without what says where things are. If `place` is None, it is a
+    document of the sources, and else one that is installed below that folder."""
+    if name.endswith(("/cron", "@.service")):
+        return data.decode() if place is None else data.decode().replace("\\ ", " ").replace("%%20", " ").replace(place, "/usr/share")
+    if not re.search(r"\.md$|\.1(\.gz)?$|\.tsv$", name):
+        return data
+    text = data.decode().replace("\\e", "\\").replace("\\-", "-")
+    if place is None:
+        text = "\n".join(without_sources(text.split("\n"))).replace("/usr/share/shardscrub/", "")
+        text = text.replace("/usr/lib/systemd/system", "systemd/system")
+        text = text.replace("./shardscrub", "shardscrub").replace("the repository's root directory", "any folder")
+        text = text.replace("man -l docs/shardscrub.1", "man shardscrub")
+        text = re.sub(r"^An installation has\n.*?(?=^\.TP$)", "", text, flags=re.M | re.S)
+    else:
+        text = text.replace(f"{place.removesuffix('/share')}/lib/systemd/system", "systemd/system")
+        text = text.replace(place.replace(" ", "\\ "), place).replace(f"{place}/doc/shardscrub/", "").replace(f"{place}/shardscrub/", "")
+    text = LINK.sub(r"\1", text) if name.endswith(".md") else text
+    return [line for line in text.splitlines() if line]
 
 
 def anchors(text):
@@ -132,16 +157,16 @@ class OfTheRelease(unittest.TestCase):
         self.addCleanup(folder.cleanup)
         self.folder = Path(folder.name)
 
-    def copied(self, name, data, origin):
-        """Checks that an installed file is a copy, or a document that differs in its links alone."""
+    def copied(self, name, data, origin, place):
+        """Checks that an installed file is a copy, or a document that differs only in its links and in where things are."""
         if origin is not None:
-            self.assertEqual(without_links(name, unpacked(name, data)), without_links(name, (TOP / origin).read_bytes()), name)
+            self.assertEqual(without_places(name, unpacked(name, data), place), without_places(name, (TOP / origin).read_bytes()), name)
 
-    def installed(self, folder, files):
-        """Checks that these files and nothing else are installed in a folder."""
+    def installed(self, folder, files, prefix=None):
+        """Checks that these files and nothing else are installed in a folder, which will be at this prefix."""
         self.assertEqual(tree(folder), with_folders(files))
         for name, (_, origin) in files.items():
-            self.copied(name, (folder / name).read_bytes(), origin)
+            self.copied(name, (folder / name).read_bytes(), origin, f"{folder if prefix is None else prefix}/share")
 
     def runs(self, program):
         version = f"shardscrub {newest()[0]}\n"
@@ -182,6 +207,57 @@ class Install(OfTheRelease):
         for line in lines:
             done(command, *line.split(), cwd=self.folder / "prefix/share/doc/shardscrub")
 
+    def test_the_commands_of_each_page(self):
+        """No page has fewer of them than that of the sources, or more, but for those that only the sources can do."""
+        done("release/install", self.folder / "prefix")
+        for page in PAGES:
+            wanted = examples_of(page, are_sources_left_out=True)
+            self.assertEqual(len(examples_of(page, self.folder / "prefix")), len(wanted), page)
+            self.assertEqual(len(examples_of(page)) - len(wanted), 4 if page == "Readme" else 0, page)
+
+    def test_no_page_names_what_only_the_sources_have(self):
+        """In commands, texts for a shell and code in a line, apart from what is said to be of the sources."""
+        done("release/install", self.folder / "prefix")
+        known = {path.name for path in TOP.iterdir() if path.is_dir()} - {"act", "view", "docs", "examples", "reference"}
+        said = {"docs/RECLAIMING.md": {"tests", "fuzz"}, "shardscrub/README.md": {"crates"}}
+        for path in [*sorted((self.folder / "prefix").rglob("*.md")), self.folder / "prefix/share/man/man1/shardscrub.1"]:
+            text = path.read_text(encoding="utf-8")
+            self.assertNotIn("./shardscrub ", text.replace("../shardscrub", ""), path.name)
+            code = "\n".join(re.findall(r"^```.*?^```$|`[^`\n]+`", text, re.M | re.S))
+            found = {word for word in re.findall(r"(?<![\w./-])(\w+)/\w", code) if word in known}
+            self.assertEqual(found, said.get(f"{path.parent.name}/{path.name}", set()), path.name)
+            self.assertNotRegex(text, r"<!--|(?<![\w./-])docs/\w+\.md, box|repository")
+
+    def test_the_examples_of_messages(self):
+        """Those of the tables in READING, and of the man page, run in any folder, with the statuses of tools/messages.py."""
+        done("release/install", self.folder / "a prefix")
+        prefix, wanted = self.folder / "a prefix", [message.ends for group in GROUPS for message in group.messages]
+        page = (prefix / "share/doc/shardscrub/docs/READING.md").read_text(encoding="utf-8").partition("\n## What a message means\n")[2]
+        manual = (prefix / "share/man/man1/shardscrub.1").read_text(encoding="utf-8").partition(".SH DIAGNOSTICS")[2]
+        for words in (re.findall(r"^\| .* \| `([^`]*)` \| \[[^|]*\|$", page, re.M),
+                      [line.replace("\\%", "").replace("\\-", "-").replace("\\e", "\\")
+                       for line in re.findall(r"^\.B \\%shardscrub (.*)$", manual, re.M)]):
+            ended = [run("sh", "-c", f"shardscrub {line}", cwd=self.folder, more={"PATH": f"{prefix}/bin:{os.environ['PATH']}"})
+                     for line in words]
+            self.assertEqual([one.returncode for one in ended], wanted, [one.stderr for one in ended])
+
+    def test_the_reference(self):
+        """It runs where it lies, and prints what the program prints."""
+        need("python3")
+        done("release/install", self.folder / "a prefix")
+        prefix, folder = self.folder / "a prefix", self.folder / "folder"
+        folder.mkdir()
+        count = 0
+        for image in sorted((prefix / "share/doc/shardscrub/examples").glob("*.img")):
+            for command in ("summary", "scan"):
+                program, reference = (run(one, command, image, cwd=folder) for one in
+                                      (prefix / "bin/shardscrub", prefix / "share/shardscrub/reference/shardscrub.py"))
+                self.assertEqual((reference.stdout, reference.stderr, reference.returncode),
+                                 (program.stdout, program.stderr, program.returncode), f"{command} {image.name}")
+                count += program.returncode < 2
+        self.assertGreater(count, 20)
+        self.assertEqual(tree(prefix).keys() & {"share/shardscrub/reference/__pycache__/"}, set())
+
     def test_which_program_is_started(self):
         """By the processor, by SHARDSCRUB_CPU, and if one of the programs isn't there any more."""
         done("release/install", self.folder / "a prefix")
@@ -204,8 +280,34 @@ class Install(OfTheRelease):
 
     def test_below_destdir(self):
         done("release/install", "/usr", more={"DESTDIR": str(self.folder / "stage")})
-        self.installed(self.folder / "stage/usr", INSTALLED)
+        self.installed(self.folder / "stage/usr", INSTALLED, "/usr")
         self.assertEqual(os.listdir(self.folder / "stage"), ["usr"])
+
+    def test_below_a_folder_of_the_callers(self):
+        """A prefix that isn't a whole path is one from the caller's folder on, or from DESTDIR on."""
+        done(TOP / "release/install", "a prefix", cwd=self.folder)
+        self.installed(self.folder / "a prefix", INSTALLED)
+        done(TOP / "release/install", "opt", cwd=self.folder, more={"DESTDIR": str(self.folder / "stage")})
+        self.installed(self.folder / "stage/opt", INSTALLED, "/opt")
+
+    def test_units(self):
+        """They are where systemd looks below /usr and /usr/local. Below any folder they name what is installed, which needs no path."""
+        need("flock", *METRICS_TOOLS)
+        for prefix in (self.folder / "prefix", self.folder / "a $prefix with 100%"):
+            done("release/install", prefix)
+            service, timer = (prefix / f"lib/systemd/system/shardscrub@.{kind}" for kind in ("service", "timer"))
+            text = service.read_text(encoding="utf-8")
+            nightly = re.search(r'^ExecStart="(.+?)" ', text, re.M)[1].replace("%%", "%")
+            self.assertEqual(nightly, f"{prefix}/share/shardscrub/view/monitoring/nightly")
+            collected = self.folder / "collected"
+            collected.mkdir(exist_ok=True)
+            done(nightly, "sda", collected, TOP / "examples/one-shard.img", more={"PATH": "/usr/bin:/bin"})
+            self.assertIn('\nshardscrub_verdict{disk="sda"} 0\n', (collected / "shardscrub-sda.prom").read_text(encoding="utf-8"))
+            shutil.rmtree(collected)
+            if shutil.which("systemd-analyze"):
+                names = [str(path).replace("@", "@sda") for path in (service, timer)]
+                said = run("systemd-analyze", "verify", "--man=no", *names)
+                self.assertEqual([line for line in said.stderr.splitlines() if "shardscrub" in line], [])
 
     def test_over_itself(self):
         for _ in range(2):
@@ -230,7 +332,7 @@ class Make(OfTheRelease):
         words = [f"DESTDIR={self.folder}", "PREFIX=/opt/a folder"]
         prefix = self.folder / "opt/a folder"
         self.assertEqual(self.make("install", *words).returncode, 0)
-        self.installed(prefix, INSTALLED)
+        self.installed(prefix, INSTALLED, "/opt/a folder")
         other = prefix / "share/man/man1/other.1"
         other.write_text("another program's")
         self.assertEqual(self.make("uninstall", *words).returncode, 0)
@@ -239,10 +341,10 @@ class Make(OfTheRelease):
 
     def test_destdir_of_the_environment(self):
         self.assertEqual(self.make("install", more={"DESTDIR": str(self.folder)}).returncode, 0)
-        self.installed(self.folder / "usr/local", INSTALLED)
+        self.installed(self.folder / "usr/local", INSTALLED, "/usr/local")
 
     def test_package(self):
-        need("dpkg-deb")
+        need(*PACKAGE_TOOLS)
         made = self.make("package", f"FOLDER={self.folder / 'a folder'}")
         package = Path(done("release/package", self.folder / "other").strip())
         self.assertEqual(made.stdout, f"{self.folder / 'a folder' / package.name}\n")
@@ -264,7 +366,7 @@ class Package(OfTheRelease):
     @classmethod
     def setUpClass(cls):
         super().setUpClass()
-        need("dpkg-deb")
+        need(*PACKAGE_TOOLS)
         cls.passing = tempfile.TemporaryDirectory()
         cls.addClassCleanup(cls.passing.cleanup)
         cls.package = Path(done("release/package", cls.passing.name).strip())
@@ -308,7 +410,7 @@ class Package(OfTheRelease):
         for member, data in members:
             if data is not None:
                 origin = PACKED[member.name.removeprefix("./usr/")][1]
-                self.copied(member.name, data, origin)
+                self.copied(member.name, data, origin, "/usr/share")
 
     def member(self, name):
         return next(data for member, data in self.members(self.package) if member.name == f"./usr/share/{name}")
@@ -350,7 +452,7 @@ class Package(OfTheRelease):
 
     def test_checksums(self):
         done("dpkg-deb", "--control", self.package, self.folder)
-        self.assertEqual(tree(self.folder), {"control": 0o644, "md5sums": 0o644})
+        self.assertEqual(tree(self.folder), {"control": 0o644, "md5sums": 0o644, "postinst": 0o755, "prerm": 0o755})
         lines = sorted(f"{hashlib.md5(data).hexdigest()}  {member.name.removeprefix('./')}"
                        for member, data in self.members(self.package) if data is not None)
         self.assertEqual(sorted((self.folder / "md5sums").read_text().splitlines()), lines)
@@ -397,8 +499,7 @@ class Dpkg(OfTheRelease):
     @classmethod
     def setUpClass(cls):
         super().setUpClass()
-        need("dpkg-deb")
-        need("dpkg")
+        need("dpkg", *PACKAGE_TOOLS)
         passing = tempfile.TemporaryDirectory()
         cls.addClassCleanup(passing.cleanup)
         cls.package = done("release/package", passing.name).strip()
@@ -412,20 +513,21 @@ class Dpkg(OfTheRelease):
         self.dpkg("--force-depends", "--install", self.package)
 
     def dpkg(self, *words):
-        # Some machines are set up to leave out man pages and documents.
-        return done("dpkg", f"--root={self.root}", f"--log={self.folder}/log", "--force-not-root", "--path-include=*", *words)
+        # Some machines are set up to leave out man pages and documents. The scripts run on this machine, for that root.
+        return done("dpkg", f"--root={self.root}", f"--log={self.folder}/log", "--force-not-root", "--force-script-chrootless",
+                    "--path-include=*", *words)
 
     def state(self):
         return run("dpkg-query", f"--admindir={self.root}/var/lib/dpkg", "-W", "-f", "${db:Status-Abbrev}", "shardscrub")
 
     def test_installed(self):
         self.assertEqual(self.state().stdout, "ii ")
-        self.installed(self.root / "usr", PACKED)
+        self.installed(self.root / "usr", PACKED, "/usr")
         self.runs(self.root / "usr/bin/shardscrub")
         self.assertEqual(self.dpkg("--verify", "shardscrub"), "")
 
     def test_row(self):
-        need("jq")
+        need(*ROW_TOOLS)
         path = f"{self.root}/usr/bin:{os.environ['PATH']}"
         for command, first in (("scan", r'"broken":\[\]'), ("summary", '"verdict":"sound"')):
             row = done(self.root / "usr/share/shardscrub/view/row", command, "a disk\texamples/one-shard.img\t64\t4\t3\t-\t-",
@@ -433,12 +535,28 @@ class Dpkg(OfTheRelease):
             self.assertRegex(row, rf'\A\{{"disk":"a disk","status":0,"text":"",{first},.*\}}\n\Z')
 
     def test_metrics(self):
+        need("flock", *METRICS_TOOLS)
         summary = done(self.root / "usr/bin/shardscrub", "summary", "examples/one-shard.img")
         metrics = done(self.root / "usr/share/shardscrub/view/metrics", "sda", input=summary)
         self.assertIn('\nshardscrub_verdict{disk="sda"} 0\n', metrics)
-        done(self.root / "usr/share/shardscrub/view/monitoring/nightly", "sda", self.folder, "examples/one-shard.img",
-             more={"PATH": f"{self.root}/usr/bin:{os.environ['PATH']}"})
-        self.assertEqual((self.folder / "shardscrub-sda.prom").read_text(), metrics)
+        done(self.root / "usr/share/shardscrub/view/monitoring/nightly", "sda", self.folder, "examples/one-shard.img")
+        scan, numbers = (self.folder / "shardscrub-sda.prom").read_text().split("# HELP shardscrub_verdict")
+        self.assertIn('\nshardscrub_answered{disk="sda"} 1\n', scan)
+        self.assertEqual("# HELP shardscrub_verdict" + numbers, metrics)
+
+    def test_timers(self):
+        """Those of the package are disabled before it is removed, and no others. An upgrade leaves all."""
+        units = self.root / "etc/systemd/system"
+        wants, others = units / "timers.target.wants", units / "other.target.wants"
+        own = [wants / "shardscrub@sdb.timer", wants / r"shardscrub@disk-by\x2did-a b.timer", others / "shardscrub@sdc.timer"]
+        other = [wants / "shardscrubs@sdb.timer", wants / "other.timer", wants / "shardscrub@sdb.service", units / "shardscrub@.timer"]
+        for link in own + other:
+            link.parent.mkdir(parents=True, exist_ok=True)
+            link.symlink_to("/usr/lib/systemd/system/shardscrub@.timer")
+        self.dpkg("--force-depends", "--install", self.package)
+        self.assertEqual([link for link in own + other if not link.is_symlink()], [])
+        self.dpkg("--remove", "shardscrub")
+        self.assertEqual([link for link in own + other if link.is_symlink()], other)
 
     def test_removed(self):
         for way in ("--remove", "--purge"):
@@ -448,6 +566,21 @@ class Dpkg(OfTheRelease):
                 self.assertEqual([name for name in tree(self.root) if "shardscrub" in name], [])
                 self.assertNotEqual(self.state().returncode, 0)
                 self.dpkg("--force-depends", "--install", self.package)
+
+
+TRANSCRIPT = Installed()
+
+
+def setUpModule():
+    if platform.machine() != "x86_64":
+        raise unittest.SkipTest("the released program is for x86-64")
+    unittest.addModuleCleanup(TRANSCRIPT.close)
+
+
+def load_tests(loader, tests, _):
+    """Adds a test for each example of the installed pages."""
+    tests.addTests(ExampleCase(TRANSCRIPT, number) for number in range(len(TRANSCRIPT.examples)))
+    return tests
 
 
 if __name__ == "__main__":

@@ -16,7 +16,7 @@ from lib.cases import Case, add_tests
 from lib.examples import image_of, listed, summary_of
 from lib.page import (DISKS, PAGE, WRONG_PAGES, Browser, Pictured, disks, file, made_up_report, script_in, text_of_page, value,
                       written)
-from lib.program import TOP, need, program
+from lib.program import ROW_TOOLS, TOP, need, program
 
 POLICY = ("default-src 'none'; script-src 'unsafe-inline'; style-src 'unsafe-inline'; connect-src 'self'; base-uri 'none'; "
           "form-action 'none'")
@@ -97,7 +97,7 @@ class Answers(PageCase):
                 self.check_shown(f"{name}, rows of {commands}", shown, disk, [one for one in commands if one != "scan"])
 
     def test_the_rows_of_view_row(self):
-        need("jq")
+        need(*ROW_TOOLS)
         rows = {command: [subprocess.run([TOP / "view/row", command, line], cwd=TOP, capture_output=True, encoding="utf-8", stdin=subprocess.DEVNULL,
                                          env={**os.environ, "SHARDSCRUB": str(program())}).stdout for line in listed()]
                 for command in ("summary", "scan", "reclaimable")}

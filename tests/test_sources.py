@@ -1,9 +1,10 @@
-"""The layout of the sources, and the texts that must-fail edits replace."""
+"""The layout of the sources, the texts that must-fail edits replace, and which files can be run."""
+import os
 import re
 from itertools import pairwise
 
 from lib.cases import Case
-from lib.program import TOP
+from lib.program import RELEASED, TOP
 
 # A line of code has at most this many columns, unless it has a long text in it, as the program prints it.
 COLUMNS = 113
@@ -53,6 +54,16 @@ class Sources(Case):
             for number, line in enumerate(path.read_text(encoding="utf-8").splitlines(), 1):
                 if len(line) > COLUMNS and not LONG_TEXT.search(line):
                     self.true(f"{path.relative_to(TOP)}:{number}", False, f"{len(line)} columns")
+
+    def test_run_bits(self):
+        """Each file outside of crates/ that begins with `#!` can be run, and no other but the released programs."""
+        paths = [path for depth in range(1, 4) for path in TOP.glob("/".join("*" * depth)) if path.is_file() and not path.is_symlink()]
+        paths = [path for path in paths if path.relative_to(TOP).parts[0] not in ("crates", "out", ".git")]
+        scripts = {path for path in paths if path.open("rb").read(2) == b"#!"}
+        self.true("there are scripts", len(scripts) > 15)
+        runnable = {path for path in paths if os.access(path, os.X_OK)}
+        self.same("files that can't be run, or that can",
+                  sorted(str(path.relative_to(TOP)) for path in scripts ^ (runnable - set(RELEASED.values()))), [])
 
     def test_edits(self):
         """Each text that an edit replaces is in its file exactly once, by the time that it is replaced: those that `rt ci` tries, and

@@ -6,15 +6,19 @@ import platform
 import re
 import shutil
 import subprocess
+import sys
 import tempfile
 import time
 import unittest
 from pathlib import Path
 
 from lib.cases import RoomCase
-from lib.program import (FASTER, GENERAL, TOP, TUNABLES, V2_FLAGS, V3_FLAGS, find, has_v3, need, processors, with_processor,
+from lib.program import (BUILD_TOOLS, FASTER, GENERAL, TOP, TUNABLES, V2_FLAGS, V3_FLAGS, find, has_v3, need, processors, with_processor,
                          write)
 from lib.system import Library, run_with
+
+sys.path.insert(0, str(TOP / "tools"))
+from messages import explained  # noqa: E402
 
 TOOLCHAIN = "rt of the tests"
 # It notes that it was called. As the command that builds a program, it makes one, and ends as on a processor without x86-64-v3. With
@@ -45,6 +49,7 @@ class StartCase(unittest.TestCase):
     """A small tree with the scripts."""
 
     def setUp(self):
+        need(*BUILD_TOOLS)
         folder = tempfile.TemporaryDirectory()
         self.addCleanup(folder.cleanup)
         self.folder = Path(folder.name).resolve()
@@ -528,6 +533,7 @@ class Processor(RoomCase):
             (status, out, error), _ = run_with(path, words, library, {})
             self.same(f"{path} {words[0]}", (status, out), (127, b""))
             self.true("it says what is missing", error.startswith(f"this machine lacks a feature of {cpu},".encode()), error)
+            self.same("the rows of tools/messages.py", [row.status for row in explained(error.decode().rstrip("\n"))], [127])
 
     def test_the_general_program(self):
         self.check(GENERAL, "x86-64-v2")

@@ -3,12 +3,13 @@ import json
 import os
 import re
 import subprocess
+import time
 from collections import Counter
 
 from lib.cases import RoomCase
 from lib.disks import geometry
 from lib.examples import check_line, examples, listed, made_up, summary_of
-from lib.program import TOP, need
+from lib.program import METRICS_TOOLS, ROW_TOOLS, TOP, need
 
 METRICS, ROW = TOP / "view/metrics", TOP / "view/row"
 VERDICTS = {"sound": "0", "doubt": "1", "wrong": "2"}
@@ -30,9 +31,11 @@ def label(text):
 
 class Metrics(RoomCase):
     """The summary as metrics."""
+    NOT_WHOLE = "view/metrics: the input is not a whole summary\n"
 
     @classmethod
     def setUpClass(cls):
+        need(*METRICS_TOOLS)
         super().setUpClass()
         cls.summaries = [one for one in map(summary_of, [*examples(), *made_up(cls.room)]) if one is not None]
 
@@ -42,9 +45,12 @@ class Metrics(RoomCase):
         return done.returncode, done.stdout.decode(), done.stderr.decode()
 
     def check_metrics(self, what, text, name, wanted):
-        """Checks the three lines of each name of a summary: a help, the kind, and the sample."""
-        status, printed, error = self.metrics(text, name)
-        self.same(f"{what}: status and error stream", (status, error), (0, ""))
+        self.check_lines(what, self.metrics(text, name), name, wanted, 0)
+
+    def check_lines(self, what, answer, name, wanted, right_status, right_error=""):
+        """Checks the three lines of each name: a help, the kind, and the sample."""
+        status, printed, error = answer
+        self.same(f"{what}: status and error stream", (status, error), (right_status, right_error))
         lines = printed.removesuffix("\n").split("\n")
         self.same(f"{what}: lines", len(lines), 3 * len(wanted))
         for (key, value), some in zip(wanted.items(), zip(lines[::3], lines[1::3], lines[2::3])):
@@ -75,7 +81,7 @@ class Metrics(RoomCase):
             image, wanted = line.split("\t")[1], summary_of(line)
             done = subprocess.run([self.program, "summary", image], cwd=TOP, capture_output=True, encoding="utf-8")
             if wanted is None:
-                self.check_refused(image, self.metrics(done.stdout, "sda"), "view/metrics: the input is not a whole summary\n")
+                self.check_refused(image, self.metrics(done.stdout, "sda"), self.NOT_WHOLE)
             else:
                 self.check_metrics(image, done.stdout, "sda", wanted)
 
@@ -98,11 +104,31 @@ class Metrics(RoomCase):
                     wrong[f"{name} is {value!r}"] = before + f"{name} {value}\n" + after
         del wrong["chunks_to_move one line later"]
         for what, text in wrong.items():
-            self.check_refused(what, self.metrics(text, "sda"), "view/metrics: the input is not a whole summary\n")
+            self.check_refused(what, self.metrics(text, "sda"), self.NOT_WHOLE)
 
     def test_what_is_no_name(self):
-        for words in ([], [""], ["a", "b"]):
-            self.check_refused(str(words), self.metrics(text_of(self.summaries[0]), *words), "usage: view/metrics DISK <SUMMARY\n")
+        for words in ([], [""], ["a", "0"], ["a", "0", "0", "0"], ["", "0", "0"], ["a", "", "0"], ["a", "0", ""], ["a", "-1", "0"],
+                      ["a", "0", "x"]):
+            error = "usage: view/metrics DISK [STATUS SECONDS] <SUMMARY\n"
+            self.check_refused(str(words), self.metrics(text_of(self.summaries[0]), *words), error)
+
+    def test_a_scan(self):
+        """With its status and the time of the last answer, three gauges come first. Without an answer they come alone."""
+        whole = text_of(self.summaries[0])
+        for name in NAMES:
+            for status in ("0", "1"):
+                before = int(time.time())
+                answer = self.metrics(whole, name, status, "7")
+                lines = answer[1].splitlines(keepends=True)
+                at = int(lines[8].split()[-1])
+                self.true(f"{name!r}, {status}: time", before <= at <= time.time(), at)
+                scan = {"answered": "1", "exit_status": status, "last_answer_seconds": str(at)}
+                self.check_lines(f"{name!r}, {status}", answer, name, scan | self.summaries[0], 0)
+            for text, status, shown, error in ((whole, "2", "2", ""), ("", "137", "137", ""), (whole[:-1], "0", "70", self.NOT_WHOLE),
+                                               ("", "1", "70", self.NOT_WHOLE)):
+                answer = self.metrics(text, name, status, "7")
+                scan = {"answered": "0", "exit_status": shown, "last_answer_seconds": "7"}
+                self.check_lines(f"{name!r}, {status}, no answer", answer, name, scan, 1, error)
 
     def test_promtool(self):
         """Prometheus reads them, and has nothing to say about the names."""
@@ -114,11 +140,11 @@ class Metrics(RoomCase):
 
 
 class RowCase(RoomCase):
-    """Tests that need jq, which view/row uses. The made-up disks stay the same for all tests of a class."""
+    """Tests of view/row. The made-up disks stay the same for all tests of a class."""
 
     @classmethod
     def setUpClass(cls):
-        need("jq")
+        need(*ROW_TOOLS)
         super().setUpClass()
         cls.made_up, cls.known = list(made_up(cls.room)), {}
 
@@ -270,6 +296,5 @@ class Rows(RowCase):
 
     def test_a_row_waits_for_its_turn(self):
         """While another row is being printed."""
-        need("flock")
         done = subprocess.run(["flock", ROW, "timeout", "1", ROW, "scan", "a disk"], capture_output=True, stdin=subprocess.DEVNULL)
         self.same("status and output", (done.returncode, done.stdout), (124, b""))

@@ -302,6 +302,22 @@ def completed():
     return moved(2, PAGE)
 
 
+def dead_node():
+    """Shard 1 was written, and then written anew, with shard 2. A bit of the newer superblock's generation has flipped, and one of shard
+    2's first chunk."""
+    disk = Disk(8, 4)
+    first = disk.chunk(1, 0, uuid(0x11), b"abc")
+    older = disk.chunk(3, 0, uuid(0xAA), run((shard(1), [first])))
+    disk.superblock(0, 1, older)
+    anew, lost = disk.chunk(1, 41, uuid(0x22), b"de"), disk.chunk(1, 81, uuid(0x33), b"f")
+    third = disk.chunk(2, 0, uuid(0x44), b"ghi")
+    newer = disk.chunk(2, 41, uuid(0xBB), run((shard(1), [anew]), (shard(2), [lost, third])))
+    disk.superblock(3, 2, newer, older)
+    disk.spoil(0, 200)
+    disk.spoil(1, 103)
+    return disk
+
+
 def failing_map():
     """The readable sectors of the failing disk, for the test mode of GNU ddrescue."""
     return "# The sectors that can be read (+), and those that can't (-)\n0x00000000     ?\n" + READ_AND_NOT
@@ -318,7 +334,7 @@ def rescued_map():
 
 IMAGES = (one_chunk, one_shard, no_superblock, tie, collision, lost_run, retired_extent, twins,
           several_findings, later_run, flipped_bit, failing, rescued, formatted_twice, reclaimed_before, rotted, copied,
-          behind, tail, part, crowded, two_copies, less, full, to_move, damaged_copy, completed)
+          behind, tail, part, crowded, two_copies, less, full, to_move, damaged_copy, completed, dead_node)
 MAPS = (failing_map, rescued_map)
 
 

@@ -1,6 +1,6 @@
 #!/usr/bin/env python3
 """Makes the man page, docs/shardscrub.1, from the texts of the help in crates/scrub_args/src/help_texts.rt, the commands and options in
-tools/options.py, the texts of faults in crates/scrub_cli/specs/Fault.antt, and the order of faults in docs/REPORT.md.
+tools/options.py, the messages in tools/messages.py, and the order of faults in docs/REPORT.md.
 
 A text of the help has paragraphs, and tables whose lines begin with two blanks: words, two blanks or more, and what they mean, which may
 go on in lines that begin with more blanks. A table without meanings is printed as it is. Of the statuses of a command the page has 0 and
@@ -10,11 +10,11 @@ import re
 import sys
 from itertools import groupby
 
+from messages import GROUPS, parts_of, status_of
 from options import COMMANDS, OPTIONS, SIZES, TEXTS, about, options_of, required_of, version
 from pages import TOP, run_tool
 
 PAGE, REPORT = TOP / "docs/shardscrub.1", TOP / "docs/REPORT.md"
-FAULTS = TOP / "crates/scrub_cli/specs/Fault.antt"
 # The paragraph of REPORT that has the order of faults begins so.
 ORDER = "Only the first fault is reported."
 
@@ -200,21 +200,30 @@ def options_text():
             "Prints the version."]
 
 
-def faults_text():
-    """The texts of faults with their statuses, and the order in which they come."""
-    text = FAULTS.read_text(encoding="utf-8")
-    statuses = dict(re.findall(r"(?m)^status_of \(?(\w+)[^=]*= (\d)$", text))
-    lines = re.findall(r"(?m)^text_of \(?(\w+)[^=]*= line \((.*)\)$", text)
-    out = []
-    for kind, parts in lines:
-        words = "".join(re.findall(r'"([^"]*)"', part)[0] if '"' in part else re.sub(r"decimal |two_digits |\.now", "", part).upper()
-                        for part in parts.split(" ++ "))
-        out.append(f"{statuses[kind]}  {words}")
+def sentences(text):
+    """A text of the tables of messages, whose words of the program are bold."""
+    return re.sub(r"`([^`]*)`", r"\\fB\1\\fP", roff(text)).replace("×", "\\(mu")
+
+
+def message_text(group, message):
+    """A message with its status, what it means, an example, none of whose words is cut or moved apart, and where to read on."""
+    page, heading = message.read
+    text = "".join(f"\\f{'I' if varies else 'B'}{roff(part)}\\fP" for part, varies in parts_of(message.text)) if group.before else \
+        sentences(message.text)
+    words = " ".join(f"\\%{word}" for word in roff(f"shardscrub {message.example}").split(" "))
+    place = page.removeprefix("../") if page.startswith("../") else f"docs/{page}"
+    return [".TP", text, f"Status {status_of(group, message)}.", sentences(f"{message.wrong} {message.to_do}"), "For example:",
+            ".br", ".na", f".B {words}", ".br", ".ad", f"See {roff(place)}{roff(', ' * (heading != '') + heading)}."]
+
+
+def messages_text():
+    """The order in which faults come, and what each message means."""
     order = next(line for line in REPORT.read_text(encoding="utf-8").splitlines() if line.startswith(ORDER))
-    order = re.sub(r"`([^`]*)`", r"\\fB\1\\fP", order.replace("-", "\\-"))
-    return ["A fault has a line on the error stream.", "It begins with", ".B shardscrub:", "and these words, here after their status.",
-            "Each other fault of the arguments begins with", ".BR error: ,", "and the status is 2.", ".PP", ".nf", ".RS", *map(roff, out), ".RE", ".fi",
-            ".PP", *order.split("\n")]
+    out = ["Names in italics stand for what varies.", *sentences(order).split("\n")]
+    for group in GROUPS:
+        out += [f'.SS "{group.column.replace("`", "")}"', sentences(group.about)]
+        out += [line for message in group.messages for line in message_text(group, message)]
+    return out
 
 
 def made():
@@ -228,7 +237,7 @@ def made():
     out += [".SH OPTIONS", *options_text(), '.SH "EXIT STATUS"', "The statuses 0 and 1 depend on the command.",
             "Help and the version end with 0."]
     out += [line for row in statuses for line in (".TP", marked(row[0]), f"{roff(row[1])}.")]
-    out += [REST.strip(), ".SH DIAGNOSTICS", *faults_text(), END.strip()]
+    out += [REST.strip(), ".SH DIAGNOSTICS", *messages_text(), END.strip()]
     return {PAGE: "\n".join(out) + "\n"}, []
 
 

@@ -54,7 +54,7 @@ OPTIONS = {
     "--page": Option("BYTES", TEXTS["PAGE_HELP"], "together or, except for {given}, [not at all](#sizes-that-are-left-out)"),
     "--pages": Option("COUNT", TEXTS["PAGES_HELP"]),
     "--extents": Option("COUNT", TEXTS["EXTENTS_HELP"]),
-    "--workers": Option("COUNT", TEXTS["WORKERS_HELP"], "with any number, loading an image of 4 MiB or more, checking locators and making "
+    "--workers": Option("COUNT", TEXTS["WORKERS_HELP"], "workers only scan. Loading an image of 4 MiB or more, checking locators and making "
                         "the texts use up to one thread per processor"),
     "--id": Option("ID", TEXTS["ID_HELP"], "the digits in either case"),
     "--reset": Option("EXTENT", TEXTS["RESET_HELP"], "may be repeated: of [`manifest`](#the-manifest) and of [`compare`](#two-images)", True),

@@ -115,7 +115,7 @@ class Listed:
 
 # Disks
 
-COMMANDS = ("scan", "index", "summary", "locators", "shards", "superblocks", "manifest", "reclaimable", "sizes", "items", "shard")
+COMMANDS = ("scan", "index", "summary", "locators", "shards", "superblocks", "manifest", "runs", "reclaimable", "sizes", "items", "shard")
 # Those for which the sizes may be left out, except `items` and `shard`, which need more.
 LOOKING = ("scan", "summary", "locators", "shards", "superblocks")
 # How many known shards of a disk are asked for.
@@ -238,6 +238,32 @@ def calls_of_shards(c, disk):
         yield Words("shard", ["--id", c.choice(NO_IDENTIFIERS)], c.choice([disk.shared(), disk.without_sizes()]))
 
 
+def runs_to_give(c, disk):
+    """Places of index runs to give: some that are found, in any order, or those that the superblock lists; seldom none at all, and
+    sometimes one twice, one that is none, or a word that is refused."""
+    found = [f"{words[1]}:{words[2]}" for words in map(str.split, disk.answer("runs")[1].decode().splitlines()) if words[0] == "run"]
+    own = [f"{one['extent']}:{one['offset']}" for one in choose(disk.disk())["runs"] if one["extent"]]
+    places = own if own and c.random() < .4 else c.sample(found, c.randint(min(len(found), 1), len(found)))
+    if places and c.random() < .2:
+        places.insert(c.randrange(len(places) + 1), c.choice(places))
+    if c.random() < (.1 if places else .9):
+        e, o = c.randrange(1, disk.made.e), c.randrange(disk.made.size)
+        others = [f"{e}:{o}", f"{e}:{disk.made.size}", f"0:{o}", f"{disk.made.e}:0", f"{e}:", f"+{e}:{o}", f"{e}:{2 ** 32}", f"{e},{o}", "run"]
+        places.insert(c.randrange(len(places) + 1), c.choice([*others[:1] * 8, *others]))
+    return option("--run", places)
+
+
+def calls_by_runs(c, disk):
+    """The calls of `runs`, those by runs that are given, and those for the parts of broken shards."""
+    shared, named = disk.shared(), disk.named()
+    yield Words("runs", ["--workers", c.choice("03")], shared)
+    yield Words("shards", ["--partial"], c.choice([shared, disk.without_sizes()]))
+    yield Words("shards", [*runs_to_give(c, disk), *["--partial"] * (c.random() < .5)], c.choice([shared, shared, disk.without_sizes()]))
+    yield Words("manifest", runs_to_give(c, disk), shared)
+    one = c.choice([*named, *(some.hex() for some in disk.made.identifiers), c.randbytes(16).hex()])
+    yield Words("shard", ["--id", one, *runs_to_give(c, disk)], shared)
+
+
 def calls(c, disk):
     """The arguments of each call on a made-up disk."""
     shared = disk.shared()
@@ -256,6 +282,7 @@ def calls(c, disk):
     yield Words("items", extent_to_list(c, disk.made), shared)
     yield Words("items", extent_to_list(c, disk.made), disk.without_sizes())
     yield from calls_of_shards(c, disk)
+    yield from calls_by_runs(c, disk)
 
 
 def kind_of(command, words):
@@ -273,6 +300,8 @@ def kind_of(command, words):
         return " ".join([first, *words[4:5]]) if first == "record" else first
     if command == "summary":
         return " ".join(words) if first == "verdict" else None
+    if command == "runs":
+        return f"run, at {min(len(words) - 6, 2)} places of extent 0" if first == "run" else first
     return words[1] if command == "sizes" and first != "lost" else first
 
 
@@ -323,13 +352,13 @@ def count(seen, report, disk, calls):
     of_shards = set()
     for call in calls:
         status, printed, error = call.right
-        with_option = "".join(sorted({f" {word}" for word in call.words if word in ("--accept", "--last", "--reset")}))
+        with_option = "".join(sorted({f" {word}" for word in call.words if word in ("--accept", "--last", "--partial", "--reset", "--run")}))
         without = " without sizes" * (call.command != "sizes" and "--page" not in call.words)
         seen[f"{call.command}{with_option}{without}: status {status}"] += 1
         if call.of_shard:
             of_shards |= kinds_of_shard(listed, call.of_shard, error.decode(), deleted)
         elif call.command == "shards":
-            seen.update(f"shards{without}: {kind}" for kind in {line.split(":")[1].strip() for line in error.decode().splitlines()})
+            seen.update(f"shards{with_option}{without}: {kind}" for kind in {line.split(":")[1].strip() for line in error.decode().splitlines()})
         elif call.command not in ("scan", "index", "shard"):
             kinds = {kind_of(call.command, line.split()) for line in printed.decode().splitlines()}
             seen.update(f"{call.command}{without}: {kind}" for kind in kinds - {None})

@@ -6,6 +6,8 @@ the line.
 
 Some examples use files that earlier ones wrote. So an example that is run alone runs those before it, too. All run in a copy of the
 folders, whose ./shardscrub is a script of the test. Each has a shell of its own; what an example NAME=$(mktemp -d) sets stays set.
+
+The same examples are in the installed pages, with other paths. They run in a folder of the reader's.
 """
 import json
 import os
@@ -20,9 +22,10 @@ from functools import cache
 from pathlib import Path
 from typing import NamedTuple
 
+from lib.cases import Case
 from lib.disks import Disk, run, shard, uuid
 from lib.made_up import Made, Tended
-from lib.program import TOP, absent
+from lib.program import TOP, absent, need
 from reference.shardscrub import Image, lost_by_map, read_map, sizes, summary
 
 try:
@@ -35,7 +38,14 @@ except ImportError:
 
 PAGES = {"Examples": "examples/README.md", "Readme": "README.md", "Reading": "docs/READING.md",
          "Reclaiming": "docs/RECLAIMING.md", "Manual": "docs/shardscrub.1"}
-TOOLS = {"jq": r"jq|rows?", **{tool: tool for tool in ("ddrescue", "parallel", "python3")}}
+# The same pages below the prefix of an installation.
+INSTALLED = {page: path if page == "Manual" else f"share/doc/shardscrub/{path}" for page, path in PAGES.items()} | {
+    "Manual": "share/man/man1/shardscrub.1"}
+# Of each tool that a machine may lack: the words of a command that needs it. view/row and view/metrics need some themselves.
+TOOLS = {"jq": r"jq|rows?", "flock": "rows?", "awk": "awk|rows?|metrics", **{tool: tool for tool in (
+    "cmp", "ddrescue", "diff", "ldd", "od", "parallel", "python3", "tar", "xargs")}}
+# Commands that write to files that they name, beside `>`.
+WRITERS = re.compile(r"(?:^|[;|(] *)(?:cp|dd|ddrescue|python3) ")
 
 
 class Example(NamedTuple):
@@ -45,20 +55,31 @@ class Example(NamedTuple):
     wanted: str
 
 
-def lines_of(page):
-    """The lines of a page. The man page gets the form of the other pages: its blocks are between .EX and .EE, and it calls the
-    program shardscrub."""
-    text = (TOP / PAGES[page]).read_text(encoding="utf-8")
+def lines_of(page, prefix=None):
+    """The lines of a page, or of the page that is installed below a prefix. The man page gets the form of the other pages: its blocks
+    are between .EX and .EE, and among the sources it calls the program shardscrub."""
+    text = (TOP / PAGES[page] if prefix is None else prefix / INSTALLED[page]).read_text(encoding="utf-8")
     if page == "Manual":
-        text = re.sub(r"^\.E[XE]$", "```", text.replace("\\-", "-"), flags=re.MULTILINE)
-        text = re.sub(r"^\$ shardscrub ", "$ ./shardscrub ", text, flags=re.MULTILINE)
+        text = re.sub(r"^\.E[XE]$", "```", text.replace("\\-", "-").replace("\\e", "\\"), flags=re.MULTILINE)
+        if prefix is None:
+            text = re.sub(r"^\$ shardscrub ", "$ ./shardscrub ", text, flags=re.MULTILINE)
     return text.splitlines()
 
 
-def examples_of(page):
+def without_sources(lines):
+    """The lines of a page, with an empty one for each that isn't installed."""
+    is_left_out = False
+    for line in lines:
+        is_left_out = is_left_out or line == "<!-- not installed -->"
+        yield "" if is_left_out else line
+        is_left_out = is_left_out and line != "<!-- installed -->"
+
+
+def examples_of(page, prefix=None, are_sources_left_out=False):
     """The examples of a page, in its order."""
     found, is_inside, is_output = [], False, False
-    for number, line in enumerate(lines_of(page), 1):
+    lines = lines_of(page, prefix)
+    for number, line in enumerate(without_sources(lines) if are_sources_left_out else lines, 1):
         if line.startswith("```"):
             is_inside, is_output = not is_inside, False
         elif is_inside and line.startswith("$ "):
@@ -84,24 +105,42 @@ def starting(program):
     return f'#!/bin/sh\nexec {shlex.quote(str(program))} "$@"\n'
 
 
+def writes(command, path):
+    """Whether a command may write to a file: by `>`, where a variable of the shell may be any word, or as one that writes to files which
+    it names."""
+    targets = (re.split(r"\$(?!files\b)\w+", target) for target in re.findall(r">(\$files/[\w./$-]+)", command))
+    return (any(re.fullmatch(r"[\w-]+".join(map(re.escape, parts)), path) for parts in targets)
+            or path in command and WRITERS.search(command) is not None)
+
+
 class Transcript:
     """What the examples print. Each is run once, in their order. `script` gives the text of their ./shardscrub."""
 
+    # The module and the beginning of the class that its tests are named by.
+    name = "test_examples."
+
     def __init__(self, script):
-        self.script, self.examples, self.printed, self.folder = script, all_examples(), [], None
+        self.script, self.printed, self.folder, self.needed = script, [], None, {}
+        # The examples that name the tests, and those that are run.
+        self.examples = self.commands = all_examples()
 
     def close(self):
         if self.folder is not None:
             self.folder.cleanup()
 
     def tools(self, number):
-        """The tools that an example needs, and those of the examples that wrote its files."""
-        command = self.examples[number].command
-        found = {tool for tool, words in TOOLS.items() if re.search(rf"\b(?:{words})\b", command)}
-        for path in re.findall(r"\$files/[\w./-]+", command):
-            writers = [earlier for earlier in range(number) if f">{path}" in self.examples[earlier].command]
-            found |= self.tools(writers[-1]) if writers else set()
-        return found
+        """The tools that an example needs, and those of all examples that may have written to its files, since these have their
+        folder."""
+        if number not in self.needed:
+            command = self.examples[number].command
+            self.needed[number] = {tool for tool, words in TOOLS.items() if re.search(rf"\b(?:{words})\b", command)}
+            paths = re.findall(r"\$files/[\w./-]+", command)
+            for earlier in reversed(range(number if paths else 0)):
+                if self.examples[earlier].command == "files=$(mktemp -d)":
+                    break
+                if any(writes(self.examples[earlier].command, path) for path in paths):
+                    self.needed[number] |= self.tools(earlier)
+        return self.needed[number]
 
     def make_folders(self):
         """Copies what the examples use, and makes the folder for what they write."""
@@ -124,7 +163,7 @@ class Transcript:
         if self.folder is None:
             self.make_folders()
         while len(self.printed) <= number:
-            self.printed.append(self.run(self.examples[len(self.printed)]))
+            self.printed.append(self.run(self.commands[len(self.printed)]))
         return self.printed[number]
 
     def run(self, example):
@@ -137,6 +176,49 @@ class Transcript:
                            stderr=subprocess.STDOUT)
             out.seek(0)
             return out.read().decode("utf-8", "replace")
+
+
+class Installed(Transcript):
+    """What the examples of the installed pages print. They are those of the sources, but for some that only the sources can do, and have
+    the installed paths. They run in a folder of their own, with the installed program on the path."""
+    name = "test_package.Installed"
+
+    def __init__(self):
+        super().__init__(None)
+        self.examples = [example for page in PAGES for example in examples_of(page, are_sources_left_out=True)]
+
+    def make_folders(self):
+        # A path whose characters mean something to a shell or to sed.
+        self.folder = tempfile.TemporaryDirectory(prefix="shardscrub-installed-")
+        prefix, self.top, passing = (Path(self.folder.name, name) for name in ("it's new (a & b)", "top", "passing"))
+        subprocess.run([TOP / "release/install", prefix], check=True, env={name: os.environ[name] for name in ("PATH",)})
+        self.top.mkdir()
+        passing.mkdir()
+        self.environment = os.environ | {"TMPDIR": str(passing), "PATH": f"{prefix}/bin{os.pathsep}{os.environ['PATH']}"}
+        # An example that isn't there prints nothing that anybody wants.
+        none = Example("", 0, "", None)
+        self.commands = []
+        for page in PAGES:
+            count = sum(example.page == page for example in self.examples)
+            self.commands += (examples_of(page, prefix) + [none] * count)[:count]
+
+
+class ExampleCase(Case):
+    """An example of a page, named by its line."""
+
+    def __init__(self, transcript, number):
+        super().__init__("check")
+        self.transcript, self.number, self.example = transcript, number, transcript.examples[number]
+
+    def id(self):
+        return f"{self.transcript.name}{self.example.page}.test_line_{self.example.line:04}"
+
+    def check(self):
+        for tool in sorted(self.transcript.tools(self.number)):
+            need(tool)
+        found = self.transcript.up_to(self.number)
+        command = self.transcript.commands[self.number]
+        self.same(f"$ {command.command}\n", found, command.wanted)
 
 
 # Disks of a list, as view/row takes them

@@ -110,7 +110,7 @@ class Engine:
     def manifest(self, drive, resets=()):
         """The manifest, whether its status is 0, and the remarks."""
         if self.program is None:
-            return *reference.manifest(drive.image(), resets), reference.superblock_remarks(drive.image())
+            return reference.manifest(drive.image(), resets)
         text, remarks, is_good = self.answer(drive, "manifest", *(f"--reset={e}" for e in resets))
         return text.decode(), is_good, remarks
 

@@ -26,12 +26,13 @@ NAMED = "SHARDSCRUB_PROGRAM"
 NO_PROGRAM = 70
 # The package of Debian that each tool is in.
 PACKAGES = {
-    "bash": "bash", "cc": "gcc", "chromedriver": "chromium-driver", "chromium": "chromium", "ddrescue": "gddrescue", "dpkg": "dpkg",
-    "dpkg-deb": "dpkg", "dpkg-parsechangelog": "dpkg-dev", "fish": "fish", "flock": "util-linux", "git": "git", "groff": "groff-base",
-    "jq": "jq", "lintian": "lintian", "losetup": "mount", "make": "make", "man": "man-db", "mandoc": "mandoc", "node": "nodejs",
-    "objdump": "binutils", "parallel": "parallel", "promtool": "prometheus", "python3": "python3", "strace": "strace",
-    "systemd-analyze": "systemd", "zsh": "zsh",
-    "Python's jsonschema": "python3-jsonschema", "Python's selenium": "python3-selenium", "Python's yaml": "python3-yaml",
+    "awk": "mawk", "bash": "bash", "cc": "gcc", "chromedriver": "chromium-driver", "chromium": "chromium", "cmp": "diffutils",
+    "ddrescue": "gddrescue", "diff": "diffutils", "dpkg": "dpkg", "dpkg-deb": "dpkg", "dpkg-parsechangelog": "dpkg-dev",
+    "find": "findutils", "fish": "fish", "flock": "util-linux", "git": "git", "groff": "groff-base", "gzip": "gzip", "jq": "jq",
+    "ldd": "libc-bin", "lintian": "lintian", "losetup": "mount", "make": "make", "man": "man-db", "mandoc": "mandoc", "node": "nodejs",
+    "objdump": "binutils", "od": "coreutils", "parallel": "parallel", "promtool": "prometheus", "python3": "python3",
+    "strace": "strace", "systemd-analyze": "systemd", "tar": "tar", "xargs": "findutils", "zsh": "zsh",
+    "choom": "util-linux", "Python's jsonschema": "python3-jsonschema", "Python's selenium": "python3-selenium", "Python's yaml": "python3-yaml",
 }
 # Some tools are in folders that only a superuser's path has.
 os.environ["PATH"] = os.pathsep.join(dict.fromkeys([*os.get_exec_path(), "/usr/local/sbin", "/usr/sbin", "/sbin"]))
@@ -82,11 +83,32 @@ def absent(tool):
     return f"{tool} isn't there: install {PACKAGES[tool]}"
 
 
-def need(tool):
-    """Skips the test that calls this if there is no such command."""
-    why = absent(tool)
-    if shutil.which(tool) is None:
-        raise unittest.SkipTest(why)
+def need(*tools):
+    """Skips the test that calls this if there isn't each of these commands."""
+    for tool in tools:
+        why = absent(tool)
+        if shutil.which(tool) is None:
+            raise unittest.SkipTest(why)
+
+
+# What view/row, view/metrics, release/package and build, which ./shardscrub asks for its program, call beside what each machine has.
+ROW_TOOLS, METRICS_TOOLS, PACKAGE_TOOLS = ("jq", "flock", "awk"), ("awk",), ("dpkg-deb", "awk", "xargs", "gzip")
+BUILD_TOOLS = ("awk", "cmp", "find", "xargs")
+
+
+def path_without(tool, folder):
+    """A path on which this tool isn't. In place of a folder that has it, there is one of links to all else in it."""
+    places = []
+    for number, place in enumerate(os.get_exec_path()):
+        if os.access(os.path.join(place, tool), os.X_OK):
+            links = Path(folder, f"path-{number}")
+            if not links.is_dir():
+                links.mkdir(parents=True)
+                for name in set(os.listdir(place)) - {tool}:
+                    (links / name).symlink_to(Path(place, name).absolute())
+            place = str(links)
+        places.append(place)
+    return os.pathsep.join(places)
 
 
 # For tests of ./shardscrub
