@@ -19,7 +19,8 @@ use Rattle.scrub_check.proofs.StatusThere.{some_checked, some_read_runs}
 use Rattle.scrub_pool.specs.Passes.{one_list}
 use Rattle.scrub_pool.specs.Takings.{TakingsValue}
 use Rattle.scrub_found.specs.Takings.{ArePlannedExtents, AreTakingsBy}
-use Rattle.scrub_found.specs.Resets.{IsScrubbedBut, IsScrubbedFrom}
+use Rattle.scrub_found.specs.Resets.{IsScrubbedBut}
+use Rattle.scrub_found.specs.GivenRuns.{IsScrubbedFrom}
 use Rattle.scrub_found.specs.Scrubbed.{Scrubbed, is_in_doubt}
 use Rattle.scrub_found.proofs.GivenPlans.{plan_from_fits, some_plan_from}
 use Rattle.scrub_found.proofs.OneIndex.{read_runs_are_runs}

@@ -19,8 +19,9 @@ use Rattle.scrub_scan.specs.AllFindings.{AreAllFindings}
 use Rattle.scrub_scan.specs.Scanned.{Scanned}
 use Rattle.scrub_check.specs.WholeScan.{IsWholeScan}
 use Rattle.scrub_pool.specs.Takings.{IsPartition, TakingsValue}
-use Rattle.scrub_found.specs.GivenTakings.{AreTakingsFrom}
-use Rattle.scrub_found.specs.Resets.{FollowsFrom, IsPlanBut}
+use Rattle.scrub_found.specs.GivenRuns.{AreTakingsFrom}
+use Rattle.scrub_found.specs.Resets.{IsPlanBut}
+use Rattle.scrub_found.specs.GivenRuns.{FollowsFrom}
 use Rattle.scrub_found.proofs.ResetPlans.{one_plan_but, planned_but, whole_but}
 
 -- ---- by the choice, as if extents had been reset

@@ -24,7 +24,7 @@ use Rattle.scrub_check.specs.WholeScan.{IsWholeScan}
 use Rattle.scrub_found.specs.declared.judging.Judged.{Judged}
 use Rattle.scrub_found.specs.declared.runs.RunRow.{RunRow}
 use Rattle.scrub_found.specs.declared.scanning.Scan.{Scan}
-use Rattle.scrub_found.specs.Resets.{FollowsFrom, IsScrubbedFrom}
+use Rattle.scrub_found.specs.GivenRuns.{FollowsFrom, IsScrubbedFrom}
 use Rattle.scrub_found.specs.Scrubbed.{Scrubbed, entry_counts, is_clean_choice, is_clean_extent, is_in_doubt}
 
 module _ {D : Type 0} where

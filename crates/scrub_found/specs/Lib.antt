@@ -3,5 +3,5 @@ pub mod Scrubbed
 pub mod Resets
 pub mod Texts
 pub mod Takings
-pub mod GivenTakings
+pub mod GivenRuns
 pub mod Judged

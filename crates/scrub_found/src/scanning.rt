@@ -6,9 +6,10 @@ ghost use Rattle.scrub_frame.specs.declared.locator.Locator.{Locator};
 ghost use Rattle.scrub_frame.specs.Locator.{IsLocator};
 ghost use Rattle.scrub_super.specs.Chosen.{IsChoice};
 ghost use Rattle.scrub_found.specs.Takings.{ArePlannedExtents, AreTakingsBy};
-ghost use Rattle.scrub_found.specs.GivenTakings.{AreTakingsFrom};
+ghost use Rattle.scrub_found.specs.GivenRuns.{AreTakingsFrom};
 ghost use Rattle.scrub_found.specs.Judged.{IsScan, IsScanBut, IsScanFrom};
-ghost use Rattle.scrub_found.specs.Resets.{FollowsFrom, IsPlanBut};
+ghost use Rattle.scrub_found.specs.Resets.{IsPlanBut};
+ghost use Rattle.scrub_found.specs.GivenRuns.{FollowsFrom};
 ghost use Rattle.std.specs.List.Sorted.{IsStrictlyIncreasing};
 
 use crate::fault::ScrubFault;

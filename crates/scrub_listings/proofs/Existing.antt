@@ -6,7 +6,8 @@ use Rattle.scrub_frame.specs.Locator.{IsLocator}
 use Rattle.scrub_super.specs.steps.Limits.{AreRunLocators}
 use Rattle.scrub_super.proofs.PagesThere.{some_pages}
 use Rattle.scrub_super.proofs.RecordsThere.{some_choice}
-use Rattle.scrub_found.specs.Resets.{IsScrubbedBut, IsScrubbedFrom}
+use Rattle.scrub_found.specs.Resets.{IsScrubbedBut}
+use Rattle.scrub_found.specs.GivenRuns.{IsScrubbedFrom}
 use Rattle.scrub_found.specs.Scrubbed.{Scrubbed, is_clean_disk}
 use Rattle.scrub_found.proofs.Existing.{some_scrub, some_scrub_from}
 use Rattle.scrub_found.proofs.GivenPlans.{plan_from_fits}

@@ -21,7 +21,7 @@ use Rattle.scrub_check.specs.declared.statuses.checked.Checked.{Checked}
 use Rattle.scrub_check.specs.declared.statuses.status.Status.{Status}
 use Rattle.scrub_check.specs.Checked.{is_dangling, is_hidden, is_owned_by, is_sound}
 use Rattle.scrub_check.specs.ChunkForms.{form_at}
-use Rattle.scrub_found.specs.Resets.{IsScrubbedFrom}
+use Rattle.scrub_found.specs.GivenRuns.{IsScrubbedFrom}
 use Rattle.scrub_found.specs.Scrubbed.{Scrubbed}
 use Rattle.scrub_found.specs.Texts.{owner_text, status_text, uuid_text}
 use Rattle.scrub_loose.specs.Loose.{AreLoose, LooseValue, best_of}

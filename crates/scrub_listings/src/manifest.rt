@@ -14,7 +14,7 @@ ghost use Rattle.scrub_scan.specs.Line.{spaced};
 ghost use Rattle.scrub_check.specs.Checked.{is_hidden, named_of};
 ghost use Rattle.scrub_check.specs.Named.{named_by_shard};
 ghost use Rattle.scrub_found.specs.Takings.{AreTakingsBy};
-ghost use Rattle.scrub_found.specs.GivenTakings.{AreTakingsFrom};
+ghost use Rattle.scrub_found.specs.GivenRuns.{AreTakingsFrom};
 ghost use Rattle.scrub_found.specs.Judged.{IsScanFrom};
 ghost use Rattle.scrub_listings.specs.Manifest.{HoldTheSame, HoldsBytes, IsManifestBut, IsManifestFrom};
 ghost use Rattle.scrub_listings.specs.Manifest.{IsRemarkedManifest, all_traits, after_status, copy_word};

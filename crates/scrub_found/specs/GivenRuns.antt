@@ -1,10 +1,25 @@
--- What a scan takes by index runs that are given.
+-- What is found on a disk, and what a scan takes, as if a superblock counted that lists given index runs.
 use Rattle.std.specs.Prelude.{◌≡◌, ◌+◌, [], ℕ, List, Option, None, Some, length}
 use Rattle.scrub_disk.specs.Image.{Image}
 use Rattle.scrub_frame.specs.declared.locator.Locator.{Locator}
+use Rattle.scrub_super.specs.Chosen.{Choice}
+use Rattle.scrub_super.specs.GivenRuns.{plan_listing}
+use Rattle.scrub_super.specs.Plan.{PlanValue}
 use Rattle.scrub_super.specs.Planned.{extents_in_use}
 use Rattle.scrub_pool.specs.Takings.{IsPartition, TakingsValue}
+use Rattle.scrub_found.specs.Resets.{IsPlanBut}
+use Rattle.scrub_found.specs.Scrubbed.{IsScrubbedBy, Scrubbed}
 use Rattle.scrub_found.specs.Takings.{AreTakingsBy}
+
+-- the plan follows from the choice, as if these extents had been reset; or, where index runs are given, it is that of a disk on which
+-- one superblock counts that lists these runs, retires nothing, and has each write pointer at its extent's end
+abbrev pub FollowsFrom : Option (List Locator) → List ℕ → Choice → PlanValue → Type 0
+FollowsFrom None resets = IsPlanBut resets
+FollowsFrom (Some runs) resets = λ choice plan. plan ≡ plan_listing choice.geometry runs
+
+-- each part of what is found is as it is in the image, with the plan that follows so
+abbrev pub IsScrubbedFrom : Option (List Locator) → List ℕ → Image → Scrubbed → Type 0
+IsScrubbedFrom given resets image s = IsScrubbedBy (FollowsFrom given resets) image s
 
 -- what a scan of all extents but extent 0 by this many workers beside the caller took: a list for each of them and one for the caller,
 -- which may be empty; each extent is in one of them, once; and how many extents were counted, which is all
