@@ -2,6 +2,11 @@
 page or a superblock goes, a node writes, or the power fails. Leaves out boxes and rules, one at a time, and sees that they are needed. Also
 holds the laws of spares, copies, resets, manifests and shards on pairs of images. fuzz/checklist.py does so on others, and prints which box
 stops what."""
+import os
+import select
+import signal
+import subprocess
+import sys
 from collections import Counter
 
 from lib.cases import Case, RoomCase, add_tests
@@ -9,10 +14,13 @@ from lib.laws import hold_laws_on
 from lib.mistakes import MISTAKES
 from lib.node import Engine
 from lib.outcomes import DEAD_END, HARMLESS, NEEDED, TOO_LATE, UNSEEN, judge_mistake, judge_without
+from lib.program import TOP
 from lib.trials import trials
 from lib.walk import walk_honestly
 
 SEED, LAWS, WALKS, TRIES = 1, 200, 120, 2
+# How long the first row of a table may take.
+SECONDS = 100
 BY_NAME = {one.name: one for one in MISTAKES}
 
 
@@ -55,6 +63,23 @@ class Needed(EngineCase):
 
     def test_the_way_back_of_box_7(self):
         self.check(*DEAD_END)
+
+
+class Table(RoomCase):
+    """fuzz/checklist.py, which prints a table."""
+
+    def test_it_says_how_long_it_takes_and_prints_as_it_goes(self):
+        """The first row comes through a pipe while there is more to do than anybody waits for."""
+        words = ["--table", "--laws", "100000", "--disks", "0", "--tries", "1", "--program", self.program]
+        begun = subprocess.Popen([sys.executable, TOP / "fuzz/checklist.py", *words], stdin=subprocess.DEVNULL, stdout=subprocess.PIPE,
+                                 stderr=subprocess.PIPE, text=True, start_new_session=True)
+        with begun:
+            has_come, _, _ = select.select([begun.stdout], [], [], SECONDS)
+            row = begun.stdout.readline() if has_come else ""
+            os.killpg(begun.pid, signal.SIGKILL)
+            error = begun.stderr.read()
+        self.true("the first row", row.startswith(f"{MISTAKES[0].name}: "), row)
+        self.true("how long", error.startswith("fuzz/checklist.py: this takes about ") and " minutes of one processor\n" in error, error)
 
 
 class Lists(Case):
