@@ -1,5 +1,5 @@
 -- Each image has all that a scan finds on it, also as if extents had been reset, and planned extents that can be taken.
-use Rattle.std.proofs.Common.{◌≡◌, ◌∷◌, ◌++◌, [], ℕ, zero, suc, List, Option, None, IfSome, length, replicate, arith, refl, sym, ◌∙◌, ap, subst, tt}
+use Rattle.std.proofs.Common.{◌≡◌, ◌∷◌, ◌++◌, [], ℕ, zero, suc, List, Option, None, IfSome, length, replicate, arith, refl, sym, ◌∙◌, ap, subst}
 use Rattle.std.specs.List.Sorted.{IsPermutation, IsStrictlyIncreasing}
 use Rattle.std.proofs.lemmas.List.{append-nil, length-replicate}
 use Rattle.std.proofs.lemmas.List.Elements.{All-cons, All-replicate}

@@ -1,5 +1,5 @@
 -- Each image has a manifest, remarks, a summary, and listings of its locators and superblocks.
-use Rattle.std.proofs.Common.{◌==◌, ◌&&◌, ◌<◌, ◌^◌, ℕ, Bool, All, List, Option, None, Some, IfSome, [], length, refl, tt}
+use Rattle.std.proofs.Common.{◌==◌, ◌&&◌, ◌<◌, ◌^◌, ℕ, Bool, All, List, Option, None, Some, IfSome, [], length, refl}
 use Rattle.scrub_disk.specs.Image.{Image}
 use Rattle.scrub_frame.specs.declared.locator.Locator.{Locator}
 use Rattle.scrub_frame.specs.Locator.{IsLocator}
