@@ -103,10 +103,10 @@ fn scan_planned<'d, D: PageSource, G: Gate, R: Threads + Wait + Sync>(
     requires geometry { plan.geometry ≡ (D.image disk.now).geometry }
     ensures image { IfOk result (λ r. D.image r.0.disk.now ≡ D.image disk.now) }
     ensures scan { (given : Option (List Locator)) (resets : List ℕ) →
-        IsChoice (D.image disk.now) chosen.entry → FollowsFrom given resets chosen.entry plan.entry →
+        IsChoice (D.image disk.now) chosen → FollowsFrom given resets chosen plan →
         IfOk result (λ r. IsScanFrom given resets (D.image r.0.disk.now) r.0) }
     ensures takings { (given : Option (List Locator)) (resets : List ℕ) →
-        IsChoice (D.image disk.now) chosen.entry → FollowsFrom given resets chosen.entry plan.entry →
+        IsChoice (D.image disk.now) chosen → FollowsFrom given resets chosen plan →
         IfOk result (λ r. AreTakingsFrom given (D.image disk.now) workers r.1) }
 {
     let (queue, mut first) = ExtentQueue::new(rt, alloc, &plan)?;
