@@ -49,6 +49,9 @@ INSTALLED = {
     "share/shardscrub/view/monitoring/cron": (0o644, "view/monitoring/cron"),
     "share/shardscrub/view/monitoring/nightly": (0o755, "view/monitoring/nightly"),
     "share/shardscrub/view/monitoring/shardscrub.rules.yml": (0o644, "view/monitoring/shardscrub.rules.yml"),
+    # Links to the units.
+    "share/shardscrub/view/monitoring/shardscrub@.service": (0o777, "view/monitoring/shardscrub@.service"),
+    "share/shardscrub/view/monitoring/shardscrub@.timer": (0o777, "view/monitoring/shardscrub@.timer"),
     "share/shardscrub/view/questions.jq": (0o644, "view/questions.jq"),
     "share/shardscrub/view/report.html": (0o644, "view/report.html"),
     "share/shardscrub/view/row": (0o755, "view/row"),

@@ -17,13 +17,16 @@ from lib.examples import image_of, listed, summary_of
 from lib.page import (DISKS, PAGE, WRONG_PAGES, Browser, Pictured, disks, file, made_up_report, script_in, text_of_page, value,
                       written)
 from lib.program import ROW_TOOLS, TOP, need, program
+from reference.shardscrub import reclaimable, refusal, summary
 
 POLICY = ("default-src 'none'; script-src 'unsafe-inline'; style-src 'unsafe-inline'; connect-src 'self'; base-uri 'none'; "
           "form-action 'none'")
 # Each choice of the outputs beside a report.
 CHOICES = [some for count in range(5) for some in combinations(["summary", "superblocks", "locators", "reclaimable"], count)]
-# A sound disk.
-SOUND = Pictured(image_of(listed()[0]))
+# A sound disk, and the same one later: a page of its shard can't be read any more.
+SOUND, LATER = (Pictured(image_of(listed()[0].removesuffix("-") + page)) for page in ("-", "1:0"))
+# The standing of a disk whose files are of two scans.
+MIXED = "not judged: different scans"
 
 
 def files_of(name, disk, outputs):
@@ -86,6 +89,7 @@ class Answers(PageCase):
             for shown, (name, disk) in zip(self.value(SHOWN, files=files), disks().items(), strict=True):
                 self.same("the disk", shown["name"], name)
                 self.check_shown(f"{name} with {some}", shown, disk, some)
+        self.same("the dates of its files", self.value("fileText({command: 'scan', file: 'a.json', time: 1e12 + 999})"), "scan: a.json, 2001-09-09T01:46:40Z")
         verdicts = {disk.outputs["summary"].splitlines()[0].split()[1] for disk in disks().values()}
         self.same("the verdicts that occur", verdicts, {"sound", "doubt", "wrong"})
 
@@ -346,6 +350,82 @@ class Layout(PageCase):
         self.same("the pieces", [[one["shown"], one["count"]] for one in found], [[0, 1], [1, 4], [2, 2], [2, 2], [-1, 0]])
 
 
+class Scans(PageCase):
+    """Files of two scans are never one picture."""
+
+    # What a summary may say that the report doesn't.
+    DIFFERENT = {"page_bytes": 128, "superblock_generation": 6, "shards": 4, "shards_broken": 0, "unreadable_pages": 0, "verdict": "sound"}
+
+    def changed(self, key, output="summary"):
+        return re.sub(rf"^{key} .*$", f"{key} {self.DIFFERENT[key]}", disks()["several findings"].outputs[output], flags=re.M)
+
+    def shown(self, files):
+        """What is shown of the disk in these files: its standing, its verdict, whether a number is known, and the differences."""
+        one, = self.value(f"[...{DISKS}.values()].map((disk) => [entryOf(disk, 0), verdictText(disk), disk.differences, shownTogether(disk)])", files=files)
+        entry, verdict, differences, together = one
+        return entry["standing"], verdict, [entry[key] for key in ("broken", "unreadable", "gain", "doubts")], differences, list(together)
+
+    def check_mixed(self, what, texts, key):
+        """In either order they are of different scans, and one of the differences has this name."""
+        files = [file(f"folder{number}/a.{ending}", text) for number, (ending, text) in enumerate(texts)]
+        for some in (files, files[::-1]):
+            standing, verdict, numbers, differences, together = self.shown(some)
+            self.same(what, (standing, verdict, numbers, set(together) <= {"scan"}),
+                      (MIXED, "not judged: these files are of different scans", [None, None, None, 0], True))
+            self.same(f"{what}: {key}", [one for one in differences if key in one] != [], True)
+
+    def test_each_difference(self):
+        report, outputs = written(disks()["several findings"].report), disks()["several findings"].outputs
+        for key in self.DIFFERENT:
+            self.check_mixed(f"another {key}", [("json", report), ("summary", self.changed(key)), ("reclaimable", outputs["reclaimable"])],
+                             "clean: false in scan, verdict sound in summary" if key == "verdict" else f"{key}: ")
+        self.check_mixed("a disk that was sound", [("json", written(LATER.report)), ("summary", SOUND.outputs["summary"])], "shards_broken: 0 in summary, 1 in scan")
+        places = "11111111-1111-1111-1111-111111111111 run 0"
+        for line, key in (("reclaim 1 12", "reclaim: 1 12 in reclaimable, none in scan"), ("doubt tail 1 9 3", "tail: 1 9 3 in reclaimable, none in scan"),
+                          ("accepted tail 1 9 3", "tail_bytes"), ("doubt tail-lost 1 2 3", "tail-lost"), ("doubt run-lost 0 no_frame", "runs_lost"),
+                          ("doubt tie", "superblock_tie"), ("doubt no-superblock", "page of the superblock"), ("doubt superblock-lost 3", "superblock-lost"),
+                          ("doubt last 7 8", "superblock_generation"), ("doubt last none 8", "superblock_generation"),
+                          (f"reclaim 1 9\nmove 1 0 3 {places} 41\nroom 2 4 5", "chunks_to_move"), ("reclaim 1 9\nlast-room 2 4 5", "bytes of an extent")):
+            self.check_mixed(line, [("json", written(SOUND.report)), ("reclaimable", line + "\n")], key)
+        self.check_mixed("superblocks", [("json", written(SOUND.report)), ("superblocks", disks()["rescued"].outputs["superblocks"])], "superblock-lost: 2 in superblocks, none in scan")
+        for first, second in combinations(("summary", "superblocks", "locators", "reclaimable"), 2):
+            # These two pairs say nothing under one name.
+            if (first, second) not in (("superblocks", "locators"), ("locators", "reclaimable")):
+                pair = SOUND.outputs[first], disks()["no-superblock"].outputs[second]
+                self.check_mixed(f"{first} and {second}", [(first, pair[0]), (second, pair[1])], f" in {first}")
+        self.same("six are named", self.value(f"reasonsOf({DISKS}.get('a'))", files=[file("a.json", written(LATER.report)), *files_of("a", SOUND, ["summary"])[1:]])[6],
+                  f"and {len(self.shown([file('a.json', written(LATER.report)), *files_of('a', SOUND, ['summary'])[1:]])[3]) - 6} more")
+
+    def test_two_answers(self):
+        """Two answers of a command that aren't the same are of two scans, too; one twice is one."""
+        for what, ending, one, other in (("summaries", "summary", SOUND.outputs["summary"], LATER.outputs["summary"]),
+                                         ("verdicts", "summary", SOUND.outputs["summary"], SOUND.outputs["summary"].replace("sound", "doubt")),
+                                         ("reports", "json", written(SOUND.report), written(LATER.report)),
+                                         ("generations", "json", written(made_up_report(2, 64, 2, 1)), written(made_up_report(2, 64, 2, 1)).replace("615", "614")),
+                                         ("lists", "reclaimable", "reclaim 1 9\n", "")):
+            self.check_mixed(f"two {what}", [(ending, one), (ending, other)], "there are two answers")
+            self.same(f"one of two {what} twice", self.shown([file(f"{folder}/a.{ending}", one) for folder in "xy"])[3], [])
+        refused = '{"disk":"a","status":2,"text":"","lines":null}\n'
+        self.check_mixed("an answer, and none", [("reclaimable", "reclaim 1 9\n"), ("jsonl", refused)], "and one is that there is none")
+        row = rows_of("a", SOUND)
+        self.check_mixed("two answers, and none", [("jsonl", row["summary"] + row["scan"]), ("jsonl", '{"disk":"a","status":3,"text":""}\n')],
+                         "and one is that there is none")
+
+    def test_files_of_one_scan(self):
+        """They never differ, whatever --last and --accept say."""
+        lines = set()
+        for name, disk in [*disks().items()][::2 if self.failures is None else 6]:
+            generation = disk.report["super"]["generation"] or 0
+            for last in (generation, generation + 1):
+                doubts = [line.removeprefix("doubt ") for line in reclaimable(disk.image, (), last)[0].splitlines() if line.startswith("doubt ")]
+                for some in ([], [doubt for doubt in doubts if refusal(doubt) is None]):
+                    outputs = disk.outputs | {"summary": summary(disk.image, last)[0], "reclaimable": reclaimable(disk.image, some, last)[0]}
+                    lines.update((outputs["summary"].split("\n")[0], *(line.split(" ")[0] for line in outputs["reclaimable"].splitlines())))
+                    files = [file("a.json", written(disk.report)), *(file(f"a.{output}", text) for output, text in outputs.items())]
+                    self.same(f"{name}, --last {last}, accepted {some}", self.shown(files)[3], [])
+        self.same("what occurs", lines, {"verdict sound", "verdict doubt", "verdict wrong", "doubt", "accepted", "reclaim", "move", "room", "last-room"})
+
+
 class Fleet(PageCase):
     """The table of many disks."""
 
@@ -390,12 +470,29 @@ class Fleet(PageCase):
             self.same(f"{count} disks: ages", {cells[5] for cells in texts[1]}, {"2 h"})
             self.same(f"{count} disks: soon enough", took < 2, True)
 
+    def test_the_order_of_READING(self):
+        """The worst first is the order of READING's filter."""
+        need("jq")
+        reading = (TOP / "docs/READING.md").read_text(encoding="utf-8")
+        order, = re.findall(r"^\$ jq -r -s '(sort_by\(.*\))\[:6\]\[\] \|", reading, re.M)
+        choice, keys = random.Random(7), ("shards", "superblock_tie", "runs_lost", "shards_broken", "unreadable_pages")
+        rows = ['{"disk":"d00","status":3,"text":"x"}\n']
+        for number in range(1, 60):
+            values = [choice.choice((0, 3)), *(choice.choice((0, 0, most)) for most in (1, 2)), choice.randrange(3), choice.randrange(3)]
+            verdict = "wrong" if any(values[1:]) else choice.choice(("wrong", "doubt", "sound"))
+            row = rows_of(f"d{number:02}", SOUND)["summary"].replace('"sound"', f'"{verdict}"')
+            rows.append(re.sub(f'"({"|".join(keys)})":[0-9]+', lambda found: f'"{found[1]}":{values[keys.index(found[1])]}', row))
+        choice.shuffle(rows)
+        right = subprocess.run(["jq", "-r", "-s", order + "[].disk"], input="".join(rows), capture_output=True, encoding="utf-8", check=True).stdout
+        self.same("the disks", self.entries(rows, columns=[["standing", False]]), [right.split()])
+
     def test_columns(self):
         """A click sorts by a column, another one the other way round. What isn't known comes last at first."""
         numbers = {"a10": (1, 0, 5), "a9": (3, 7, 0), "b": (0, 2, 9)}
         rows = [row for name, (broken, unreadable, free) in numbers.items() for row in (
             rows_of(name, SOUND)["summary"].replace('"shards_broken":0', f'"shards_broken":{broken}')
-            .replace('"unreadable_pages":0', f'"unreadable_pages":{unreadable}'),
+            .replace('"unreadable_pages":0', f'"unreadable_pages":{unreadable}')
+            .replace('"candidates":0,"candidate_bytes":0', f'"candidates":2,"candidate_bytes":{free + 1}'),
             json.dumps({"disk": name, "status": 0, "text": "", "lines": [["reclaim", "1", str(free)], ["reclaim", "2", "1"]]}) + "\n")]
         rows.append('{"disk":"c","status":4,"text":""}\n')
         wanted = {"name": ["a9", "a10", "b", "c"], "broken": ["a9", "a10", "b", "c"], "unreadable": ["a9", "b", "a10", "c"],
@@ -427,6 +524,9 @@ class Fleet(PageCase):
             shown = self.value(SHOWN, files=[file("a.jsonl", text)])
             self.same(what, [one["entry"]["standing"] for one in shown], [standing])
             self.same(f"{what}: the verdict", shown[0]["verdict"], "no answer" if standing == "no answer" else "not judged: open summary")
+            status = max(row["status"] for row in rows if "status" in row)
+            right = [f"status {status}, x"] if standing == "no answer" else ["reclaimable gave no answer: status 2, x"] if status else []
+            self.same(f"{what}: why, once", self.value(f"reasonsOf({DISKS}.get('a'))", files=[file("a.jsonl", text)]), right)
 
     def test_opened_later(self):
         """Other answers are added to a disk. A second answer of a command begins it anew, so that no old verdict stays beside new ones."""
@@ -481,7 +581,7 @@ HOSTILE = (
     ("a number twice", "x.jsonl", summary_row(('"runs_lost":0', '"runs_lost":0,"runs_lost":1')), "it has no runs_lost"),
     ("a row that is cut short", "x.jsonl", summary_row()[:-5] + "\n", "it isn't JSON, or it is cut short"),
     ("a summary after a right one", "x.jsonl", summary_row() + summary_row(('"tails":', '"tail":')), "line 2: it isn't a whole summary"),
-    ("two summaries of one disk", "x.jsonl", summary_row() * 2, "two answers of summary for the disk x"),
+    ("a report whose list has none", "x.json", written(SOUND.report | {"runs": [None]}), "a list is missing"),
     ("a summary with one more line", "x.summary", SOUND.outputs["summary"] + "more 1\n", "more lines than a summary"),
     ("a row with a line that isn't one", "x.jsonl", '{"disk":"x","status":0,"text":"","lines":[["reclaim","1"]]}\n',
      "line 1 isn't a line of reclaimable"),
@@ -509,6 +609,14 @@ class Files(PageCase):
             self.same(name, [[one["disk"], one["command"]] for one in self.value("answersOf(files)", files=[file(name, text)])], [right])
         found = self.value("answersOf(files)", files=[file("y.jsonl", written(SOUND.report) * 2)])
         self.same("lines without names", [one["disk"] for one in found], ["y, line 1", "y, line 2"])
+
+    def test_parts_of_addresses(self):
+        """A disk has an address, whatever its name is, and so has a place."""
+        for name, place in (("sda", None), ("several findings", {"extent": 3, "offset": 9}), ("a&b#c/%é=1:2", {"extent": 0, "offset": 0}), ("1:2", None)):
+            self.same(name, self.value("addressIn(addressOf(name, place))", name=name, place=place),
+                      {"name": name} | ({"place": place} if place else {}))
+        self.same("others", self.value("['', '#', '#3:9', '#disk=a', '#disk=%zz', '#disk=a&3:9', '#x'].map(addressIn)"),
+                  [{}, {}, {"place": {"extent": 3, "offset": 9}}, {"name": "a"}, {"name": "%zz"}, {"name": "a", "place": {"extent": 3, "offset": 9}}, {}])
 
     def test_addresses(self):
         """Only paths of the page's own origin are opened."""
@@ -622,24 +730,124 @@ class InBrowser(Case):
             fetch('http://localhost:1/').catch(() => setTimeout(() => done(null), 1000)); })""")
         self.same("the policy", violated, "connect-src")
 
+    def cells(self, number):
+        """The texts of the cells in a column of the table, without the rows that a filter hides."""
+        return self.browser.value(f"[...document.querySelectorAll('#disks tr:not([hidden]) td:nth-child({number})')].map((one) => one.textContent)")
+
+    def focused(self):
+        return self.browser.value("document.activeElement.id || document.activeElement.textContent")
+
     def test_a_fleet(self):
         """Forty and four thousand rows: a click on a title sorts them, one on a disk opens it."""
         for count in (40, 4000):
             names, rows = Fleet().fleet(count)
             self.same("the table", self.open("rows", {"jsonl": "".join(rows)}), "fleet")
-            shown = lambda: self.browser.value("[...document.querySelectorAll('#disks tr td:first-child')].map((one) => one.textContent)")
-            self.same("all disks", sorted(shown()), sorted(names))
+            self.same("all disks", sorted(self.cells(1)), sorted(names))
             self.browser.screenshot(f"fleet-{count}")
-            self.browser.value("document.querySelectorAll('#columns button')[0].click()")
-            self.same("by name", shown(), names)
-            self.browser.value("document.querySelectorAll('#disks tr')[1].click()")
-            self.same("the disk", self.browser.text("name"), names[1])
+            self.browser.value("document.querySelectorAll('#columns button')[0].focus()")
+            self.browser.press("Enter", 13)
+            self.same("by name", self.cells(1), names)
+            self.same("the focus is still there", self.focused(), "Disk")
+            self.browser.state()
+            self.browser.value("document.querySelectorAll('#disks td:last-child')[1].click()")
+            self.same("a disk", (self.browser.state(), self.browser.text("name")), ("answer main", names[1]))
             self.browser.value("document.getElementById('all').click()")
-            self.same("all disks again", shown(), names)
+            self.same("all disks again", (self.browser.state(), self.cells(1)), ("fleet", names))
+            self.browser.value("document.getElementById('filter').focus()")
+            self.browser.press("D", 68)
+            self.browser.press("7", 55)
+            self.same("a filter", self.cells(1), [name for name in names if "d7" in name])
+            self.same("its counts", self.browser.text("counts").split(":")[0], f"{sum('d7' in name for name in names)} of {count:,} disks")
+        self.same("the table's name", self.browser.value("document.querySelector('#fleet table').ariaLabel"), "Disks")
         self.browser.resize(420)
         heights = self.browser.value("[...document.querySelectorAll('#disks tr')].map((one) => one.offsetHeight)")
         self.browser.resize(1400)
         self.same("each row is one line in a narrow window, too", max(heights) < 40, True)
+
+    def test_two_scans(self):
+        """Forty disks of which three have files of two scans, and six more with a difference each: they come first, without a colour, a
+        number or a line to act on."""
+        report, outputs = disks()["several findings"].report, disks()["several findings"].outputs
+        names, rows = Fleet().fleet(40)
+        mixed = names[4:31:13]
+        rows = [row for row in rows if json.loads(row)["disk"] not in mixed]
+        for name in mixed:
+            later = rows_of(name, LATER)
+            rows += [later["scan"], later["reclaimable"], rows_of(name, SOUND)["summary"]]
+        six = {f"other-{key}": f'"{key}":{json.dumps(value)}' for key, value in Scans.DIFFERENT.items()}
+        for name, new in six.items():
+            of = rows_of(name, disks()["several findings"])
+            rows += [re.sub(rf'{new.split(":")[0]}:("[a-z]*"|[0-9]+)', new, of["summary"]), of["reclaimable"], of["scan"]]
+        wanted = sorted([*mixed, *six])
+        for turn, some in enumerate((rows, rows[::-1])):
+            self.same("the table", self.open("rows", {"jsonl": "".join(some)}), "fleet")
+            self.browser.screenshot(f"two-scans-{turn}")
+            self.same("they come first", sorted(self.cells(1)[:9]), wanted)
+            self.same("their standing", self.cells(2)[:10].count(MIXED), 9)
+            self.same("their numbers", {text for column in (3, 4, 5) for text in self.cells(column)[:9]}, {"–"})
+            same = self.browser.value("[...document.querySelectorAll('#disks .verdict')].slice(0, 9).map((one) => one.className.trim() + "
+                                      "(getComputedStyle(one).color === getComputedStyle(document.body).color))")
+            self.same("no colour", set(same), {"verdicttrue"})
+            for name in wanted:
+                self.browser.value(f"location.hash = 'disk={name}'")
+                self.same(name, (self.browser.state(), self.browser.text("name")), ("answer main", name))
+                self.same(f"{name}: the verdict", self.verdict(), ["not judged: these files are of different scans", "verdict", False])
+                key = name.removeprefix("other-") if name in six else "shards_broken"
+                self.same(f"{name}: why", ("clean" if key == "verdict" else key) in self.browser.text("reasons"), True)
+                shown = self.browser.value("['doubts', 'resets', 'rooms', 'numbers'].map((id) => document.getElementById(id).textContent)")
+                self.same(f"{name}: the lines", set(shown), {"not shown: these files are of different scans"})
+            self.browser.screenshot(f"two-scans-disk-{turn}")
+        texts = {"json": written(report), "summary": Scans().changed("shards"), "reclaimable": outputs["reclaimable"]}
+        self.open("one", texts)
+        self.same("files of one disk", self.verdict(), ["not judged: these files are of different scans", "verdict", False])
+
+    def test_no_answer(self):
+        """A disk without an answer says so once, and once why."""
+        row = {"disk": "a", "status": 3, "text": "shardscrub: image too long"}
+        self.same("the page", self.open("rows", {"jsonl": "".join(json.dumps(one) + "\n" for one in (row, row, row | {"lines": None}))}), "answer ")
+        shown = self.browser.value("document.body.innerText")
+        self.same("once", (shown.count("no answer"), shown.count("image too long")), (1, 1))
+
+    def test_addresses(self):
+        """A disk has an address. Back returns to the table and keeps the files; a reload says which files to open again."""
+        names, rows = Fleet().fleet(40)
+        path = self.browser.put("chosen.jsonl", "".join(rows))
+        for address in (PAGE.as_uri(), f"{self.browser.site}/report.html"):
+            self.browser.open(address)
+            self.browser.choose_files(path)
+            self.same("the table", self.browser.state(), "fleet")
+            order = self.cells(1)
+            self.browser.value("document.querySelectorAll('#disks a')[6].focus()")
+            self.browser.press("Enter", 13)
+            self.same("a disk", (self.browser.state(), self.browser.text("name"), self.browser.value("location.hash")),
+                      ("answer main", order[6], f"#disk={order[6]}"))
+            self.same("the focus", self.focused(), "name")
+            self.same("back", (self.browser.back(), self.cells(1), self.focused()), ("fleet", order, order[6]))
+            self.browser.value(f"location.hash = 'disk={order[9]}'")
+            self.same("an address", (self.browser.state(), self.browser.text("name")), ("answer main", order[9]))
+            self.browser.reload()
+            self.same("after a reload", self.browser.text("again"), "Open these files again: chosen.jsonl")
+            self.browser.choose_files(path)
+            self.same("the same disk", (self.browser.state(), self.browser.text("name"), self.browser.value("document.getElementById('again').checkVisibility()")),
+                      ("answer main", order[9], False))
+            self.same("back once more", (self.browser.back(), sorted(self.cells(1))), ("fleet", sorted(order)))
+        self.same("files in the address", (self.open("rows", {"jsonl": "".join(rows)}, "#disk=sd2"), self.browser.text("name")), ("answer main", "sd2"))
+        self.browser.open(PAGE.as_uri() + "#disk=sd2")
+        self.same("an address alone", self.browser.text("again"), "Open the files of the disk sd2")
+
+    def test_paper(self):
+        """Each page of the table has its titles. A list is printed whole, without its button, or says how much isn't."""
+        self.open("rows", {"jsonl": "".join(Fleet().fleet(150)[1])})
+        pages = self.browser.printed()
+        self.same("several pages", len(pages) > 2, True)
+        self.same("the titles", [page.count("Unreadable") for page in pages], [1] * len(pages))
+        self.open("one", disks()["several findings"].outputs)
+        text = "".join(self.browser.printed())
+        self.same("the summary", [text.count(f"{line.split()[0]} ") for line in disks()["several findings"].outputs["summary"].splitlines()[30:]], [1] * 7)
+        self.same("no button", "Show" in text, False)
+        self.open("many", {"reclaimable": "".join(f"doubt tail {extent} 1 1\n" for extent in range(1, 1502))})
+        text = "".join(self.browser.printed())
+        self.same("a very long list", [text.count(one) for one in ("doubt tail 1000 1 1", "doubt tail 1001 1 1", "501 more aren't printed.")], [1, 0, 1])
 
     def test_keys_and_pointer(self):
         browser, here = self.browser, lambda: self.browser.text("here").split("\n")[0]
@@ -679,8 +887,8 @@ class InBrowser(Case):
         bars = self.browser.value("document.querySelectorAll('#print canvas').length")
         self.same("the bars on paper", bars, disks()["several findings"].report["geometry"]["extents"])
         self.browser.call("Emulation.setEmulatedMedia", media="print")
-        on_paper = "['#tools', '#numbers button'].map((one) => document.querySelector(one).checkVisibility())"
-        self.same("paper says how many lines it leaves out", self.browser.value(on_paper), [False, True])
+        shown = self.browser.value("['#tools', '#numbers button', '#print'].map((one) => document.querySelector(one).checkVisibility())")
+        self.same("paper has bars and no buttons", shown, [False, False, True])
         self.browser.call("Emulation.setEmulatedMedia", media="")
         self.same("a page of paper", self.browser.call("Page.printToPDF")["data"][:4], "JVBE")
         self.browser.value("window.dispatchEvent(new Event('afterprint'))")

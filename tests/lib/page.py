@@ -14,6 +14,7 @@ import tempfile
 import threading
 import time
 import unittest
+import zlib
 from functools import cache
 from pathlib import Path
 
@@ -217,7 +218,7 @@ class Pictured:
     """A disk with its report, and what the other commands print of it. Some or all of its doubts that can be are accepted."""
 
     def __init__(self, image, every=0):
-        self.report = report(scrub(image))
+        self.image, self.report = image, report(scrub(image))
         doubts = [line.removeprefix("doubt ") for line in reclaimable(image)[0].splitlines() if line.startswith("doubt ")]
         accepted = [doubt for doubt in doubts if refusal(doubt) is None][::every] if every else []
         self.outputs = {"summary": summary(image)[0], "superblocks": superblocks(image)[0], "locators": locators(image)[0],
@@ -266,13 +267,6 @@ def made_up_report(extents, page, pages, items):
 
 
 # A browser
-
-try:
-    from selenium import webdriver
-    from selenium.webdriver.chrome.service import Service
-    from selenium.webdriver.common.by import By
-except ImportError:
-    webdriver = None
 
 BROWSERS = ("chromium", "chromium-browser", "google-chrome")
 # The name of the variable that names a folder for screenshots.
@@ -359,7 +353,18 @@ class Browser:
     def press(self, key, code):
         for kind in ("keyDown", "keyUp"):
             self.call("Input.dispatchKeyEvent", type=kind, key=key, windowsVirtualKeyCode=code,
-                      **({"text": key} if len(key) == 1 and kind == "keyDown" else {}))
+                      **({"text": "\r" if key == "Enter" else key} if (len(key) == 1 or key == "Enter") and kind == "keyDown" else {}))
+
+    def printed(self):
+        """The text of each page of paper."""
+        return texts_on_paper(base64.b64decode(self.call("Page.printToPDF")["data"]))
+
+    def back(self):
+        self.driver.back()
+        return self.state()
+
+    def reload(self):
+        self.driver.refresh()
 
     def point(self, kind, extent, byte):
         """Moves the pointer to a byte of a bar, or presses or releases its button there."""
@@ -386,6 +391,32 @@ class Browser:
         self.folder.cleanup()
 
 
+def texts_on_paper(pdf):
+    """The text of each page of a PDF that Chromium made, without blanks between pieces."""
+    objects = {int(number): body for number, body in re.findall(rb"(\d+) 0 obj\n(.*?)\nendobj", pdf, re.S)}
+    numbers = lambda key, body: [int(number) for number in re.findall(rb"/" + key + rb" (\d+) 0 R", body)]
+
+    def stream(number):
+        head, data = objects[number].split(b"stream\n", 1)
+        return (zlib.decompress(data) if b"/FlateDecode" in head else data).decode("latin-1")
+
+    def letters(font):
+        """The letters of a font's glyphs."""
+        found, (table,) = {}, map(stream, numbers(b"ToUnicode", objects[font]))
+        for first, last, letter in re.findall(r"^<(\w+)> (?:<(\w+)> )?<(\w{4})\w*>$", table, re.M):
+            found |= {glyph: chr(int(letter, 16) + glyph - int(first, 16)) for glyph in range(int(first, 16), int(last or first, 16) + 1)}
+        return found
+
+    def text(body):
+        found, glyphs_of = "", {name.decode(): letters(int(font)) for name, font in re.findall(rb"/(F\d+) (\d+) 0 R", body)}
+        for name, glyphs in re.findall(r"/(F\d+) [\d.]+ Tf|<([0-9A-F]+)>", stream(*numbers(b"Contents", body))):
+            font = glyphs_of[name] if name else font
+            found += "".join(font[int(glyph, 16)] for glyph in re.findall("....", glyphs))
+        return found
+
+    return [text(body) for body in objects.values() if re.search(rb"/Type /Page\b", body)]
+
+
 # Wrong pages
 
 # For each test: what is wrong, the text of the place, and the text that replaces it.
@@ -394,10 +425,10 @@ WRONG_PAGES = {
         ("another line is taken for the verdict", "return disk.answers.summary.lines[0];", "return disk.answers.summary.lines[1];"),
         ("without a summary the report gives a verdict", ': "not judged: open summary";', ': disk.answers.scan?.report.clean ? "verdict sound" : "verdict wrong";'),
         ("a disk without a summary is sound", '? "no answer" : "not judged";', '? "no answer" : "sound";'),
-        ("an accepted doubt is counted as an open one", '([word]) => word === "doubt").length', '([word]) => word === "doubt" || word === "accepted").length'),
-        ("bytes to move are a gain", '([word]) => word === "reclaim").reduce', '([word]) => word === "reclaim" || word === "move").reduce'),
-        ("doubtful shards are counted as broken", 'numberOf("shards_broken")', 'numberOf("shards_doubtful")'),
-        ("the unreadable pages leave out extent 0", "=> chosen.bad.length + extents", "=> extents"),
+        ("an accepted doubt is counted as an open one", 'line.startsWith("doubt ")', 'line.startsWith("doubt ") || line.startsWith("accepted ")'),
+        ("bytes to move are a gain", 'listed = after("reclaim");', 'listed = after("reclaim", "move");'),
+        ("doubtful shards are counted as broken", 'broken: number("shards_broken")', 'broken: number("shards_doubtful")'),
+        ("the unreadable pages leave out extent 0", "unreadable_pages: chosen.bad.length + sumOf", "unreadable_pages: sumOf"),
         ("a line is left out", 'lines: checked(command, lines)}', 'lines: checked(command, lines).slice(1)}'),
     ),
     "Answers.test_rows": (
@@ -414,30 +445,49 @@ WRONG_PAGES = {
     ),
     "Fleet.test_forty_and_four_thousand_disks": (
         ("the best disk comes first", "STANDINGS.indexOf(one.standing) - STANDINGS.indexOf(other.standing)", "STANDINGS.indexOf(other.standing) - STANDINGS.indexOf(one.standing)"),
-        ("a disk in doubt is worse than a wrong one", '["no answer", "wrong", "not judged", "doubt", "sound"]', '["no answer", "doubt", "not judged", "wrong", "sound"]'),
-        ("a disk without an answer is left out of the counts", "STANDINGS.filter(count)", "STANDINGS.slice(1).filter(count)"),
+        ("a disk in doubt is worse than a wrong one", '"no answer", "wrong", "not judged", "doubt", "sound"]', '"no answer", "doubt", "not judged", "wrong", "sound"]'),
+        ("a disk without an answer is left out of the counts", "STANDINGS.filter(count)", "STANDINGS.slice(2).filter(count)"),
     ),
     "Fleet.test_columns": (
         ("a second click changes nothing", "compare(other, one) : compare;", "compare(one, other) : compare;"),
-        ("broken shards don't make a disk worse", '[chosen, byStanding, by("broken"), by("unreadable"), byName]', '[chosen, byStanding, by("unreadable"), byName]'),
-        ("what isn't known comes first", "(other[key] ?? -1) - (one[key] ?? -1)", "(other[key] ?? 1e9) - (one[key] ?? 1e9)"),
+        ("broken shards don't make a disk worse", 'by("mayLackShards"), by("broken"), by("unreadable"), byName]', 'by("mayLackShards"), by("unreadable"), byName]'),
+        ("what isn't known comes first", "Number(other[key] ?? -1) - Number(one[key] ?? -1)", "Number(other[key] ?? 1e9) - Number(one[key] ?? 1e9)"),
         ("disk 10 comes before disk 9", '"en", {numeric: true}', '"en"'),
-        ("the gain of a second extent is left out", "(sum, [, , free]) => sum + Number(free)", "(sum, [, , free]) => sum || Number(free)"),
+        ("the gain of a second extent is left out", "(sum, one) => sum + numberOf(one), 0", "(sum, one) => sum || numberOf(one), 0"),
     ),
     "Fleet.test_ages": (
         ("the age is that of the newest file", "Math.min(...times)", "Math.max(...times)"),
         ("an age is rounded up", "grouped(Math.floor(seconds / unit))", "grouped(Math.ceil(seconds / unit))"),
     ),
     "Fleet.test_disks_without_an_answer": (
-        ("no answer is not judged", "failures.some(({command}) => command === null) ||", "false &&"),
-        ("a refused reclaimable is no answer at all", "failures.some(({command}) => command === null)", "failures.length"),
+        ("no answer is not judged", "return failures.some(({command}) => command === null) ||", "return false &&"),
+        ("a refused reclaimable is no answer at all", "return failures.some(({command}) => command === null)", "return failures.length"),
+        ("what is beside a verdict says it again", 'standingOf(disk) === "no answer" ? "" :', 'false ? "" :'),
+        ("a text is said for each row", "...new Set(disk.failures.map(reason))", "...disk.failures.map(reason)"),
     ),
     "Fleet.test_opened_later": (
-        ("an old verdict stays beside a new report", "commandsOf(disk).some((command) => commandsOf(before).includes(command))", "false"),
+        ("an old verdict stays beside a new report", "commandsOf(texts).some((command) => commandsOf(before).includes(command))", "false"),
         ("an old verdict stays beside a row without an answer", 'command ?? ["summary", "scan"]', "command ?? []"),
-        ("each file begins a disk anew", "isNew = !before || ", "isNew = true || "),
+        ("each file begins a disk anew", "isNew = commandsOf", "isNew = true || commandsOf"),
     ),
-    "Files.test_two_summaries_of_one_disk": (("the last of two answers counts", "if (isTwice) throw", "if (false) throw"),),
+    "Scans.test_each_difference": (
+        ("only sizes are compared", "if (String(first.said[key]) !== String(answer.said[key]))", "if (/page|extent/.test(key) && String(first.said[key]) !== String(answer.said[key]))"),
+        ("a verdict isn't compared with clean", ', clean: verdict !== "wrong"};', "};"),
+        ("only summary is compared", "if (String(first.said[key]) !== String(answer.said[key]))", 'if (first.command === "summary" && String(first.said[key]) !== String(answer.said[key]))'),
+        ("files of two scans have the verdict of summary", "if (differences.length) return MIXED;", ""),
+        ("they have numbers", "differences.length || !said[key] ?", "!said[key] ?"),
+        ("they have a gain", "differences.length ? {scan: answers.scan} : answers;", "answers;"),
+    ),
+    "Scans.test_two_answers": (
+        ("the last of two answers counts", "if (first && !changed.length && !isRefused) answers", "if (first) answers"),
+        ("any second answer is another scan", "contentOf(one) !== contentOf(first)", "true"),
+    ),
+    "Scans.test_files_of_one_scan": (
+        ("a doubt isn't clean", 'clean: verdict !== "wrong"', 'clean: verdict === "sound"'),
+        ("an accepted doubt isn't said", 'doubts = after("doubt", "accepted")', 'doubts = after("doubt")'),
+        ("candidates are compared where they aren't listed", 'after("doubt").length ? {} :', "false ? {} :"),
+    ),
+    "Fleet.test_the_order_of_READING": (("a lost run makes a disk no worse", ' || number("runs_lost") > 0', ""),),
     "Files.test_half_a_line": (("half a file is taken", '&& !text.endsWith("\\n")', '&& false'),),
     "Files.test_a_summary_that_is_cut_short": (("half a summary is taken", "if (missing.length) throw new Error(`it isn't a whole", "if (false) throw new Error(`it isn't a whole"),),
     "Files.test_an_unknown_item": (("an unknown item is left out", "if (!found) throw", "if (!found) continue; if (!found) throw"),),
@@ -455,7 +505,7 @@ WRONG_PAGES = {
         ("without a superblock chunks are live", "!hasSuperblock ? CHUNK :", "false ? CHUNK :"),
         ("a chunk with a changed payload is an orphan", "damaged.has(key) ? DAMAGED : ORPHAN", "ORPHAN"),
         ("noise isn't joined", "last.stop === start) last.stop", "false) last.stop"),
-        ("an unreadable page over a pointer is left out", "(number + 1) * page > pointer)", "number * page > pointer)"),
+        ("an unreadable page over a pointer is left out", "past = bad.filter((number) => (number + 1) * page > pointer)", "past = bad.filter((number) => number * page > pointer)"),
         ("a stray page looks right", '=== "lost" ? LOST : RECORD', '=== "lost" ? LOST : OLDER'),
         ("an older superblock looks like that which counts", '(state === "older" ? OLDER : SUPERBLOCK)', "SUPERBLOCK"),
         ("a tail isn't in the overview", "if (row.tail) return CLASS_OF.tail;", ""),
