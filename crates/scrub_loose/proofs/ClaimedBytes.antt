@@ -60,6 +60,21 @@ bytes_behind at p q ys zs e h k below =
     ∙ ap Some
     (get_or-append_right ys zs (length ys + k) 0 (omega arith) ∙ ap (λ n. get_or zs n 0) (let i : length ys + k - length ys ≡ k = omega arith in i))
 
+-- a payload, as code cuts it out of an extent
+pub cut_payload : (ys zs : List ℕ) (f : Form) (p s n : ℕ) → ys ≡ zs → s ≡ payload_start f →
+    take (p + s + n - (p + s)) (drop (p + s) ys) ≡ take n (drop (p + payload_start f) zs)
+cut_payload ys zs f p s n same is =
+    ap (λ (l : List ℕ). take (p + s + n - (p + s)) (drop (p + s) l)) same
+    ∙ ap (λ j. take (p + j + n - (p + j)) (drop (p + j) zs)) is
+    ∙ ap (λ j. take j (drop (p + payload_start f) zs)) (let e : p + payload_start f + n - (p + payload_start f) ≡ n = omega arith in e)
+
+-- the payload of a frame, in memory
+pub payload_held : (P : ℕ) (bytes : List ℕ) (readable : List Bool) (p : ℕ) (f : Form) (u b : List ℕ) → FrameAt (extent_by P bytes readable) p f u b →
+    take (length b) (drop (p + payload_start f) bytes) ≡ b
+payload_held P bytes readable p f u b k =
+    bytes_held P bytes readable (p + payload_start f) b
+    (bytes_front (extent_by P bytes readable).byte (p + payload_start f) b (u ++ mark f) (from_payload (extent_by P bytes readable) p f u b k))
+
 module _ (P : ℕ) (bytes : List ℕ) (readable : List Bool) (p : ℕ) (h : Head) where
   abbrev x : Extent
   x = extent_by P bytes readable
@@ -164,8 +179,7 @@ module _ (P : ℕ) (bytes : List ℕ) (readable : List Bool) (p : ℕ) (h : Head
       payload_is =
           ap (λ m. take m (drop (p + payload_start h.form) bytes)) same.2
           ∙ ap (λ (g : Form). take (length b) (drop (p + payload_start g) bytes)) same.0
-          ∙ bytes_held P bytes readable (p + payload_start f) b
-          (bytes_front x.byte (p + payload_start f) b (u ++ mark f) (from_payload x p f u b k))
+          ∙ payload_held P bytes readable p f u b k
 
       seal_read : take (seal_size f) (drop (p + head_size) bytes) ≡ seal f b
       seal_read =

@@ -52,10 +52,10 @@ pub sorted_none : {X : Type 0} (R : X → X → Ordering) → IsStrictlySortedBy
 unfolding IsStrictlySortedBy
 sorted_none R = tt
 
-less_cmp : (a b : ℕ) → a < b → nat_cmp a b ≡ Less
+pub less_cmp : (a b : ℕ) → a < b → nat_cmp a b ≡ Less
 less_cmp a b lt = ap (λ (t : Bool). cond t Less (cond (a == b) Equal Greater)) (lt-ltb a b lt)
 
-same_cmp : (a b : ℕ) → a ≡ b → nat_cmp a b ≡ Equal
+pub same_cmp : (a b : ℕ) → a ≡ b → nat_cmp a b ≡ Equal
 same_cmp a b same =
     ap (λ (t : Bool). cond t Less (cond (a == b) Equal Greater)) (le-ltb a b (omega (arith, same)))
     ∙ ap (λ (t : Bool). cond t Equal Greater) (eq-eqb a b same)
@@ -64,7 +64,7 @@ same_cmp a b same =
 pub by_extent : (s t : Standing) → s.extent < t.extent → place_cmp s t ≡ Less
 by_extent s t lt = ap (λ (r : Ordering). ordering_then r (nat_cmp s.offset t.offset)) (less_cmp s.extent t.extent lt)
 
-by_offset : (s t : Standing) → s.extent ≡ t.extent → s.offset < t.offset → place_cmp s t ≡ Less
+pub by_offset : (s t : Standing) → s.extent ≡ t.extent → s.offset < t.offset → place_cmp s t ≡ Less
 by_offset s t same lt =
     ap (λ (r : Ordering). ordering_then r (nat_cmp s.offset t.offset)) (same_cmp s.extent t.extent same)
     ∙ less_cmp s.offset t.offset lt

@@ -14,3 +14,9 @@ pub mod CopiesFound
 -- that there is one answer, and that there is an answer
 pub mod OneLoose
 pub mod LooseThere
+-- outer frames, the index runs among them, and where their locators are
+pub mod OuterFrames
+pub mod RunsFound
+pub mod RunsThere
+pub mod ReadablePages
+pub mod Naming

@@ -2,3 +2,5 @@
 pub mod Held
 pub mod Search
 pub mod Asked
+pub mod Walk
+pub mod Naming

@@ -1,9 +1,10 @@
 //! An extent in memory, and which of its bytes can be read.
 
 ghost use Rattle.std.specs.Prelude.{◌≡◌, ◌≤◌, ◌<◌, ◌+◌, ◌*◌, ℕ, IfOk, IsTrue, length, ◌↔◌};
+ghost use Rattle.std.specs.List.{list_all};
 ghost use Rattle.scrub_scan.specs.Extent.{HasGap};
 ghost use Rattle.scrub_loose.specs.Anywhere.{whole_extent};
-ghost use Rattle.scrub_loose.specs.steps.Held.{AreSince, IsHeld, extent_held};
+ghost use Rattle.scrub_loose.specs.steps.Held.{AreMarks, AreSince, IsHeld, extent_held};
 
 use scrub_disk::{BufferedExtent, OutOfMemory, PageSource, read_extent};
 use std::alloc::Global;
@@ -49,6 +50,7 @@ impl HeldExtent {
         requires { extent < (D.image disk.now).geometry.extents }
         ensures held { IfOk result IsHeld }
         ensures same { IfOk result (λ h. extent_held h ≡ whole_extent (D.image disk.now) extent) }
+        ensures marks { IfOk result (λ h. AreMarks (D.image disk.now) extent h.readable.items) }
     {
         let page = disk.geometry().page() as usize;
         let BufferedExtent { bytes, readable } = read_extent(alloc, disk, extent)?;
@@ -59,6 +61,13 @@ impl HeldExtent {
             readable,
             since,
         })
+    }
+
+    /// Whether each page can be read.
+    pub(crate) fn is_whole(&self) -> bool
+        ensures { result ≡ list_all (λ mark. mark) self.now.readable.items }
+    {
+        self.readable.iter().all(|mark| *mark)
     }
 
     /// Whether each of the `count` bytes from `place` on can be read. They are in the extent, and there is one.

@@ -1,6 +1,7 @@
 -- An extent in memory, and claims in its bytes.
-use Rattle.std.specs.Prelude.{◌≡◌, ◌<◌, ◌≤◌, ◌+◌, ◌*◌, ◌/◌, ◌^◌, ◌&&◌, ◌++◌, ℕ, Bool, true, false, List, Some, None, nat_lt, slice_index, slice_index_or, take, drop, if◌then◌else◌}
+use Rattle.std.specs.Prelude.{◌≡◌, ◌<◌, ◌≤◌, ◌+◌, ◌*◌, ◌/◌, ◌^◌, ◌&&◌, ◌++◌, ◌↔◌, ℕ, IsTrue, Bool, true, false, List, Some, None, nat_lt, slice_index, slice_index_or, take, drop, if◌then◌else◌}
 use Rattle.std.specs.Prelude.{length as len}
+use Rattle.scrub_disk.specs.Image.{Image}
 use Rattle.scrub_frame.specs.declared.frame.Head.{Head}
 use Rattle.scrub_frame.specs.Frame.{close_size, frame_overhead, head, head_size, mark, payload_start}
 use Rattle.scrub_scan.specs.Extent.{Extent}
@@ -35,6 +36,11 @@ pub record IsHeld (h : HeldExtent) : Type 0 where
   pub few : len h.bytes.items ≤ 2 ^ 26
   pub size : len h.bytes.items ≡ h.page * len h.readable.items
   pub since : AreSince h.readable.items h.since.items
+
+-- the marks say which pages of extent e can be read
+pub record AreMarks (image : Image) (e : ℕ) (readable : List Bool) : Type 0 where
+  pub count : len readable ≡ image.geometry.pages
+  pub each : (q : ℕ) → q < image.geometry.pages → IsTrue (slice_index_or readable q false) ↔ (¬ (image.page e q ≡ None))
 
 -- the bytes begin with a head, and what closes the frame that it claims is where that would end
 pub record BeginsWithClaim (bytes : List ℕ) (h : Head) : Type 0 where

@@ -4,17 +4,10 @@ use Rattle.std.proofs.lemmas.Bool.{false≢true}
 use Rattle.sha2.specs.Sha256.{sha256}
 use Rattle.scrub_frame.specs.declared.form.Form.{Form}
 use Rattle.scrub_frame.specs.Frame.{head_size, payload_start, seal, seal_size}
-use Rattle.scrub_loose.proofs.ClaimedBytes.{frame_sealed, length-payload, no_frame_sealed}
+use Rattle.scrub_loose.proofs.ClaimedBytes.{cut_payload, frame_sealed, length-payload, no_frame_sealed}
 use Rattle.scrub_loose.proofs.claims.frame_of_claim.Goals as goal
 
--- the parts of the bytes, as the code cuts them out
-cut_payload : (ys zs : List ℕ) (f : Form) (p s n : ℕ) → ys ≡ zs → s ≡ payload_start f →
-    take (p + s + n - (p + s)) (drop (p + s) ys) ≡ take n (drop (p + payload_start f) zs)
-cut_payload ys zs f p s n same is =
-    ap (λ (l : List ℕ). take (p + s + n - (p + s)) (drop (p + s) l)) same
-    ∙ ap (λ j. take (p + j + n - (p + j)) (drop (p + j) zs)) is
-    ∙ ap (λ j. take j (drop (p + payload_start f) zs)) (let e : p + payload_start f + n - (p + payload_start f) ≡ n = omega arith in e)
-
+-- the seal, as the code cuts it out
 cut_seal : (ys zs : List ℕ) (f : Form) (p s : ℕ) → ys ≡ zs → s ≡ payload_start f →
     take (p + s - (p + 22)) (drop (p + 22) ys) ≡ take (seal_size f) (drop (p + head_size) zs)
 cut_seal ys zs f p s same is =
