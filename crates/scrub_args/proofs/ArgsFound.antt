@@ -22,7 +22,7 @@ use Rattle.scrub_args.specs.declared.args.Wanted.TheVariants.{Report, Index, Loc
 use Rattle.scrub_args.specs.declared.args.ArgsFault.{ArgsFault}
 use Rattle.scrub_args.specs.declared.args.ArgsFault.TheVariants.{Refused, Help, OutOfMemory}
 use Rattle.scrub_args.specs.CommandLine.{shardscrub_app}
-use Rattle.scrub_args.specs.steps.Parsed.{ComesOf, HasCompare, HasDated, HasImage, HasImageName, HasItems, HasManifest, HasNumber, HasScan, HasNeeds, HasShard, IsWholeCommand, IsWholeParse, MayHaveLongNumber, is_dated_command, is_disk_command}
+use Rattle.scrub_args.specs.steps.Parsed.{ComesOf, HasNumber, HasScan, HasNeeds, IsWholeCommand, IsWholeParse, MayHaveLongNumber, is_dated_command, is_disk_command}
 use Rattle.scrub_args.specs.Accepting.{first_unacceptable, refusal_of}
 use Rattle.scrub_args.specs.Args.{AreSizesGiven, AskForVersion, HasPartOfSizes, IsTextFault, IsNumberOf, IsPartFault, IsRefusal, IsRowsFault, IsArgsFault, IsWorkersOf, RefusesRows, accepted_of, command_of, part_text}
 use Rattle.scrub_args.specs.declared.args.GivenSizes.{GivenSizes}
@@ -171,8 +171,9 @@ found_command (Some met) name found named has = rw (same_Some _ _ named, same_So
 module _ (command : Option (Text × List Row)) (name : Text) (found : List Row) (whole : IsWholeParse command)
     (named : Some name ≡ option_map (λ met. met.0) command)
     (has : Some found ≡ option_map (λ met. met.1) command) where
-  met_whole : IsWholeCommand name found
-  met_whole = go command whole named has
+  -- It has what the command of this name needs.
+  pub met_whole : (asked : Text) → name ≡ asked → IsWholeCommand asked found
+  met_whole asked is = subst (λ (n : Text). IsWholeCommand n found) is (go command whole named has)
     where
       go : (o : Option (Text × List Row)) → IsWholeParse o → Some name ≡ option_map (λ met. met.0) o →
           Some found ≡ option_map (λ met. met.1) o → IsWholeCommand name found
@@ -182,52 +183,25 @@ module _ (command : Option (Text × List Row)) (name : Text) (found : List Row) 
   -- A command that lists the whole disk has an image, sizes or none, and at most 64 workers.
   pub disk_of_whole : (wanted : Wanted) → name ≡ command_of wanted → HasScan found
   unfolding clap_on_literals
-  disk_of_whole Report is = subst (λ (n : Text). IsWholeCommand n found) is met_whole
-  disk_of_whole Index is = subst (λ (n : Text). IsWholeCommand n found) is met_whole
-  disk_of_whole Locators is = subst (λ (n : Text). IsWholeCommand n found) is met_whole
-  disk_of_whole Shards is = subst (λ (n : Text). IsWholeCommand n found) is met_whole
-  disk_of_whole (Summary last) is = let dated : HasDated found = subst (λ (n : Text). IsWholeCommand n found) is met_whole in dated.scan
-  disk_of_whole (Reclaimable accepted last) is = let dated : HasDated found = subst (λ (n : Text). IsWholeCommand n found) is met_whole in dated.scan
+  disk_of_whole wanted is = go wanted (met_whole (command_of wanted) is)
+    where
+      go : (wanted : Wanted) → IsWholeCommand (command_of wanted) found → HasScan found
+      go Report has = has
+      go Index has = has
+      go Locators has = has
+      go Shards has = has
+      go (Summary last) has = has.scan
+      go (Reclaimable accepted last) has = has.scan
 
   -- a command to which the generation of the last superblock can be given
   pub last_of_whole : is_dated_command name ≡ true → MayHaveLongNumber found (codes "last")
-  last_of_whole dated = go (is_dated_command name) dated met_whole
+  last_of_whole dated = go (is_dated_command name) dated (met_whole name refl)
     where
       go : (b : Bool) → b ≡ true →
           HasNeeds b (is_disk_command name) (bytes_eq name (codes "manifest")) (bytes_eq name (codes "compare")) (bytes_eq name (codes "shard")) (bytes_eq name (codes "superblocks")) (bytes_eq name (codes "sizes")) (bytes_eq name (codes "items")) (bytes_eq name (codes "demo")) found
           → MayHaveLongNumber found (codes "last")
       go true e needs = needs.last
       go false e needs = absurd (false≢true e)
-
-  -- The command `manifest` has the values of a scan, and a number of 32 bits for each `--reset`.
-  pub manifest_of_whole : name ≡ codes "manifest" → HasManifest found
-  unfolding clap_on_literals
-  manifest_of_whole asked = subst (λ (n : Text). IsWholeCommand n found) asked met_whole
-
-  -- The command `compare` has what `manifest` needs, and the name of the later image.
-  pub compare_of_whole : name ≡ codes "compare" → HasCompare found
-  unfolding clap_on_literals
-  compare_of_whole asked = subst (λ (n : Text). IsWholeCommand n found) asked met_whole
-
-  -- The command `shard` has the values of a scan, and a text for `--id`.
-  pub shard_of_whole : name ≡ codes "shard" → HasShard found
-  unfolding clap_on_literals
-  shard_of_whole asked = subst (λ (n : Text). IsWholeCommand n found) asked met_whole
-
-  -- The command `superblocks` has the name of an image, and numbers of 32 bits for the sizes given.
-  pub image_of_whole : name ≡ codes "superblocks" → HasImage found
-  unfolding clap_on_literals
-  image_of_whole asked = subst (λ (n : Text). IsWholeCommand n found) asked met_whole
-
-  -- The command `sizes` has the name of an image.
-  pub name_of_whole : name ≡ codes "sizes" → HasImageName found
-  unfolding clap_on_literals
-  name_of_whole asked = subst (λ (n : Text). IsWholeCommand n found) asked met_whole
-
-  -- The command `items` has what `superblocks` needs, the number of an extent, and a pointer or none.
-  pub items_of_whole : name ≡ codes "items" → HasItems found
-  unfolding clap_on_literals
-  items_of_whole asked = subst (λ (n : Text). IsWholeCommand n found) asked met_whole
 
 -- the fault for an error of `clap`
 pub comes_to : (args : List Text) (kind : ErrorKind) (fault : ArgsFault) →

@@ -275,6 +275,42 @@ Exit status:
 Example, for a disk with 3 extents of 4 pages of 64 bytes:
   shardscrub manifest --page 64 --pages 4 --extents 3 examples/one-shard.img";
 
+pub(crate) const RUNS_ABOUT: &str =
+    "Lists the index runs that are found on the disk, whether or not a superblock lists them";
+
+pub(crate) const RUNS_AFTER_HELP: &str =
+    "Each index run that is found has one line, by ascending extent and offset. The last line is the number of
+these lines:
+
+  run EXTENT OFFSET LENGTH UUID SHARDS [AT]..
+  total N
+
+  EXTENT  the extent of the run's chunk
+  OFFSET  where the chunk begins, in bytes from the start of the extent
+  LENGTH  the bytes of its payload, which is the run
+  UUID    that of the chunk
+  SHARDS  how many entries the run has
+  AT      each offset of extent 0, ascending, at which the 60 bytes of the run's locator stand
+
+All extents but extent 0 are searched, retired ones too, from the first byte to the last, whatever their
+write pointers are: where a whole frame stands the search goes on at its end, else at the next byte. So a
+run within another payload isn't listed, nor one with an unreadable byte.
+
+No superblock is looked at. AT shows what superblocks list, or listed before they were damaged: in one
+record the offsets ascend in steps of 60, the newest run first. Often most of the runs are old, and nothing
+in a run says how old it is. With --run the commands shard, shards and manifest go by runs of which you
+know the order, or judge it.
+
+Exit status:
+  0  each page of the disk can be read
+  1  a page can't be read; the list is whole but for runs with bytes of it
+  2  the arguments or the map are invalid
+  3  the image or the map cannot be opened, the image is too long, or the output failed
+  4  out of memory
+
+Example, for a disk with 3 extents of 4 pages of 64 bytes:
+  shardscrub runs --page 64 --pages 4 --extents 3 examples/one-shard.img";
+
 pub(crate) const SUMMARY_ABOUT: &str =
     "Prints one word on whether the disk is all right, and names and numbers for monitoring";
 
@@ -605,6 +641,13 @@ pub(crate) const RESET_HELP: &str =
 
 pub(crate) const ID_HELP: &str =
     "Identifier of the shard: 32 hexadecimal digits, as locators prints them";
+
+pub(crate) const RUN_HELP: &str =
+    "Place of an index run to go by, whatever is in extent 0. May be repeated for several runs, whose order is \
+     yours to judge: the newest first";
+
+pub(crate) const PARTIAL_HELP: &str =
+    "Also write what is there of a shard that lacks payloads: a file ID.NUMBER for each payload";
 
 pub(crate) const EXTENT_HELP: &str = "Extent to list: 0 to one less than the number of extents";
 
