@@ -8,7 +8,7 @@ use Rattle.scrub_disk.specs.Image.{Image, disk_bytes}
 use Rattle.scrub_disk.specs.Raw.{IsLoadedWith}
 use Rattle.scrub_disk.proofs.LostPages.{loaded_with_more}
 use Rattle.scrub_cli.specs.declared.process.fault.Fault.{Fault}
-use Rattle.scrub_cli.specs.declared.process.fault.Fault.TheVariants.{NotUtf8, Help, Args, Geometry, NoSizes, Extent, BadShard, Pointer, BadPage, NoMap, MapLine, NoImage, TooLong, NoShard, PayloadLost, Output, OutOfMemory}
+use Rattle.scrub_cli.specs.declared.process.fault.Fault.TheVariants.{NotUtf8, Help, Args, Geometry, NoSizes, UncertainSizes, Extent, BadShard, Pointer, BadPage, NoMap, MapLine, NoImage, TooLong, NoShard, PayloadLost, Output, OutOfMemory}
 use Rattle.scrub_args.specs.declared.args.ImageArgs.{ImageArgs}
 use Rattle.scrub_cli.specs.DiskImage.{AreReadBefore, IsBadPageFault, IsDiskFault, IsLossesFault, IsRawFault, NamePages}
 use Rattle.scrub_cli.specs.Fault.{fault_of_load}
@@ -25,6 +25,7 @@ of_bad_page Holds g args bad memory (Help text) is = absurd is
 of_bad_page Holds g args bad memory (Args text) is = absurd is
 of_bad_page Holds g args bad memory (Geometry fault) is = absurd is
 of_bad_page Holds g args bad memory NoSizes is = absurd is
+of_bad_page Holds g args bad memory UncertainSizes is = absurd is
 of_bad_page Holds g args bad memory Extent is = absurd is
 of_bad_page Holds g args bad memory (BadShard text) is = absurd is
 of_bad_page Holds g args bad memory Pointer is = absurd is
@@ -50,6 +51,7 @@ of_losses_fault Holds maps args g bad unopened line none memory (Help text) is =
 of_losses_fault Holds maps args g bad unopened line none memory (Args text) is = absurd is
 of_losses_fault Holds maps args g bad unopened line none memory (Geometry fault) is = absurd is
 of_losses_fault Holds maps args g bad unopened line none memory NoSizes is = absurd is
+of_losses_fault Holds maps args g bad unopened line none memory UncertainSizes is = absurd is
 of_losses_fault Holds maps args g bad unopened line none memory Extent is = absurd is
 of_losses_fault Holds maps args g bad unopened line none memory (BadShard text) is = absurd is
 of_losses_fault Holds maps args g bad unopened line none memory Pointer is = absurd is
@@ -71,6 +73,7 @@ of_raw_fault Holds known g long memory (Help text) is = absurd is
 of_raw_fault Holds known g long memory (Args text) is = absurd is
 of_raw_fault Holds known g long memory (Geometry fault) is = absurd is
 of_raw_fault Holds known g long memory NoSizes is = absurd is
+of_raw_fault Holds known g long memory UncertainSizes is = absurd is
 of_raw_fault Holds known g long memory Extent is = absurd is
 of_raw_fault Holds known g long memory (BadShard text) is = absurd is
 of_raw_fault Holds known g long memory Pointer is = absurd is
@@ -123,6 +126,7 @@ of_disk_fault Holds known maps args g bad unopened line none long memory (Help t
 of_disk_fault Holds known maps args g bad unopened line none long memory (Args text) is = absurd is
 of_disk_fault Holds known maps args g bad unopened line none long memory (Geometry fault) is = absurd is
 of_disk_fault Holds known maps args g bad unopened line none long memory NoSizes is = absurd is
+of_disk_fault Holds known maps args g bad unopened line none long memory UncertainSizes is = absurd is
 of_disk_fault Holds known maps args g bad unopened line none long memory Extent is = absurd is
 of_disk_fault Holds known maps args g bad unopened line none long memory (BadShard text) is = absurd is
 of_disk_fault Holds known maps args g bad unopened line none long memory Pointer is = absurd is

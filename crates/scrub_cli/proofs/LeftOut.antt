@@ -4,6 +4,7 @@ use Rattle.std.proofs.lemmas.Option.{none-some}
 use Rattle.scrub_disk.specs.declared.geometry.Geometry.{Geometry as Sizes}
 use Rattle.scrub_disk.specs.Faults.{HasSizes}
 use Rattle.scrub_disk.specs.Image.{Image}
+use Rattle.scrub_listings.specs.declared.sizes_listing.SizesFound.TheVariants.{Certain}
 use Rattle.scrub_args.specs.declared.args.GivenSizes.{GivenSizes}
 use Rattle.scrub_args.specs.declared.args.ImageArgs.{ImageArgs}
 use Rattle.scrub_args.specs.declared.args.ItemsArgs.{ItemsArgs}
@@ -12,7 +13,7 @@ use Rattle.scrub_args.specs.declared.args.Request.TheVariants.{Demo, Items, Disk
 use Rattle.scrub_args.specs.declared.args.ShardArgs.{ShardArgs}
 use Rattle.scrub_shard.specs.declared.shard.ShardAnswer.{ShardAnswer}
 use Rattle.scrub_cli.specs.declared.process.fault.Fault.{Fault}
-use Rattle.scrub_cli.specs.declared.process.fault.Fault.TheVariants.{NotUtf8, Help, Args, Geometry, NoSizes, Extent, BadShard, Pointer, BadPage, NoMap, MapLine, NoImage, TooLong, NoShard, PayloadLost, Output, OutOfMemory}
+use Rattle.scrub_cli.specs.declared.process.fault.Fault.TheVariants.{NotUtf8, Help, Args, Geometry, NoSizes, UncertainSizes, Extent, BadShard, Pointer, BadPage, NoMap, MapLine, NoImage, TooLong, NoShard, PayloadLost, Output, OutOfMemory}
 use Rattle.scrub_cli.specs.declared.process.outcome.Outcome.{Outcome}
 use Rattle.scrub_cli.specs.Answer.{IsAnswerOf, IsFaultOf}
 use Rattle.scrub_cli.specs.DiskGeometry.{AreSizesFound, IsGeometryFault, IsGeometryOf}
@@ -40,7 +41,7 @@ found_for known maps args g out sizes = record {
   given = has_given g;
   found =
       subst
-      (λ (o : Option GivenSizes). MatchOption o (AreSizesFound (known args.name.now) maps args.map (Some g)) (λ t. HasSizes g t.page t.pages t.extents))
+      (λ (o : Option GivenSizes). MatchOption o (AreSizesFound (known args.name.now) maps args.map (Certain g)) (λ t. HasSizes g t.page t.pages t.extents))
       out sizes;
 }
 
@@ -105,6 +106,7 @@ module _ (known : List ℕ → KnownRaw) (maps : KnownMaps) (args : ImageArgs) (
   scan_fault_with (Args text) is = inr (given is.0, found_for known maps args is.0 out is.1, load_fault_with (Args text) is)
   scan_fault_with (Geometry limit) is = inl is
   scan_fault_with NoSizes is = inl is
+  scan_fault_with UncertainSizes is = inl is
   scan_fault_with Extent is = inr (given is.0, found_for known maps args is.0 out is.1, load_fault_with Extent is)
   scan_fault_with (BadShard text) is = inr (given is.0, found_for known maps args is.0 out is.1, load_fault_with (BadShard text) is)
   scan_fault_with Pointer is = inr (given is.0, found_for known maps args is.0 out is.1, load_fault_with Pointer is)
@@ -147,6 +149,7 @@ module _ (known : List ℕ → KnownRaw) (maps : KnownMaps) (args : ItemsArgs) (
   items_fault_with (Args text) is = inr (given is.0, found_for known maps args.image is.0 out is.1.sizes, placed_fault_with (Args text) is)
   items_fault_with (Geometry limit) is = inl is
   items_fault_with NoSizes is = inl is
+  items_fault_with UncertainSizes is = inl is
   items_fault_with Extent is = inr (given is.0, found_for known maps args.image is.0 out is.1, (is.0, has_given is.0, is.2))
   items_fault_with (BadShard text) is = inr (given is.0, found_for known maps args.image is.0 out is.1.sizes, placed_fault_with (BadShard text) is)
   items_fault_with Pointer is = inr (given is.0, found_for known maps args.image is.0 out is.1, (is.0, has_given is.0, is.2, is.3))
@@ -203,6 +206,7 @@ module _ (known : List ℕ → KnownRaw) (maps : KnownMaps) (args : ShardArgs) (
   shard_fault_with (Args text) is = inr (given is.0, found_for known maps args.scan.image is.0 out is.2.sizes, id_fault_with (Args text) is)
   shard_fault_with (Geometry limit) is = inl is
   shard_fault_with NoSizes is = inl is
+  shard_fault_with UncertainSizes is = inl is
   shard_fault_with Extent is = inr (given is.0, found_for known maps args.scan.image is.0 out is.2.sizes, id_fault_with Extent is)
   shard_fault_with (BadShard text) is =
       inr (given is.0, found_for known maps args.scan.image is.0 out is.1, (is.0, has_given is.0, is.2, is.3))

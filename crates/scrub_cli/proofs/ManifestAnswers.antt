@@ -23,5 +23,5 @@ manifest_disk_fault known maps args g fault places =
 pub manifest_geometry_fault : (known : KnownRaw) (maps : KnownMaps) (args : ManifestArgs) (fault : Fault) →
     IsGeometryFault known maps args.scan.image fault → IsManifestFault known maps args fault
 manifest_geometry_fault known maps args fault =
-    of_geometry_fault (IsManifestFault known maps args) known maps args.scan.image (λ limit is. is) (λ is. is) (λ name is. inl is)
+    of_geometry_fault (IsManifestFault known maps args) known maps args.scan.image (λ limit is. is) (λ is. is) (λ is. is) (λ name is. inl is)
     (λ k is. inl is) (λ name is. inl is) tt fault

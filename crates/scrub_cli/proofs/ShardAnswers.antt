@@ -28,7 +28,7 @@ shard_disk_fault known maps args g id fault named =
 pub shard_geometry_fault : (known : KnownRaw) (maps : KnownMaps) (args : ShardArgs) (fault : Fault) →
     IsGeometryFault known maps args.scan.image fault → IsShardFault known maps args fault
 shard_geometry_fault known maps args fault =
-    of_geometry_fault (IsShardFault known maps args) known maps args.scan.image (λ limit is. is) (λ is. is) (λ name is. inl is)
+    of_geometry_fault (IsShardFault known maps args) known maps args.scan.image (λ limit is. is) (λ is. is) (λ is. is) (λ name is. inl is)
     (λ k is. inl is) (λ name is. inl is) tt fault
 
 -- so is that the shard isn't there, or that a payload is lost

@@ -10,7 +10,7 @@ use Rattle.scrub_map.specs.declared.reading.MapFault.TheVariants.{Line, OutOfMem
 use Rattle.scrub_args.specs.declared.args.ArgsFault.{ArgsFault}
 use Rattle.scrub_args.specs.declared.args.ArgsFault.TheVariants.{Refused, Help as help, OutOfMemory as no_memory_to_read}
 use Rattle.scrub_cli.specs.declared.process.fault.Fault.{Fault}
-use Rattle.scrub_cli.specs.declared.process.fault.Fault.TheVariants.{NotUtf8, Help, Args, Geometry, NoSizes, Extent, BadShard, Pointer, BadPage, NoMap, MapLine, NoImage, TooLong, NoShard, PayloadLost, Output, OutOfMemory}
+use Rattle.scrub_cli.specs.declared.process.fault.Fault.TheVariants.{NotUtf8, Help, Args, Geometry, NoSizes, UncertainSizes, Extent, BadShard, Pointer, BadPage, NoMap, MapLine, NoImage, TooLong, NoShard, PayloadLost, Output, OutOfMemory}
 use Rattle.scrub_report.specs.Output.{AppendsFront}
 use Rattle.scrub_cli.specs.Streams.{Held}
 
@@ -38,6 +38,7 @@ status_of (Help text) = 0
 status_of (Args text) = 2
 status_of (Geometry fault) = 2
 status_of NoSizes = 2
+status_of UncertainSizes = 2
 status_of Extent = 2
 status_of (BadShard text) = 2
 status_of Pointer = 2
@@ -66,6 +67,9 @@ text_of (Geometry Extents) = line (codes "geometry refused: Extents")
 text_of (Geometry ExtentBytes) = line (codes "geometry refused: ExtentBytes")
 text_of (Geometry TotalBytes) = line (codes "geometry refused: TotalBytes")
 text_of NoSizes = line (codes "sizes not found: run shardscrub sizes")
+text_of UncertainSizes =
+    line
+    (codes "sizes not certain: records were found, but bytes of the first 64 MiB can't be read; give --page, --pages and --extents (shardscrub sizes lists them)")
 text_of Extent = line (codes "extent out of range")
 text_of (BadShard text) = line (codes "shard refused: " ++ text.now)
 text_of Pointer = line (codes "pointer out of range")

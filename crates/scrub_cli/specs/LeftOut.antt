@@ -2,6 +2,7 @@
 use Rattle.std.specs.Prelude.{◌≡◌, ℕ, List, Option, None, Some, MatchOption}
 use Rattle.scrub_disk.specs.declared.geometry.Geometry.{Geometry as Sizes}
 use Rattle.scrub_disk.specs.Faults.{HasSizes}
+use Rattle.scrub_listings.specs.declared.sizes_listing.SizesFound.TheVariants.{Certain}
 use Rattle.scrub_args.specs.declared.args.GivenSizes.{GivenSizes}
 use Rattle.scrub_args.specs.declared.args.ImageArgs.{ImageArgs}
 use Rattle.scrub_args.specs.declared.args.Request.{Request}
@@ -38,7 +39,7 @@ LeavesOut request = MatchOption (image_args request) ⊥ (λ args. args.sizes �
 pub record AreFoundFor (known : List ℕ → KnownRaw) (maps : KnownMaps) (args : ImageArgs) (s : GivenSizes) : Type 0 where
   pub geometry : Sizes
   pub given : HasSizes geometry s.page s.pages s.extents
-  pub found : AreSizesFound (known args.name.now) maps args.map (Some geometry)
+  pub found : AreSizesFound (known args.name.now) maps args.map (Certain geometry)
 
 -- these are sizes that are found in the image of a request
 abbrev pub FindsSizes : (List ℕ → KnownRaw) → KnownMaps → Request → GivenSizes → Type 0

@@ -8,7 +8,7 @@ use Rattle.scrub_found.specs.Takings.{AreTakingsBy}
 use Rattle.scrub_listings.specs.declared.remarks.SuperblockRemark.{SuperblockRemark}
 use Rattle.scrub_listings.specs.Manifest.{IsRemarkedManifest}
 use Rattle.scrub_cli.specs.declared.process.fault.Fault.{Fault}
-use Rattle.scrub_cli.specs.declared.process.fault.Fault.TheVariants.{Geometry, NoSizes, Extent, NoMap, MapLine, NoImage, OutOfMemory}
+use Rattle.scrub_cli.specs.declared.process.fault.Fault.TheVariants.{Geometry, NoSizes, UncertainSizes, Extent, NoMap, MapLine, NoImage, OutOfMemory}
 use Rattle.scrub_cli.specs.declared.process.outcome.Outcome.{Outcome}
 use Rattle.scrub_args.specs.declared.args.ManifestArgs.{ManifestArgs}
 use Rattle.scrub_cli.specs.DiskImage.{IsLoadedDisk, IsDiskFault}
@@ -66,6 +66,7 @@ IsFaultAfterResets known maps args fault = (g : Sizes) × MayBeReset known maps 
 abbrev pub IsManifestFault : KnownRaw → KnownMaps → ManifestArgs → Fault → Type 0
 IsManifestFault known maps args (Geometry fault) = IsGeometryFault known maps args.scan.image (Geometry fault)
 IsManifestFault known maps args NoSizes = IsGeometryFault known maps args.scan.image NoSizes
+IsManifestFault known maps args UncertainSizes = IsGeometryFault known maps args.scan.image UncertainSizes
 IsManifestFault known maps args Extent =
     (g : Sizes) × IsGeometryOf known maps args.scan.image g × (may_all_be_reset g args.resets.items ≡ false)
 IsManifestFault known maps args OutOfMemory = Unit {0}

@@ -14,7 +14,7 @@ use Rattle.scrub_shard.specs.declared.archiving.Remark.{Remark}
 use Rattle.scrub_args.specs.declared.args.Wanted.{Wanted}
 use Rattle.scrub_args.specs.declared.args.Wanted.TheVariants.{Report, Index, Locators, Shards, Summary, Reclaimable}
 use Rattle.scrub_cli.specs.declared.process.fault.Fault.{Fault}
-use Rattle.scrub_cli.specs.declared.process.fault.Fault.TheVariants.{Geometry, NoSizes, NoMap, MapLine, NoImage, OutOfMemory}
+use Rattle.scrub_cli.specs.declared.process.fault.Fault.TheVariants.{Geometry, NoSizes, UncertainSizes, NoMap, MapLine, NoImage, OutOfMemory}
 use Rattle.scrub_cli.specs.declared.process.outcome.Outcome.{Outcome}
 use Rattle.scrub_args.specs.declared.args.ImageArgs.{ImageArgs}
 use Rattle.scrub_args.specs.declared.args.ScanArgs.{ScanArgs}
@@ -72,6 +72,7 @@ IsLoadFault known maps args fault = (g : Sizes) × IsGeometryOf known maps args 
 abbrev pub IsScanFault : KnownRaw → KnownMaps → ImageArgs → Fault → Type 0
 IsScanFault known maps args (Geometry fault) = IsGeometryFault known maps args (Geometry fault)
 IsScanFault known maps args NoSizes = IsGeometryFault known maps args NoSizes
+IsScanFault known maps args UncertainSizes = IsGeometryFault known maps args UncertainSizes
 IsScanFault known maps args OutOfMemory = Unit {0}
 IsScanFault known maps args (NoMap name) = IsGeometryFault known maps args (NoMap name) ⊎ IsLoadFault known maps args (NoMap name)
 IsScanFault known maps args (MapLine k) = IsGeometryFault known maps args (MapLine k) ⊎ IsLoadFault known maps args (MapLine k)

@@ -11,7 +11,7 @@ use Rattle.scrub_shard.specs.Shard.{IsShardAnswer}
 use Rattle.scrub_shard.specs.declared.shard.ShardAnswer.{ShardAnswer}
 use Rattle.scrub_shard.specs.declared.shard.ShardAnswer.TheVariants.{NoSuchShard, PayloadLost as payload_is_lost, Found}
 use Rattle.scrub_cli.specs.declared.process.fault.Fault.{Fault}
-use Rattle.scrub_cli.specs.declared.process.fault.Fault.TheVariants.{Geometry, NoSizes, BadShard, NoMap, MapLine, NoImage, NoShard, PayloadLost, OutOfMemory}
+use Rattle.scrub_cli.specs.declared.process.fault.Fault.TheVariants.{Geometry, NoSizes, UncertainSizes, BadShard, NoMap, MapLine, NoImage, NoShard, PayloadLost, OutOfMemory}
 use Rattle.scrub_cli.specs.declared.process.outcome.Outcome.{Outcome}
 use Rattle.scrub_args.specs.declared.args.ShardArgs.{ShardArgs}
 use Rattle.scrub_cli.specs.DiskImage.{IsLoadedDisk, IsDiskFault}
@@ -81,6 +81,7 @@ IsFaultAfterId known maps args fault =
 abbrev pub IsShardFault : KnownRaw → KnownMaps → ShardArgs → Fault → Type 0
 IsShardFault known maps args (Geometry fault) = IsGeometryFault known maps args.scan.image (Geometry fault)
 IsShardFault known maps args NoSizes = IsGeometryFault known maps args.scan.image NoSizes
+IsShardFault known maps args UncertainSizes = IsGeometryFault known maps args.scan.image UncertainSizes
 IsShardFault known maps args (BadShard text) =
     (g : Sizes) × IsGeometryOf known maps args.scan.image g × (text ≡ args.id) × IsNoIdText args.id.now
 IsShardFault known maps args NoShard = IsShardLost known maps args NoShard

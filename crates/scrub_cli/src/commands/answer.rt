@@ -11,7 +11,7 @@ ghost use Rattle.scrub_cli.specs.Lines.{lines_of};
 ghost use Rattle.scrub_cli.specs.Outcome.{outcome_of};
 ghost use Rattle.scrub_cli.specs.Manifest.{IsManifestListed};
 ghost use Rattle.scrub_cli.specs.Scan.{IsDiskAnswer, acceptance};
-ghost use Rattle.scrub_cli.specs.SizesListed.{AreSizesListed};
+ghost use Rattle.scrub_cli.specs.SizesListed.{AreSizesListed, no_record_line};
 ghost use Rattle.scrub_cli.specs.Superblock.{AreSuperblocksListed};
 
 use crate::commands::remarks::superblock_lines;
@@ -89,6 +89,19 @@ pub fn superblock_listing<D: PageSource>(alloc: Global, disk: &D) -> Result<Answ
     Ok(Answer::new(listing.text, listing.is_clean))
 }
 
+/// The line of the error stream for a listing of records without lines; none for another one.
+fn no_record_line(alloc: Global, text: &[u8]) -> Result<Vec<u8>, OutOfMemory>
+    ensures { IfOk result (λ lines. lines.items ≡ no_record_line text.now) }
+{
+    if !text.is_empty() {
+        return Ok(Vec::new(alloc));
+    }
+    Vec::from_slice(
+        alloc,
+        b"shardscrub: no superblock record in the first 64 MiB\n",
+    )
+}
+
 /// The lines of the superblock records of a raw image, whose blocks lack what `lacking` says.
 pub fn sizes_listing<R: RawImage>(
     alloc: Global,
@@ -101,7 +114,11 @@ pub fn sizes_listing<R: RawImage>(
         lacking.now a.text.items a.outcome) }
 {
     let listing = list_sizes(alloc, raw, lacking)?;
-    Ok(Answer::new(listing.text, listing.is_clean))
+    let lines = no_record_line(alloc, &listing.text)?;
+    Ok(Answer {
+        text: listing.text,
+        outcome: Outcome::warned(lines, listing.is_clean),
+    })
 }
 
 /// The doubts that the arguments accept, for a list of what may be reclaimed.

@@ -28,9 +28,10 @@ pub enum Fault<'a> {
     Args(String),
     /// The sizes are refused; this is the first limit that they break.
     Geometry(GeometryFault),
-    /// No sizes are given, and the image has no superblock record, or not all have the same sizes, or
-    /// something is lost there.
+    /// No sizes are given, and the image has no superblock record, or not all have the same sizes.
     NoSizes,
+    /// No sizes are given, and the image has superblock records, but something is lost where they may be.
+    UncertainSizes,
     /// The disk has no such extent, or it is extent 0 and can't be reset.
     Extent,
     /// This argument isn't the identifier of a shard.
@@ -147,6 +148,7 @@ impl Fault<'_> {
             | Fault::Args(_)
             | Fault::Geometry(_)
             | Fault::NoSizes
+            | Fault::UncertainSizes
             | Fault::Extent
             | Fault::BadShard(_)
             | Fault::Pointer
@@ -168,6 +170,11 @@ impl Fault<'_> {
             Fault::NotUtf8 => write_line(err, "a word is not UTF-8", ""),
             Fault::Geometry(fault) => write_line(err, "geometry refused: ", limit(*fault)),
             Fault::NoSizes => write_line(err, "sizes not found: run shardscrub sizes", ""),
+            Fault::UncertainSizes => write_line(
+                err,
+                "sizes not certain: records were found, but bytes of the first 64 MiB can't be read; ",
+                "give --page, --pages and --extents (shardscrub sizes lists them)",
+            ),
             Fault::Extent => write_line(err, "extent out of range", ""),
             Fault::BadShard(arg) => write_line(err, "shard refused: ", arg),
             Fault::Pointer => write_line(err, "pointer out of range", ""),
