@@ -4,7 +4,7 @@ use Rattle.std.specs.Borrow.{Bor}
 use Rattle.scrub_disk.specs.declared.geometry.GeometryFault.{GeometryFault}
 use Rattle.scrub_disk.specs.declared.geometry.Geometry.{Geometry as Sizes}
 use Rattle.scrub_cli.specs.declared.process.fault.Fault.{Fault}
-use Rattle.scrub_cli.specs.declared.process.fault.Fault.TheVariants.{NotUtf8, Help, Args, Geometry, NoSizes, UncertainSizes, Extent, BadShard, Pointer, BadPage, NoMap, MapLine, NoImage, TooLong, NoShard, PayloadLost, Output, OutOfMemory}
+use Rattle.scrub_cli.specs.declared.process.fault.Fault.TheVariants.{NotUtf8, Help, Args, Geometry, NoSizes, UncertainSizes, Extent, BadShard, Pointer, BadRun, BadPage, NoMap, MapLine, NoImage, TooLong, NoRun, NoShard, PayloadLost, Output, OutOfMemory}
 use Rattle.scrub_args.specs.declared.args.GivenSizes.{GivenSizes}
 use Rattle.scrub_args.specs.declared.args.ImageArgs.{ImageArgs}
 use Rattle.scrub_cli.specs.DiskImage.{IsDiskFault}
@@ -44,11 +44,13 @@ of_geometry_fault Holds known maps args limit found uncertain unopened line none
 of_geometry_fault Holds known maps args limit found uncertain unopened line none memory Extent is = absurd (never args.sizes is)
 of_geometry_fault Holds known maps args limit found uncertain unopened line none memory (BadShard text) is = absurd (never args.sizes is)
 of_geometry_fault Holds known maps args limit found uncertain unopened line none memory Pointer is = absurd (never args.sizes is)
+of_geometry_fault Holds known maps args limit found uncertain unopened line none memory (BadRun arg) is = absurd (never args.sizes is)
 of_geometry_fault Holds known maps args limit found uncertain unopened line none memory (BadPage arg) is = absurd (never args.sizes is)
 of_geometry_fault Holds known maps args limit found uncertain unopened line none memory (NoMap name) is = unopened name is
 of_geometry_fault Holds known maps args limit found uncertain unopened line none memory (MapLine k) is = line k is
 of_geometry_fault Holds known maps args limit found uncertain unopened line none memory (NoImage name) is = none name is
 of_geometry_fault Holds known maps args limit found uncertain unopened line none memory TooLong is = absurd (never args.sizes is)
+of_geometry_fault Holds known maps args limit found uncertain unopened line none memory (NoRun arg) is = absurd (never args.sizes is)
 of_geometry_fault Holds known maps args limit found uncertain unopened line none memory NoShard is = absurd (never args.sizes is)
 of_geometry_fault Holds known maps args limit found uncertain unopened line none memory (PayloadLost number) is = absurd (never args.sizes is)
 of_geometry_fault Holds known maps args limit found uncertain unopened line none memory (Output written) is = absurd (never args.sizes is)

@@ -38,6 +38,8 @@ pub enum Fault<'a> {
     BadShard(&'a str),
     /// The write pointer is past the end of the extent.
     Pointer,
+    /// This argument isn't `EXTENT:OFFSET`, the extent is extent 0, or the disk has no such place.
+    BadRun(&'a str),
     /// This argument isn't `EXTENT:PAGE`, or the disk has no such page.
     BadPage(&'a str),
     /// The map of this name can't be opened, or a read of it failed.
@@ -49,6 +51,8 @@ pub enum Fault<'a> {
     NoImage(&'a str),
     /// The image has a byte after the disk's last page.
     TooLong,
+    /// No index run is at the place that this argument names.
+    NoRun(&'a str),
     /// The shard map has no such shard.
     NoShard,
     /// The payload of this number, from 0 in the order of the shard's entry, is lost. It is the first such.
@@ -152,8 +156,10 @@ impl Fault<'_> {
             | Fault::Extent
             | Fault::BadShard(_)
             | Fault::Pointer
+            | Fault::BadRun(_)
             | Fault::BadPage(_)
-            | Fault::MapLine(_) => 2,
+            | Fault::MapLine(_)
+            | Fault::NoRun(_) => 2,
             Fault::NoMap(_) | Fault::NoImage(_) | Fault::TooLong | Fault::Output { .. } => 3,
             Fault::OutOfMemory => 4,
         }
@@ -178,11 +184,13 @@ impl Fault<'_> {
             Fault::Extent => write_line(err, "extent out of range", ""),
             Fault::BadShard(arg) => write_line(err, "shard refused: ", arg),
             Fault::Pointer => write_line(err, "pointer out of range", ""),
+            Fault::BadRun(arg) => write_line(err, "run refused: ", arg),
             Fault::BadPage(arg) => write_line(err, "bad page refused: ", arg),
             Fault::NoMap(name) => write_line(err, "map cannot be opened: ", name),
             Fault::MapLine(line) => write_number(err, "map refused: line ", *line as usize, ""),
             Fault::NoImage(name) => write_line(err, "image cannot be opened: ", name),
             Fault::TooLong => write_line(err, "image too long", ""),
+            Fault::NoRun(arg) => write_line(err, "run not found: ", arg),
             Fault::NoShard => write_line(err, "no such shard", ""),
             Fault::PayloadLost(number) => write_number(err, before_number(*number), *number, ""),
             Fault::Output { written } => write_number(
