@@ -1,9 +1,10 @@
 -- The index runs that arguments give, from what the parts find, and why there are none.
 use Rattle.std.proofs.Common.{◌≡◌, ◌<◌, ◌≤◌, ◌+◌, ◌∙◌, ◌++◌, ◌∷◌, [], ℕ, Bool, true, false, List, Option, None, Some, Result, Ok, Err, MatchResult, All, length, take, get_or, arith, ap, refl, sym, subst}
-use Rattle.std.specs.Prelude.{fold, slice_index_or}
+use Rattle.std.specs.Prelude.{fold, if◌then◌else◌, slice_index_or}
 use Rattle.std.specs.Borrow.{Bor}
 use Rattle.std.specs.List.{AllZip, list_any}
 use Rattle.std.proofs.lemmas.List.{take_all}
+use Rattle.std.proofs.lemmas.List.Elements.{All-nil}
 use Rattle.std.proofs.lemmas.List.Sums.{fold-append}
 use Rattle.list_facts.proofs.Elements.{All-one_more}
 use Rattle.list_facts.proofs.Zips.{AllZip-at, AllZip-take_more}
@@ -36,7 +37,7 @@ pub one_place_each : (g : Sizes) (args : List (Bor (List ℕ))) (places : List (
 one_place_each g [] [] named = refl
 one_place_each g [] (at ∷ places) named = absurd named
 one_place_each g (arg ∷ args) [] named = absurd named
-one_place_each g (arg ∷ args) (at ∷ places) named = ap (λ n. n + 1) (one_place_each g args places named.1)
+one_place_each g (arg ∷ args) (at ∷ places) named = omega (arith, one_place_each g args places named.1)
 
 -- the place of an argument
 pub place_of : (g : Sizes) (args : List (Bor (List ℕ))) (places : List (ℕ × ℕ)) (i : ℕ) (d : Bor (List ℕ)) (at : ℕ × ℕ) →
@@ -63,6 +64,10 @@ pub record AreFirstRuns (image : Image) (places : List (ℕ × ℕ)) (count : �
   pub there : AreRunsAt image (take count places) all
   pub runs_are : runs ≡ once all
   pub located : All IsLocator runs
+
+-- there are none yet
+pub no_runs_yet : (image : Image) (places : List (ℕ × ℕ)) → AreFirstRuns image places 0 []
+no_runs_yet image places = record { all = []; there = tt; runs_are = refl; located = All-nil IsLocator }
 
 -- one more, at the next place
 pub first_runs_more : (image : Image) (places : List (ℕ × ℕ)) (count : ℕ) (runs more : List Locator) (at : ℕ × ℕ) (l : Locator) →
