@@ -24,3 +24,30 @@ returns-in_ok-found-in-Index-clause-answer g c =
       c.new-in-Index.ensures.text ∙ c.into_index.ensures,
       c.new-in-Index.ensures.outcome ∙ ap outcome_of c.is_clean-is_clean-in-Index.ensures,
     )
+
+pub returns-in_ok-listing-in-Locators-clause-answer : goal.returns-in_ok-listing-in-Locators-clause-answer
+returns-in_ok-listing-in-Locators-clause-answer g c =
+    let image = g.D.PageSource.image c.args.disk.now in
+    subst (λ (w : Wanted). IsDiskAnswer w image c.new-in-Locators.result.text.items c.new-in-Locators.result.outcome) (sym c.in-Locators.is) (
+      c.in_ok-listing-in-Locators.listing.is_clean,
+      rw c.new-in-Locators.ensures.text c.in_ok-listing-in-Locators.ensures.listing,
+      c.new-in-Locators.ensures.outcome,
+    )
+
+pub returns-in_ok-summary-in-Summary-clause-answer : goal.returns-in_ok-summary-in-Summary-clause-answer
+returns-in_ok-summary-in-Summary-clause-answer g c =
+    let image = g.D.PageSource.image c.args.disk.now in
+    subst (λ (w : Wanted). IsDiskAnswer w image c.new-in-Summary.result.text.items c.new-in-Summary.result.outcome) (sym c.in-Summary.is) (
+      c.in_ok-summary-in-Summary.summary.is_clean,
+      rw c.new-in-Summary.ensures.text c.in_ok-summary-in-Summary.ensures.summary,
+      c.new-in-Summary.ensures.outcome,
+    )
+
+pub returns-in_ok-listing-in-Reclaimable-clause-answer : goal.returns-in_ok-listing-in-Reclaimable-clause-answer
+returns-in_ok-listing-in-Reclaimable-clause-answer g c =
+    let image = g.D.PageSource.image c.args.disk.now in
+    subst (λ (w : Wanted). IsDiskAnswer w image c.new-in-Reclaimable.result.text.items c.new-in-Reclaimable.result.outcome) (sym c.in-Reclaimable.is) (
+      c.in_ok-listing-in-Reclaimable.listing.is_clean,
+      rw (c.new-in-Reclaimable.ensures.text, ← c.acceptance.ensures) c.in_ok-listing-in-Reclaimable.ensures.listing,
+      c.new-in-Reclaimable.ensures.outcome,
+    )
