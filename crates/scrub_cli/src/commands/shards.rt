@@ -65,7 +65,7 @@ pub fn shards<R: Threads + Wait + Sync, D: PageSource>(
         (λ r. IsDiskAnswer Shards (D.image disk.now) r.0.text.items r.0.outcome) }
     ensures takings { IfOk result (λ r. AreTakingsBy (D.image disk.now) workers r.1) }
 {
-    let (archive, takings) = read_shards(rt, alloc, disk, workers, &NoGate)?;
+    let (archive, takings) = read_shards(rt, alloc, disk, workers, &NoGate, false)?;
     let mut lines = String::new(alloc);
     append_lines(alloc, &mut lines, &archive.remarks)?;
     let answer = Answer {
