@@ -6,3 +6,5 @@ pub mod Walks
 pub mod Values
 -- what is found in arguments without a fault
 pub mod Given
+-- a test of a table of rules, by which `refl` proves that it is usual
+pub mod UsualByTest

@@ -2,7 +2,6 @@
 
 -- the command line, and what arguments without a fault name
 pub mod CommandLines
-pub mod UsualRules
 pub mod Whole
 -- the values of options and arguments
 pub mod ArgsFound

@@ -1,244 +1,190 @@
 -- Arguments without a fault name a command of the program, with all that it needs.
-use Rattle.std.proofs.Common.{◌≡◌, inr, Bool, true, false, List, [], ◌∷◌, Option, None, Some, refl, sym, codes}
-use Rattle.std.specs.Prelude.{if◌then◌else◌, ◌||◌, option_map}
+use Rattle.std.proofs.Common.{◌≡◌, inl, inr, Bool, true, false, List, [], ◌∷◌, ◌++◌, Option, None, Some, refl, sym, codes}
+use Rattle.std.specs.Prelude.{find, if◌then◌else◌, ◌||◌, option_map}
 use Rattle.std.specs.Option.{option_map_or}
 use Rattle.std.specs.Str.{bytes_eq}
+use Rattle.std.proofs.lemmas.Bool.{false≢true, or_cases}
 use Rattle.std.proofs.lemmas.Slice.Eq.{bytes_eq-Decides}
 use Rattle.clap.specs.Words.{Row, Rule, Text, fault_of, subcommand_of, built}
-use Rattle.clap.specs.Simple.{Shape, entered, names_of, rows_at}
-use Rattle.clap.specs.Takes.{is_given}
+use Rattle.clap.specs.Simple.{Shape, built_leaf, entered, inherited, label_of, names_of, new_shape, rows_at}
 use Rattle.clap.specs.Walk.{answers_to, nothing_held, walk, walk_from}
 use Rattle.clap.specs.Faults.{entered_fault, level_fault, walk_fault}
 use Rattle.clap.proofs.OnLiterals.{clap_on_literals}
 use Rattle.clap_walk.specs.Rows.{EachRow, IsSound}
+use Rattle.clap_walk.specs.Rules.{AreClean}
 use Rattle.clap_walk.proofs.Walks.{IsNoHelp, parts, walk_stops}
-use Rattle.clap_walk.proofs.Given.{IsNumberRule, IsTextRule, are_given, has_number, has_text, may_have_number, rows_sound}
-use Rattle.scrub_args.specs.CommandLine.{shardscrub_app}
-use Rattle.scrub_args.specs.steps.Parsed.{HasCompare, HasDated, HasImage, HasImageName, HasItems, HasManifest, HasScan, HasShard, IsWholeParse}
+use Rattle.clap_walk.proofs.Given.{IsRequiredRule, has_flag, has_number, has_text, may_have_number, rows_sound}
+use Rattle.clap_walk.proofs.UsualByTest.{are_usual, usual_by_test}
+use Rattle.scrub_args.specs.CommandLine.{accept_rule, compare_shape, id_rule, image_rules, images_rules, items_shape, last_rule, manifest_shape, option, partial_rule, reclaimable_shape, required, reset_rule, run_rule, shard_shape, shards_shape, shardscrub_app, sizes_shape, summary_shape, superblocks_shape, workers_rule}
+use Rattle.scrub_args.specs.steps.Parsed.{HasCompare, HasDated, HasImage, HasImageName, HasItems, HasManifest, HasScan, HasShard, HasShards, IsWholeCommand, IsWholeParse}
 use Rattle.scrub_args.proofs.LongNumbers.{may_have_long}
 use Rattle.scrub_args.proofs.Numbers.{has_numbers}
-use Rattle.scrub_args.proofs.UsualRules.{built_compare, built_demo, built_help, built_items, built_manifest, built_reclaimable, built_shard, built_sizes, built_summary, built_superblocks, compare_usual, disk, disk_usual, items_usual, looked, looked_usual, manifest_usual, reclaimable_usual, shard_usual, sizes_usual, summary_usual, superblocks_usual}
 
--- the rules of a command on an image file
-record AreImageRules (c : List Rule) : Type 0 where
-  page : IsNumberRule c 4294967295 (codes "page")
-  pages : IsNumberRule c 4294967295 (codes "pages")
-  extents : IsNumberRule c 4294967295 (codes "extents")
-  image : IsTextRule c (codes "image")
+-- ---- what each command needs
 
-image_rules : {c : List Rule} → IsNumberRule c 4294967295 (codes "page") → IsNumberRule c 4294967295 (codes "pages") →
-    IsNumberRule c 4294967295 (codes "extents") → IsTextRule c (codes "image") → AreImageRules c
-image_rules page pages extents image = record { page = page; pages = pages; extents = extents; image = image }
+-- a command as `clap` builds it
+abbrev leaf : Shape → Shape
+leaf shape = built_leaf (inherited (record shardscrub_app.top { is_built = true }) shape)
 
-image_given : (c : List Rule) (rows : List Row) → EachRow (IsSound c) rows → AreImageRules c
-    → is_given (codes "page") rows ≡ true → is_given (codes "pages") rows ≡ true → is_given (codes "extents") rows ≡ true →
-    is_given (codes "image") rows ≡ true → HasImage rows
-image_given c rows sound rules page pages extents image = record {
-  page = inr (has_number c rows sound (codes "page") rules.page.0 rules.page.1 4294967295 rules.page.2 rules.page.3 page);
-  pages = inr (has_number c rows sound (codes "pages") rules.pages.0 rules.pages.1 4294967295 rules.pages.2 rules.pages.3 pages);
-  extents =
-      inr (has_number c rows sound (codes "extents") rules.extents.0 rules.extents.1 4294967295 rules.extents.2 rules.extents.3
-      extents);
-  image = has_text c rows sound (codes "image") rules.image.0 rules.image.1 image;
+-- what is found in arguments without a fault for the command has all this
+abbrev Has : (List Row → Type 0) → Shape → Type 0
+Has P s = (args : List Text) → AreClean s args → P (rows_at s args).1
+
+-- the rows of a command whose rules pass the test
+sound : (s : Shape) → are_usual s.rules ≡ true → Has (EachRow (IsSound s.rules)) s
+sound s usual args clean = (rows_sound s (usual_by_test s.rules usual) args clean).0
+
+-- a command on an image: whether the sizes have to be given, its own options, and the arguments after these
+abbrev imaged : Text → Bool → List Rule → List Rule → Shape
+imaged name sized own images = leaf (record (new_shape name) {
+  rules =
+      (record (option (codes "page")) { required = sized } ∷ record (option (codes "pages")) { required = sized }
+      ∷ record (option (codes "extents")) { required = sized } ∷ []) ++ own ++ images;
+})
+
+-- it has the name of an image, and a number of 32 bits for each size that is given
+module _ (name : Text) (sized : Bool) (own images : List Rule) where
+  image_whole : are_usual (imaged name sized own images).rules ≡ true →
+      IsRequiredRule (imaged name sized own images).rules (codes "image") → Has HasImage (imaged name sized own images)
+  unfolding clap_on_literals
+  image_whole usual image args clean =
+      let s = imaged name sized own images in
+      let are = usual_by_test s.rules usual in
+      record {
+        page = may_have_number s are args clean 4294967295 (codes "page") (_, refl, refl, refl);
+        pages = may_have_number s are args clean 4294967295 (codes "pages") (_, refl, refl, refl);
+        extents = may_have_number s are args clean 4294967295 (codes "extents") (_, refl, refl, refl);
+        image = has_text s are args clean (codes "image") image;
+      }
+
+-- a command on the whole disk
+abbrev scanned : Text → Bool → List Rule → List Rule → Shape
+scanned name sized own images = imaged name sized (workers_rule ∷ own) images
+
+-- it has this, and at most 64 workers
+module _ (name : Text) (sized : Bool) (own images : List Rule) where
+  scan_whole : are_usual (scanned name sized own images).rules ≡ true →
+      IsRequiredRule (scanned name sized own images).rules (codes "image") → Has HasScan (scanned name sized own images)
+  unfolding clap_on_literals
+  scan_whole usual image args clean =
+      let s = scanned name sized own images in
+      record {
+        disk = image_whole name sized (workers_rule ∷ own) images usual image args clean;
+        workers = may_have_number s (usual_by_test s.rules usual) args clean 64 (codes "workers") (_, refl, refl, refl);
+      }
+
+-- a command on the whole disk without options of its own
+plain_whole : (name : Text) (sized : Bool) → Has HasScan (scanned name sized [] image_rules)
+unfolding clap_on_literals
+plain_whole name sized = scan_whole name sized [] image_rules refl (_, refl, refl)
+
+manifest_whole : Has HasManifest (leaf manifest_shape)
+unfolding clap_on_literals
+manifest_whole args clean = record {
+  scan = scan_whole (codes "manifest") true (reset_rule ∷ run_rule ∷ []) image_rules refl (_, refl, refl) args clean;
+  resets = has_numbers (leaf manifest_shape).rules _ (sound (leaf manifest_shape) refl args clean) (codes "reset") _ refl refl refl;
 }
 
--- the same if the sizes may be left out
-image_looked : (c : List Rule) (rows : List Row) → EachRow (IsSound c) rows → AreImageRules c →
-    is_given (codes "image") rows ≡ true → HasImage rows
-image_looked c rows sound rules image = record {
-  page = may_have_number c rows sound (codes "page") rules.page.0 rules.page.1 4294967295 rules.page.2 rules.page.3;
-  pages = may_have_number c rows sound (codes "pages") rules.pages.0 rules.pages.1 4294967295 rules.pages.2 rules.pages.3;
-  extents = may_have_number c rows sound (codes "extents") rules.extents.0 rules.extents.1 4294967295 rules.extents.2 rules.extents.3;
-  image = has_text c rows sound (codes "image") rules.image.0 rules.image.1 image;
+compare_whole : Has HasCompare (leaf compare_shape)
+unfolding clap_on_literals
+compare_whole args clean = record {
+  before = record {
+    scan = scan_whole (codes "compare") true (reset_rule ∷ []) images_rules refl (_, refl, refl) args clean;
+    resets = has_numbers (leaf compare_shape).rules _ (sound (leaf compare_shape) refl args clean) (codes "reset") _ refl refl refl;
+  };
+  after = has_text (leaf compare_shape) (usual_by_test (leaf compare_shape).rules refl) args clean (codes "after") (_, refl, refl);
 }
 
-looked_whole : (name : Text) (args : List Text) → level_fault (looked name) [] nothing_held args false [] ≡ [] →
-    HasScan (rows_at (looked name) args).1
+summary_whole : Has HasDated (leaf summary_shape)
 unfolding clap_on_literals
-looked_whole name args clean =
-    let c = (looked name).rules in
-    let rows = (rows_at (looked name) args).1 in
-    let known = rows_sound (looked name) (looked_usual name) args clean in
-    let given = are_given rows (codes "image" ∷ []) known.1 in
-    let rules : AreImageRules c = image_rules (_, refl, refl, refl) (_, refl, refl, refl) (_, refl, refl, refl) (_, refl) in
-    record {
-      disk = image_looked c rows known.0 rules given.0;
-      workers = may_have_number c rows known.0 (codes "workers") _ refl 64 refl refl;
-    }
+summary_whole args clean = record {
+  scan = scan_whole (codes "summary") false (last_rule ∷ []) image_rules refl (_, refl, refl) args clean;
+  last = may_have_long (leaf summary_shape).rules _ (sound (leaf summary_shape) refl args clean) (codes "last") _ refl refl refl;
+}
 
-disk_whole : (name : Text) (args : List Text) → level_fault (disk name) [] nothing_held args false [] ≡ [] →
-    HasScan (rows_at (disk name) args).1
+reclaimable_whole : Has HasDated (leaf reclaimable_shape)
 unfolding clap_on_literals
-disk_whole name args clean =
-    let c = (disk name).rules in
-    let rows = (rows_at (disk name) args).1 in
-    let known = rows_sound (disk name) (disk_usual name) args clean in
-    let given = are_given rows (codes "page" ∷ codes "pages" ∷ codes "extents" ∷ codes "image" ∷ []) known.1 in
-    let rules : AreImageRules c = image_rules (_, refl, refl, refl) (_, refl, refl, refl) (_, refl, refl, refl) (_, refl) in
-    record {
-      disk = image_given c rows known.0 rules given.0 given.1.0 given.1.1.0 given.1.1.1.0;
-      workers = may_have_number c rows known.0 (codes "workers") _ refl 64 refl refl;
-    }
+reclaimable_whole args clean = record {
+  scan = scan_whole (codes "reclaimable") true (accept_rule ∷ last_rule ∷ []) image_rules refl (_, refl, refl) args clean;
+  last = may_have_long (leaf reclaimable_shape).rules _ (sound (leaf reclaimable_shape) refl args clean) (codes "last") _ refl refl refl;
+}
 
-manifest_whole : (args : List Text) → level_fault built_manifest [] nothing_held args false [] ≡ [] →
-    HasManifest (rows_at built_manifest args).1
+shard_whole : Has HasShard (leaf shard_shape)
 unfolding clap_on_literals
-manifest_whole args clean =
-    let c = built_manifest.rules in
-    let rows = (rows_at built_manifest args).1 in
-    let known = rows_sound built_manifest manifest_usual args clean in
-    let given = are_given rows (codes "page" ∷ codes "pages" ∷ codes "extents" ∷ codes "image" ∷ []) known.1 in
-    let rules : AreImageRules c = image_rules (_, refl, refl, refl) (_, refl, refl, refl) (_, refl, refl, refl) (_, refl) in
-    record {
-      scan = record {
-        disk = image_given c rows known.0 rules given.0 given.1.0 given.1.1.0 given.1.1.1.0;
-        workers = may_have_number c rows known.0 (codes "workers") _ refl 64 refl refl;
-      };
-      resets = has_numbers c rows known.0 (codes "reset") _ refl refl refl;
-    }
+shard_whole args clean = record {
+  scan = scan_whole (codes "shard") false (id_rule ∷ run_rule ∷ []) image_rules refl (_, refl, refl) args clean;
+  id = has_text (leaf shard_shape) (usual_by_test (leaf shard_shape).rules refl) args clean (codes "id") (_, refl, refl);
+}
 
-compare_whole : (args : List Text) → level_fault built_compare [] nothing_held args false [] ≡ [] →
-    HasCompare (rows_at built_compare args).1
+shards_whole : Has HasShards (leaf shards_shape)
 unfolding clap_on_literals
-compare_whole args clean =
-    let c = built_compare.rules in
-    let rows = (rows_at built_compare args).1 in
-    let known = rows_sound built_compare compare_usual args clean in
-    let given = are_given rows (codes "page" ∷ codes "pages" ∷ codes "extents" ∷ codes "image" ∷ codes "after" ∷ []) known.1 in
-    let rules : AreImageRules c = image_rules (_, refl, refl, refl) (_, refl, refl, refl) (_, refl, refl, refl) (_, refl) in
-    record {
-      before = record {
-        scan = record {
-          disk = image_given c rows known.0 rules given.0 given.1.0 given.1.1.0 given.1.1.1.0;
-          workers = may_have_number c rows known.0 (codes "workers") _ refl 64 refl refl;
-        };
-        resets = has_numbers c rows known.0 (codes "reset") _ refl refl refl;
-      };
-      after = has_text c rows known.0 (codes "after") _ refl given.1.1.1.1.0;
-    }
+shards_whole args clean = record {
+  scan = scan_whole (codes "shards") false (partial_rule ∷ run_rule ∷ []) image_rules refl (_, refl, refl) args clean;
+  partial = has_flag (leaf shards_shape) (usual_by_test (leaf shards_shape).rules refl) args clean (codes "partial") (_, refl, refl, refl);
+}
 
-summary_whole : (args : List Text) → level_fault built_summary [] nothing_held args false [] ≡ [] →
-    HasDated (rows_at built_summary args).1
+superblocks_whole : Has HasImage (leaf superblocks_shape)
 unfolding clap_on_literals
-summary_whole args clean =
-    let c = built_summary.rules in
-    let rows = (rows_at built_summary args).1 in
-    let known = rows_sound built_summary summary_usual args clean in
-    let given = are_given rows (codes "image" ∷ []) known.1 in
-    let rules : AreImageRules c = image_rules (_, refl, refl, refl) (_, refl, refl, refl) (_, refl, refl, refl) (_, refl) in
-    record {
-      scan = record {
-        disk = image_looked c rows known.0 rules given.0;
-        workers = may_have_number c rows known.0 (codes "workers") _ refl 64 refl refl;
-      };
-      last = may_have_long c rows known.0 (codes "last") _ refl refl refl;
-    }
+superblocks_whole = image_whole (codes "superblocks") false [] image_rules refl (_, refl, refl)
 
-reclaimable_whole : (args : List Text) → level_fault built_reclaimable [] nothing_held args false [] ≡ [] →
-    HasDated (rows_at built_reclaimable args).1
-unfolding clap_on_literals
-reclaimable_whole args clean =
-    let c = built_reclaimable.rules in
-    let rows = (rows_at built_reclaimable args).1 in
-    let known = rows_sound built_reclaimable reclaimable_usual args clean in
-    let given = are_given rows (codes "page" ∷ codes "pages" ∷ codes "extents" ∷ codes "image" ∷ []) known.1 in
-    let rules : AreImageRules c = image_rules (_, refl, refl, refl) (_, refl, refl, refl) (_, refl, refl, refl) (_, refl) in
-    record {
-      scan = record {
-        disk = image_given c rows known.0 rules given.0 given.1.0 given.1.1.0 given.1.1.1.0;
-        workers = may_have_number c rows known.0 (codes "workers") _ refl 64 refl refl;
-      };
-      last = may_have_long c rows known.0 (codes "last") _ refl refl refl;
-    }
-
-shard_whole : (args : List Text) → level_fault built_shard [] nothing_held args false [] ≡ [] →
-    HasShard (rows_at built_shard args).1
-unfolding clap_on_literals
-shard_whole args clean =
-    let c = built_shard.rules in
-    let rows = (rows_at built_shard args).1 in
-    let known = rows_sound built_shard shard_usual args clean in
-    let given = are_given rows (codes "id" ∷ codes "image" ∷ []) known.1 in
-    let rules : AreImageRules c = image_rules (_, refl, refl, refl) (_, refl, refl, refl) (_, refl, refl, refl) (_, refl) in
-    record {
-      scan = record {
-        disk = image_looked c rows known.0 rules given.1.0;
-        workers = may_have_number c rows known.0 (codes "workers") _ refl 64 refl refl;
-      };
-      id = has_text c rows known.0 (codes "id") _ refl given.0;
-    }
-
-superblocks_whole : (args : List Text) → level_fault built_superblocks [] nothing_held args false [] ≡ [] →
-    HasImage (rows_at built_superblocks args).1
-unfolding clap_on_literals
-superblocks_whole args clean =
-    let c = built_superblocks.rules in
-    let rows = (rows_at built_superblocks args).1 in
-    let known = rows_sound built_superblocks superblocks_usual args clean in
-    let given = are_given rows (codes "image" ∷ []) known.1 in
-    let rules : AreImageRules c = image_rules (_, refl, refl, refl) (_, refl, refl, refl) (_, refl, refl, refl) (_, refl) in
-    image_looked c rows known.0 rules given.0
-
-sizes_whole : (args : List Text) → level_fault built_sizes [] nothing_held args false [] ≡ [] →
-    HasImageName (rows_at built_sizes args).1
+sizes_whole : Has HasImageName (leaf sizes_shape)
 unfolding clap_on_literals
 sizes_whole args clean =
-    let rows = (rows_at built_sizes args).1 in
-    let known = rows_sound built_sizes sizes_usual args clean in
-    let given = are_given rows (codes "image" ∷ []) known.1 in
-    has_text built_sizes.rules rows known.0 (codes "image") _ refl given.0
+    has_text (leaf sizes_shape) (usual_by_test (leaf sizes_shape).rules refl) args clean (codes "image") (_, refl, refl)
 
-items_whole : (args : List Text) → level_fault built_items [] nothing_held args false [] ≡ [] →
-    HasItems (rows_at built_items args).1
+items_whole : Has HasItems (leaf items_shape)
 unfolding clap_on_literals
 items_whole args clean =
-    let c = built_items.rules in
-    let rows = (rows_at built_items args).1 in
-    let known = rows_sound built_items items_usual args clean in
-    let given = are_given rows (codes "extent" ∷ codes "image" ∷ []) known.1 in
-    let rules : AreImageRules c = image_rules (_, refl, refl, refl) (_, refl, refl, refl) (_, refl, refl, refl) (_, refl) in
+    let s = leaf items_shape in
+    let usual = usual_by_test s.rules refl in
     record {
-      disk = image_looked c rows known.0 rules given.1.0;
-      extent = has_number c rows known.0 (codes "extent") _ refl 4294967295 refl refl given.0;
-      pointer = may_have_number c rows known.0 (codes "pointer") _ refl 4294967295 refl refl;
+      disk = image_whole (codes "items") false (required (option (codes "extent")) ∷ option (codes "pointer") ∷ []) image_rules refl (_, refl, refl) args clean;
+      extent = has_number s usual args clean 4294967295 (codes "extent") (_, refl, refl, refl) refl;
+      pointer = may_have_number s usual args clean 4294967295 (codes "pointer") (_, refl, refl, refl);
     }
 
--- the command that an argument names, by the test of each name
-abbrev stopped_at : (summary scan shard shards index locators manifest reclaimable compare superblocks sizes items demo help : Bool) → Option Shape
-stopped_at summary scan shard shards index locators manifest reclaimable compare superblocks sizes items demo help =
-    if summary then Some built_summary else (if scan then Some (looked (codes "scan")) else (if shard then Some built_shard else (if shards then Some (looked (codes "shards")) else (if index then Some (disk (codes "index")) else (if locators then Some (looked (codes "locators")) else (if manifest then Some built_manifest else (if reclaimable then Some built_reclaimable else (if compare then Some built_compare else (if superblocks then Some built_superblocks else (if sizes then Some built_sizes else (if items then Some built_items else (if demo then Some built_demo else (if help || false then Some built_help else None)))))))))))))
+-- ---- the command that the arguments name
+
+-- P holds of each of some commands
+abbrev EachShape : (Shape → Type 0) → List Shape → Type 0
+EachShape P [] = Unit {0}
+EachShape P (s ∷ more) = P s × EachShape P more
+
+module _ (word : Text) (args : List Text) where
+  -- the command, if the word names it, has what it needs
+  abbrev IsWhole : Shape → Type 0
+  IsWhole s = answers_to word (label_of s) ≡ true → AreClean s args → IsWholeCommand s.name (rows_at s args).1
+
+  named_whole : (shapes : List Shape) → EachShape IsWhole shapes →
+      option_map_or (λ s. level_fault s [] nothing_held args false []) (find (λ s. answers_to word (label_of s)) shapes) [] ≡ [] →
+      IsWholeParse (option_map (λ s. rows_at s args) (find (λ s. answers_to word (label_of s)) shapes))
+  named_whole [] each clean = tt
+  named_whole (s ∷ more) each clean = go (answers_to word (label_of s)) refl (named_whole more each.1) clean
+    where
+      rest : Option Shape
+      rest = find (λ s. answers_to word (label_of s)) more
+
+      go : (b : Bool) → answers_to word (label_of s) ≡ b →
+          (option_map_or (λ s. level_fault s [] nothing_held args false []) rest [] ≡ [] → IsWholeParse (option_map (λ s. rows_at s args) rest)) →
+          option_map_or (λ s. level_fault s [] nothing_held args false []) (if b then Some s else rest) [] ≡ [] →
+          IsWholeParse (option_map (λ s. rows_at s args) (if b then Some s else rest))
+      go true is later clean = each.0 is clean
+      go false is later clean = later clean
 
 stop_whole : (stop : Option (Text × List Text)) → IsNoHelp stop → entered_fault (built shardscrub_app) stop ≡ [] →
     IsWholeParse (entered (built shardscrub_app) stop)
 unfolding clap_on_literals
 stop_whole None other clean = tt
 stop_whole (Some p) other clean =
-    go (answers_to p.0 (codes "summary", [])) (answers_to p.0 (codes "scan", [])) (answers_to p.0 (codes "shard", [])) (answers_to p.0 (codes "shards", [])) (answers_to p.0 (codes "index", [])) (answers_to p.0 (codes "locators", [])) (answers_to p.0 (codes "manifest", [])) (answers_to p.0 (codes "reclaimable", [])) (answers_to p.0 (codes "compare", [])) (answers_to p.0 (codes "superblocks", [])) (answers_to p.0 (codes "sizes", [])) (answers_to p.0 (codes "items", [])) (answers_to p.0 (codes "demo", []))
-    (bytes_eq (codes "help") p.0) refl clean
+    named_whole p.0 p.1 (built shardscrub_app).subs
+    ((λ is. summary_whole p.1), ((λ is. plain_whole (codes "scan") false p.1), ((λ is. shard_whole p.1), ((λ is. shards_whole p.1), ((λ is. plain_whole (codes "index") true p.1), ((λ is. plain_whole (codes "locators") false p.1), ((λ is. manifest_whole p.1), ((λ is. plain_whole (codes "runs") true p.1), ((λ is. reclaimable_whole p.1), ((λ is. compare_whole p.1), ((λ is. superblocks_whole p.1), ((λ is. sizes_whole p.1), ((λ is. items_whole p.1), ((λ is clean. tt), ((λ is clean. absurd (no_help is)), tt)))))))))))))))
+    clean
   where
-    no_help : bytes_eq (codes "help") p.0 ≡ true → ⊥
-    no_help is =
-        let back = (bytes_eq-Decides p.0 (codes "help")).1 (sym ((bytes_eq-Decides (codes "help") p.0).0 is)) in
-        cc (back, other)
-
-    go : (u s c a x l m r k b z i d h : Bool) → bytes_eq (codes "help") p.0 ≡ h →
-        option_map_or (λ s. level_fault s [] nothing_held p.1 false []) (stopped_at u s c a x l m r k b z i d h) [] ≡ []
-        → IsWholeParse (option_map (λ s. rows_at s p.1) (stopped_at u s c a x l m r k b z i d h))
-    go true s c a x l m r k b z i d h is clean = summary_whole p.1 clean
-    go false true c a x l m r k b z i d h is clean = looked_whole (codes "scan") p.1 clean
-    go false false true a x l m r k b z i d h is clean = shard_whole p.1 clean
-    go false false false true x l m r k b z i d h is clean = looked_whole (codes "shards") p.1 clean
-    go false false false false true l m r k b z i d h is clean = disk_whole (codes "index") p.1 clean
-    go false false false false false true m r k b z i d h is clean = looked_whole (codes "locators") p.1 clean
-    go false false false false false false true r k b z i d h is clean = manifest_whole p.1 clean
-    go false false false false false false false true k b z i d h is clean = reclaimable_whole p.1 clean
-    go false false false false false false false false true b z i d h is clean = compare_whole p.1 clean
-    go false false false false false false false false false true z i d h is clean = superblocks_whole p.1 clean
-    go false false false false false false false false false false true i d h is clean = sizes_whole p.1 clean
-    go false false false false false false false false false false false true d h is clean = items_whole p.1 clean
-    go false false false false false false false false false false false false true h is clean = tt
-    go false false false false false false false false false false false false false true is clean = absurd (no_help is)
-    go false false false false false false false false false false false false false false is clean = tt
+    no_help : (bytes_eq (codes "help") p.0 || false) ≡ true → ⊥
+    no_help is = elim (or_cases (bytes_eq (codes "help") p.0) false is) [
+      | inl same ↦ cc ((bytes_eq-Decides p.0 (codes "help")).1 (sym ((bytes_eq-Decides (codes "help") p.0).0 same)), other)
+      | inr none ↦ absurd (false≢true none)
+    ]
 
 -- If arguments without a fault name a command, it is one of the program with all that it needs.
 pub whole : (args : List Text) → fault_of shardscrub_app args ≡ [] → IsWholeParse (subcommand_of shardscrub_app args)

@@ -1,10 +1,11 @@
 -- What the given arguments ask for, by what `clap` finds in them.
-use Rattle.std.specs.Prelude.{◌≡◌, ◌≢◌, ◌<◌, ◌≤◌, ◌^◌, ◌⊎◌, ◌&&◌, ◌||◌, ◌↔◌, ◌++◌, ◌∷◌, ℕ, List, [], Option, None, Some, map, codes, is_some, unwrap_or, option_map, MatchOption, false, true}
+use Rattle.std.specs.Prelude.{◌≡◌, ◌≢◌, ◌<◌, ◌≤◌, ◌^◌, ◌⊎◌, ◌&&◌, ◌||◌, ◌↔◌, ◌++◌, ◌∷◌, ℕ, Bool, List, [], Option, None, Some, map, codes, is_some, unwrap_or, option_map, MatchOption, false, true}
 use Rattle.std.specs.List.{AllZip, Contains}
 use Rattle.std.specs.List.Sorted.{IsStrictlyIncreasing}
 use Rattle.std.specs.Borrow.{Bor}
 use Rattle.std.specs.Str.Parse.{without_leading_plus}
 use Rattle.clap.specs.Words.{IsAmong, Row, Text, all_of, fault_of, first_of, many_of, one_of, subcommand_of}
+use Rattle.clap.specs.Values.{bool_text}
 use Rattle.clap.specs.declared.error.kind.ErrorKind.{ErrorKind}
 use Rattle.clap.specs.declared.error.kind.ErrorKind.TheVariants.{DisplayHelp, DisplayVersion}
 use Rattle.scrub_args.specs.declared.args.GivenSizes.{GivenSizes}
@@ -14,11 +15,12 @@ use Rattle.scrub_args.specs.declared.args.ScanArgs.{ScanArgs}
 use Rattle.scrub_args.specs.declared.args.ManifestArgs.{ManifestArgs}
 use Rattle.scrub_args.specs.declared.args.CompareArgs.{CompareArgs}
 use Rattle.scrub_args.specs.declared.args.ShardArgs.{ShardArgs}
+use Rattle.scrub_args.specs.declared.args.ShardsArgs.{ShardsArgs}
 use Rattle.scrub_args.specs.declared.args.SizesArgs.{SizesArgs}
 use Rattle.scrub_args.specs.declared.args.Request.{Request}
-use Rattle.scrub_args.specs.declared.args.Request.TheVariants.{Demo, Items, Disk, Manifest, Compare, Shard, Superblocks, Sizes}
+use Rattle.scrub_args.specs.declared.args.Request.TheVariants.{Demo, Items, Disk, Manifest, Compare, Shard, Shards, Superblocks, Sizes}
 use Rattle.scrub_args.specs.declared.args.Wanted.{Wanted}
-use Rattle.scrub_args.specs.declared.args.Wanted.TheVariants.{Report, Index, Locators, Shards, Summary, Reclaimable}
+use Rattle.scrub_args.specs.declared.args.Wanted.TheVariants.{Report, Index, Locators, Runs, Summary, Reclaimable}
 use Rattle.scrub_args.specs.declared.args.ArgsFault.{ArgsFault}
 use Rattle.scrub_args.specs.declared.args.ArgsFault.TheVariants.{Refused, Help, OutOfMemory}
 use Rattle.scrub_args.specs.Accepting.{first_unacceptable, refusal_of}
@@ -49,6 +51,14 @@ IsLongNumberOf found name n = (text : Text) × (one_of name found ≡ Some text)
 abbrev pub AreNumbersOf : List Row → Text → List ℕ → Type 0
 AreNumbersOf found name numbers = AllZip IsNumeralOf (unwrap_or (many_of name found) []) numbers
 
+-- the texts that were found for an option or an argument that may be repeated, in order
+abbrev pub AreTextsOf : List Row → Text → List (Bor Text) → Type 0
+AreTextsOf found name given = texts given ≡ unwrap_or (all_of name found) []
+
+-- whether a flag was given: the text that was found for it is true or false
+abbrev pub IsFlagOf : List Row → Text → Bool → Type 0
+IsFlagOf found name is_given = one_of name found ≡ Some (bool_text is_given)
+
 -- the sizes that were found, or none of them
 abbrev pub AreSizesGiven : List Row → Option GivenSizes → Type 0
 AreSizesGiven found None =
@@ -65,7 +75,7 @@ pub record HasPartOfSizes (found : List Row) : Type 0 where
 pub record AreImageArgs (found : List Row) (args : ImageArgs) : Type 0 where
   pub sizes : AreSizesGiven found args.sizes
   pub name : first_of (codes "image") found ≡ Some args.name.now
-  pub bad_pages : map (λ arg. arg.now) args.bad_pages.items ≡ unwrap_or (all_of (codes "bad-pages") found) []
+  pub bad_pages : AreTextsOf found (codes "bad-pages") args.bad_pages.items
   pub map_name : option_map (λ arg. arg.now) args.map ≡ first_of (codes "map") found
 
 -- the number of workers: 1 if none was found, else the number that was, up to 64
@@ -84,20 +94,38 @@ pub record AreResetsOf (found : List Row) (resets : List ℕ) : Type 0 where
   pub rising : IsStrictlyIncreasing resets
   pub same : (n : ℕ) → Contains numbers n ↔ Contains resets n
 
--- the values found for `manifest`
-pub record AreManifestArgs (found : List Row) (args : ManifestArgs) : Type 0 where
+-- the values found for a disk some of whose extents may be taken as reset
+pub record AreResetArgs (found : List Row) (args : ManifestArgs) : Type 0 where
   pub scan : AreScanArgs found args.scan
   pub resets : AreResetsOf found args.resets.items
 
--- the values found for `compare`: those for `manifest` on the earlier image, and the later image
+-- index runs were found, and extents to be taken as reset as well
+abbrev pub has_runs_and_resets : List Row → Bool
+has_runs_and_resets found = is_some (all_of (codes "run") found) && is_some (all_of (codes "reset") found)
+
+-- the values found for `manifest`: index runs or extents to be taken as reset, but not both
+pub record AreManifestArgs (found : List Row) (args : ManifestArgs) : Type 0 where
+  pub disk : AreResetArgs found args
+  pub runs : AreTextsOf found (codes "run") args.runs.items
+  pub one : has_runs_and_resets found ≡ false
+
+-- the values found for `compare`: those for the earlier image, no index runs, and the later image
 pub record AreCompareArgs (found : List Row) (args : CompareArgs) : Type 0 where
-  pub before : AreManifestArgs found args.before
+  pub before : AreResetArgs found args.before
+  pub no_runs : args.before.runs.items ≡ []
   pub after : first_of (codes "after") found ≡ Some args.after.now
 
 -- the values found for `shard`
 pub record AreShardArgs (found : List Row) (args : ShardArgs) : Type 0 where
   pub scan : AreScanArgs found args.scan
   pub id : first_of (codes "id") found ≡ Some args.id.now
+  pub runs : AreTextsOf found (codes "run") args.runs.items
+
+-- the values found for `shards`
+pub record AreShardsArgs (found : List Row) (args : ShardsArgs) : Type 0 where
+  pub scan : AreScanArgs found args.scan
+  pub runs : AreTextsOf found (codes "run") args.runs.items
+  pub is_partial : IsFlagOf found (codes "partial") args.is_partial
 
 -- the lines of doubts that were found to accept
 abbrev pub accepted_of : List Row → List Text
@@ -113,7 +141,7 @@ abbrev pub command_of : Wanted → Text
 command_of Report = codes "scan"
 command_of Index = codes "index"
 command_of Locators = codes "locators"
-command_of Shards = codes "shards"
+command_of Runs = codes "runs"
 command_of (Summary last) = codes "summary"
 command_of (Reclaimable accepted last) = codes "reclaimable"
 
@@ -148,6 +176,7 @@ IsAskedBy command (Manifest args) =
     (found : List Row) × (command ≡ Some (codes "manifest", found)) × AreManifestArgs found args
 IsAskedBy command (Compare args) = (found : List Row) × (command ≡ Some (codes "compare", found)) × AreCompareArgs found args
 IsAskedBy command (Shard args) = (found : List Row) × (command ≡ Some (codes "shard", found)) × AreShardArgs found args
+IsAskedBy command (Shards args) = (found : List Row) × (command ≡ Some (codes "shards", found)) × AreShardsArgs found args
 IsAskedBy command (Superblocks args) =
     (found : List Row) × (command ≡ Some (codes "superblocks", found)) × AreImageArgs found args
 IsAskedBy command (Sizes args) = (found : List Row) × (command ≡ Some (codes "sizes", found)) × AreSizesArgs found args
@@ -189,13 +218,28 @@ abbrev pub RefusesPart : Option (Text × List Row) → List ℕ → Type 0
 RefusesPart command refusal =
     (name : Text) × (found : List Row) × (command ≡ Some (name, found)) × IsPartRefusal found refusal
 
--- the values found for a command are no request, and this is their refusal: a text can't be accepted, or some of the sizes
--- are missing
+-- the refusal of index runs beside extents to be taken as reset
+abbrev pub both_text : List ℕ
+both_text =
+    codes "error: the argument '--run <EXTENT:OFFSET>' cannot be used with '--reset <EXTENT>'"
+    ++ (10 ∷ 10 ∷ codes "For more information, try '--help'.") ++ 10 ∷ []
+
+-- both were found, and this is the refusal of that
+abbrev pub IsBothRefusal : List Row → List ℕ → Type 0
+IsBothRefusal found refusal = (has_runs_and_resets found ≡ true) × (refusal ≡ both_text)
+
+-- the command is `manifest`, both were found, and this is the refusal of that
+abbrev pub RefusesBoth : Option (Text × List Row) → List ℕ → Type 0
+RefusesBoth command refusal = (found : List Row) × (command ≡ Some (codes "manifest", found)) × IsBothRefusal found refusal
+
+-- the values found for a command are no request, and this is their refusal: a text can't be accepted, some of the sizes are
+-- missing, or there are index runs beside extents to be taken as reset
 abbrev pub RefusesRows : Option (Text × List Row) → List ℕ → Type 0
-RefusesRows command refusal = RefusesText command refusal ⊎ RefusesPart command refusal
+RefusesRows command refusal = RefusesText command refusal ⊎ (RefusesPart command refusal ⊎ RefusesBoth command refusal)
 
 -- `clap` refuses the arguments, and not for help or the version, and this is what it says; or it finds no fault in them, and
--- this is the refusal of a text that can't be accepted, or of some of the sizes without the others
+-- this is the refusal of a text that can't be accepted, of some of the sizes without the others, or of index runs beside
+-- extents to be taken as reset
 abbrev pub AreRefused : List Text → List ℕ → Type 0
 AreRefused args refusal =
     ((kind : ErrorKind) × (kind ≢ DisplayHelp) × (kind ≢ DisplayVersion) × IsAmong kind (fault_of shardscrub_app args))
@@ -218,6 +262,13 @@ abbrev pub IsPartFault : List Row → ArgsFault → Type 0
 IsPartFault found (Help text) = ⊥
 IsPartFault found (Refused text) = IsPartRefusal found text.bytes.items
 IsPartFault found OutOfMemory = Unit {0}
+
+-- why the values found for `manifest` are no request: some of the sizes are missing, there are index runs beside extents to be
+-- taken as reset, or memory ran out
+abbrev pub IsManifestFault : List Row → ArgsFault → Type 0
+IsManifestFault found (Help text) = ⊥
+IsManifestFault found (Refused text) = IsPartRefusal found text.bytes.items ⊎ IsBothRefusal found text.bytes.items
+IsManifestFault found OutOfMemory = Unit {0}
 
 -- why the texts that were found to accept aren't: one can't be accepted, or memory ran out
 abbrev pub IsTextFault : List Row → ArgsFault → Type 0

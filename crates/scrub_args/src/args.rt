@@ -5,18 +5,17 @@ ghost use Rattle.std.specs.Prelude.{None, Some, codes, is_none, is_some};
 ghost use Rattle.clap.specs.Words.{first_of, found_of, kind_of, one_of, rows_of, subcommand_rows_of};
 ghost use Rattle.scrub_args.specs.Accepting.{refusal_of};
 ghost use Rattle.scrub_args.specs.steps.Parsed.{ComesOf, HasCompare, HasImage, HasImageName, HasItems};
-ghost use Rattle.scrub_args.specs.steps.Parsed.{HasManifest};
-ghost use Rattle.scrub_args.specs.steps.Parsed.{HasNumber, HasNumbers, HasScan, HasShard, HasText};
+ghost use Rattle.scrub_args.specs.steps.Parsed.{HasFlag, HasManifest, HasNumber, HasNumbers, HasScan};
+ghost use Rattle.scrub_args.specs.steps.Parsed.{HasShard, HasShards, HasText};
 ghost use Rattle.scrub_args.specs.steps.Parsed.{IsWantedBy, IsWholeParse, MayHaveLongNumber, MayHaveNumber};
 ghost use Rattle.scrub_args.specs.steps.Parsed.{is_dated_command, is_disk_command};
 ghost use Rattle.scrub_args.specs.Args.{AreAccepted, AreCompareArgs, AreImageArgs, AreItemsArgs};
-ghost use Rattle.scrub_args.specs.Args.{AreManifestArgs};
-ghost use Rattle.scrub_args.specs.Args.{AreNumbersOf, AreResetsOf, AreScanArgs, AreShardArgs};
-ghost use Rattle.scrub_args.specs.Args.{AreSizesArgs, AreSizesGiven};
-ghost use Rattle.scrub_args.specs.Args.{AskForVersion, IsArgsFault, IsAskedBy, IsLastOf, IsNumberOf};
-ghost use Rattle.scrub_args.specs.Args.{IsPartFault};
-ghost use Rattle.scrub_args.specs.Args.{IsRefusal, IsRowsFault, IsTextFault, IsWorkersOf, NameCommand};
-ghost use Rattle.scrub_args.specs.Args.{part_text, texts};
+ghost use Rattle.scrub_args.specs.Args.{AreManifestArgs, AreNumbersOf, AreResetsOf, AreScanArgs};
+ghost use Rattle.scrub_args.specs.Args.{AreShardArgs, AreShardsArgs, AreSizesArgs, AreSizesGiven};
+ghost use Rattle.scrub_args.specs.Args.{AreTextsOf, AskForVersion, IsArgsFault, IsAskedBy, IsFlagOf};
+ghost use Rattle.scrub_args.specs.Args.{IsLastOf, IsManifestFault, IsNumberOf, IsPartFault, IsRefusal};
+ghost use Rattle.scrub_args.specs.Args.{IsRowsFault, IsTextFault, IsWorkersOf, NameCommand, both_text};
+ghost use Rattle.scrub_args.specs.Args.{has_runs_and_resets, part_text, texts};
 ghost use Rattle.clap.specs.declared.error.kind.ErrorKind.TheVariants.{DisplayVersion};
 ghost use Rattle.scrub_args.specs.declared.args.ArgsFault.TheVariants.{OutOfMemory};
 
@@ -41,13 +40,15 @@ pub enum Request<'a> {
     Compare(CompareArgs<'a>),
     /// Write the bytes of one shard.
     Shard(ShardArgs<'a>),
+    /// Write all shards, as a tar archive.
+    Shards(ShardsArgs<'a>),
     /// List the superblock records of extent 0, and its pages that may have held one.
     Superblocks(ImageArgs<'a>),
     /// List the superblock records of an image whose sizes aren't known.
     Sizes(SizesArgs<'a>),
 }
 
-/// What a command on the whole disk prints, other than `manifest`, `compare` and `shard`.
+/// What a command on the whole disk prints, other than `manifest`, `compare`, `shard` and `shards`.
 #[derive(Debug, Drop)]
 pub enum Wanted<'a> {
     /// The report.
@@ -56,8 +57,8 @@ pub enum Wanted<'a> {
     Index,
     /// The named locators, each with its status.
     Locators,
-    /// All shards, as a tar archive.
-    Shards,
+    /// The index runs that are found, whether or not a superblock lists them.
+    Runs,
     /// A verdict, and numbers by their names, with the generation of the last superblock that was written, if
     /// it is given.
     Summary(Option<u64>),
@@ -90,14 +91,18 @@ pub struct ScanArgs<'a> {
 pub struct ManifestArgs<'a> {
     /// The disk, its image and the number of workers.
     pub scan: ScanArgs<'a>,
-    /// The extents to be taken as reset, ascending, each once. It isn't checked that the disk has them.
+    /// The extents to be taken as reset, ascending, each once. It isn't checked that the disk has them. There
+    /// are none if index runs are given.
     pub resets: Vec<u32>,
+    /// The places of the index runs to go by in place of a superblock, in order and as given.
+    pub runs: Vec<&'a str>,
 }
 
 /// The arguments of `compare`.
 #[derive(Debug, Drop)]
 pub struct CompareArgs<'a> {
-    /// The disk, its earlier image, the number of workers, and the extents that are to be reset, or were.
+    /// The disk, its earlier image, the number of workers, and the extents that are to be reset, or were. No
+    /// index runs are given.
     pub before: ManifestArgs<'a>,
     /// The name of the later image file.
     pub after: &'a str,
@@ -110,6 +115,19 @@ pub struct ShardArgs<'a> {
     pub scan: ScanArgs<'a>,
     /// The identifier of the shard, as given.
     pub id: &'a str,
+    /// The places of the index runs to go by in place of a superblock, in order and as given.
+    pub runs: Vec<&'a str>,
+}
+
+/// The arguments of `shards`.
+#[derive(Debug, Drop)]
+pub struct ShardsArgs<'a> {
+    /// The disk, its image and the number of workers.
+    pub scan: ScanArgs<'a>,
+    /// The places of the index runs to go by in place of a superblock, in order and as given.
+    pub runs: Vec<&'a str>,
+    /// Whether the payloads that are there of a broken shard are written, too.
+    pub is_partial: bool,
 }
 
 /// The arguments of `sizes`.
@@ -221,6 +239,7 @@ fn request_of<'a>(alloc: Global, matches: &ArgMatches<'a>) -> Result<Request<'a>
         Some((command::MANIFEST, matches)) => Ok(Request::Manifest(manifest_args(alloc, matches)?)),
         Some((command::COMPARE, matches)) => Ok(Request::Compare(compare_args(alloc, matches)?)),
         Some((command::SHARD, matches)) => Ok(Request::Shard(shard_args(alloc, matches)?)),
+        Some((command::SHARDS, matches)) => Ok(Request::Shards(shards_args(alloc, matches)?)),
         Some((command::SUPERBLOCKS, matches)) => {
             Ok(Request::Superblocks(image_args(alloc, matches)?))
         }
@@ -249,7 +268,7 @@ fn wanted_by<'a>(
         command::SCAN => Ok(Wanted::Report),
         command::INDEX => Ok(Wanted::Index),
         command::LOCATORS => Ok(Wanted::Locators),
-        command::SHARDS => Ok(Wanted::Shards),
+        command::RUNS => Ok(Wanted::Runs),
         command::SUMMARY => Ok(Wanted::Summary(last(matches))),
         command::RECLAIMABLE => {
             let accepted = accepted_doubts(alloc, matches)?;
@@ -288,12 +307,43 @@ fn manifest_args<'a>(alloc: Global, matches: &ArgMatches<'a>) -> Result<Manifest
     requires { HasManifest (rows_of (found_of matches.now)) }
     ensures { MatchResult result
         (AreManifestArgs (rows_of (found_of matches.now)))
-        (IsPartFault (rows_of (found_of matches.now))) }
+        (IsManifestFault (rows_of (found_of matches.now))) }
 {
+    if has_runs_and_resets(matches) {
+        return Err(refused_both(alloc));
+    }
     Ok(ManifestArgs {
         scan: scan_args(alloc, matches)?,
         resets: resets(alloc, matches)?,
+        runs: given_texts(alloc, matches, command::RUN)?,
     })
+}
+
+/// Whether index runs are given, and extents to be taken as reset as well.
+fn has_runs_and_resets(matches: &ArgMatches<'_>) -> bool
+    ensures { result ≡ has_runs_and_resets (rows_of (found_of matches.now)) }
+{
+    matches.contains_id(command::RUN) && matches.contains_id(command::RESET)
+}
+
+/// The refusal of index runs beside extents to be taken as reset, in the words of `clap`.
+fn refused_both(alloc: Global) -> ArgsFault
+    ensures { IsRefusal both_text result }
+{
+    match both_text(alloc) {
+        Ok(text) => ArgsFault::Refused(text),
+        Err(_) => ArgsFault::OutOfMemory,
+    }
+}
+
+fn both_text(alloc: Global) -> Result<String, AllocError>
+    ensures { IfOk result (λ text. text.bytes.items ≡ both_text) }
+{
+    String::from_str(
+        alloc,
+        "error: the argument '--run <EXTENT:OFFSET>' cannot be used with '--reset <EXTENT>'\n\n\
+         For more information, try '--help'.\n",
+    )
 }
 
 fn compare_args<'a>(alloc: Global, matches: &ArgMatches<'a>) -> Result<CompareArgs<'a>, ArgsFault>
@@ -303,7 +353,11 @@ fn compare_args<'a>(alloc: Global, matches: &ArgMatches<'a>) -> Result<CompareAr
         (IsPartFault (rows_of (found_of matches.now))) }
 {
     Ok(CompareArgs {
-        before: manifest_args(alloc, matches)?,
+        before: ManifestArgs {
+            scan: scan_args(alloc, matches)?,
+            resets: resets(alloc, matches)?,
+            runs: Vec::new(alloc),
+        },
         after: text(matches, command::AFTER),
     })
 }
@@ -317,7 +371,41 @@ fn shard_args<'a>(alloc: Global, matches: &ArgMatches<'a>) -> Result<ShardArgs<'
     Ok(ShardArgs {
         scan: scan_args(alloc, matches)?,
         id: text(matches, command::ID),
+        runs: given_texts(alloc, matches, command::RUN)?,
     })
+}
+
+fn shards_args<'a>(alloc: Global, matches: &ArgMatches<'a>) -> Result<ShardsArgs<'a>, ArgsFault>
+    requires { HasShards (rows_of (found_of matches.now)) }
+    ensures { MatchResult result
+        (AreShardsArgs (rows_of (found_of matches.now)))
+        (IsPartFault (rows_of (found_of matches.now))) }
+{
+    Ok(ShardsArgs {
+        scan: scan_args(alloc, matches)?,
+        runs: given_texts(alloc, matches, command::RUN)?,
+        is_partial: flag(matches, command::PARTIAL),
+    })
+}
+
+/// Whether a flag was given.
+fn flag(matches: &ArgMatches<'_>, name: &str) -> bool
+    requires { HasFlag (rows_of (found_of matches.now)) name.now }
+    ensures { IsFlagOf (rows_of (found_of matches.now)) name.now result }
+{
+    matches.get_flag(name)
+}
+
+/// The texts that were given for an option or an argument that may be repeated, in order.
+fn given_texts<'a>(
+    alloc: Global,
+    matches: &ArgMatches<'a>,
+    name: &str,
+) -> Result<Vec<&'a str>, AllocError>
+    ensures { IfOk result (λ given. AreTextsOf (rows_of (found_of matches.now)) name.now given.items) }
+{
+    let given = matches.get_strs(name).unwrap_or_default();
+    Vec::from_slice(alloc, given)
 }
 
 /// The extents to be taken as reset, ascending, each once.
@@ -472,12 +560,11 @@ fn image_args<'a>(alloc: Global, matches: &ArgMatches<'a>) -> Result<ImageArgs<'
         (AreImageArgs (rows_of (found_of matches.now)))
         (IsPartFault (rows_of (found_of matches.now))) }
 {
-    let bad_pages = matches.get_strs(command::BAD_PAGES).unwrap_or_default();
     Ok(ImageArgs {
         sizes: given_sizes(alloc, matches)?,
         map: matches.get_str(command::MAP),
         name: text(matches, command::IMAGE),
-        bad_pages: Vec::from_slice(alloc, bad_pages)?,
+        bad_pages: given_texts(alloc, matches, command::BAD_PAGES)?,
     })
 }
 

@@ -3,10 +3,11 @@
 ghost use Rattle.std.specs.Prelude.{◌≡◌, ◌∷◌, IfOk, [], false};
 ghost use Rattle.clap.specs.Words.{app_of, rule_of, shape_of};
 ghost use Rattle.scrub_args.specs.CommandLine.{accept_rule, arg, bad_pages_rule, bare_app, compare_shape};
-ghost use Rattle.scrub_args.specs.CommandLine.{demo_shape, free_shape, free_size_rules, image_rule};
-ghost use Rattle.scrub_args.specs.CommandLine.{image_rules, image_shape, images_rules, required};
+ghost use Rattle.scrub_args.specs.CommandLine.{demo_shape, free_shape, free_size_rules};
+ghost use Rattle.scrub_args.specs.CommandLine.{image_rule, image_rules, image_shape, images_rules, required};
 ghost use Rattle.scrub_args.specs.CommandLine.{items_shape, last_rule, map_rule, manifest_shape, option};
-ghost use Rattle.scrub_args.specs.CommandLine.{reclaimable_shape, reset_rule, shard_shape, shardscrub_app};
+ghost use Rattle.scrub_args.specs.CommandLine.{partial_rule, reclaimable_shape, reset_rule, run_rule};
+ghost use Rattle.scrub_args.specs.CommandLine.{shard_shape, shards_shape, shardscrub_app};
 ghost use Rattle.scrub_args.specs.CommandLine.{size_rules, sizes_shape, summary_shape, superblocks_shape};
 ghost use Rattle.scrub_args.specs.CommandLine.{with_rules};
 ghost use Rattle.scrub_args.specs.CommandLine.{id_rule, workers_rule};
@@ -16,10 +17,10 @@ use crate::help_texts::{
     COMPARE_AFTER_HELP, DEMO_ABOUT, DEMO_AFTER_HELP, EXTENT_HELP, EXTENTS_HELP, FREE_PAGE_HELP,
     ID_HELP, IMAGE_HELP, INDEX_ABOUT, INDEX_AFTER_HELP, ITEMS_ABOUT, ITEMS_AFTER_HELP, LAST_HELP,
     LOCATORS_ABOUT, LOCATORS_AFTER_HELP, MANIFEST_ABOUT, MANIFEST_AFTER_HELP, MAP_HELP, PAGE_HELP,
-    PAGES_HELP, POINTER_HELP, RECLAIMABLE_ABOUT, RECLAIMABLE_AFTER_HELP, RESET_HELP, SCAN_ABOUT,
-    SCAN_AFTER_HELP, SHARD_ABOUT, SHARD_AFTER_HELP, SHARDS_ABOUT, SHARDS_AFTER_HELP, SIZES_ABOUT,
-    SIZES_AFTER_HELP, SUMMARY_ABOUT, SUMMARY_AFTER_HELP, SUPERBLOCKS_ABOUT, SUPERBLOCKS_AFTER_HELP,
-    WORKERS_HELP,
+    PAGES_HELP, PARTIAL_HELP, POINTER_HELP, RECLAIMABLE_ABOUT, RECLAIMABLE_AFTER_HELP, RESET_HELP,
+    RUN_HELP, RUNS_ABOUT, RUNS_AFTER_HELP, SCAN_ABOUT, SCAN_AFTER_HELP, SHARD_ABOUT,
+    SHARD_AFTER_HELP, SHARDS_ABOUT, SHARDS_AFTER_HELP, SIZES_ABOUT, SIZES_AFTER_HELP,
+    SUMMARY_ABOUT, SUMMARY_AFTER_HELP, SUPERBLOCKS_ABOUT, SUPERBLOCKS_AFTER_HELP, WORKERS_HELP,
 };
 use clap::{Arg, ArgAction, Command, value_parser};
 use std::alloc::{AllocError, Global};
@@ -27,7 +28,7 @@ use std::alloc::{AllocError, Global};
 const PROGRAM: &str = "shardscrub";
 
 /// The program's name and version, as a line.
-pub const VERSION: &str = "shardscrub 4.0.0\n";
+pub const VERSION: &str = "shardscrub 4.1.0\n";
 
 /// The command that prints the report of a disk.
 pub const SCAN: &str = "scan";
@@ -46,6 +47,9 @@ pub const LOCATORS: &str = "locators";
 
 /// The command that lists what a disk holds, wherever it lies.
 pub const MANIFEST: &str = "manifest";
+
+/// The command that lists the index runs that are found on a disk.
+pub const RUNS: &str = "runs";
 
 /// The command that sums a disk up.
 pub const SUMMARY: &str = "summary";
@@ -89,6 +93,12 @@ pub const LAST: &str = "last";
 /// An extent to be taken as reset.
 pub const RESET: &str = "reset";
 
+/// The place of an index run to go by in place of a superblock.
+pub const RUN: &str = "run";
+
+/// Whether the payloads that are there of a broken shard are written, too.
+pub const PARTIAL: &str = "partial";
+
 /// The identifier of a shard.
 pub const ID: &str = "id";
 
@@ -118,10 +128,11 @@ pub fn command_line<'a>(alloc: Global) -> Result<Command<'a>, AllocError>
         .subcommand(summary_command(alloc)?)?
         .subcommand(looking_command(alloc, SCAN, SCAN_ABOUT, SCAN_AFTER_HELP)?)?
         .subcommand(shard_command(alloc)?)?
-        .subcommand(looking_command(alloc, SHARDS, SHARDS_ABOUT, SHARDS_AFTER_HELP)?)?
+        .subcommand(shards_command(alloc)?)?
         .subcommand(disk_command(alloc, INDEX, INDEX_ABOUT, INDEX_AFTER_HELP)?)?
         .subcommand(looking_command(alloc, LOCATORS, LOCATORS_ABOUT, LOCATORS_AFTER_HELP)?)?
         .subcommand(manifest_command(alloc)?)?
+        .subcommand(disk_command(alloc, RUNS, RUNS_ABOUT, RUNS_AFTER_HELP)?)?
         .subcommand(reclaimable_command(alloc)?)?
         .subcommand(compare_command(alloc)?)?
         .subcommand(superblocks_command(alloc)?)?
@@ -182,7 +193,8 @@ fn manifest_command<'a>(alloc: Global) -> Result<Command<'a>, AllocError>
         .after_help(MANIFEST_AFTER_HELP);
     let command = with_geometry(alloc, command)?
         .arg(workers(alloc))?
-        .arg(reset(alloc))?;
+        .arg(reset(alloc))?
+        .arg(run(alloc))?;
     with_image(alloc, command)
 }
 
@@ -194,6 +206,18 @@ fn reset<'a>(alloc: Global) -> Arg<'a>
     number(alloc, RESET, "EXTENT", RESET_HELP).action(ArgAction::Append)
 }
 
+/// The option for the place of an index run to go by in place of a superblock. It may be repeated.
+fn run<'a>(alloc: Global) -> Arg<'a>
+    ensures rule { rule_of result ≡ run_rule }
+    ensures local { result.global ≡ false }
+{
+    Arg::new(alloc, RUN)
+        .long(RUN)
+        .value_name("EXTENT:OFFSET")
+        .help(RUN_HELP)
+        .action(ArgAction::Append)
+}
+
 /// The command `shard`.
 fn shard_command<'a>(alloc: Global) -> Result<Command<'a>, AllocError>
     ensures { IfOk result (λ r. shape_of r ≡ shard_shape) }
@@ -203,7 +227,8 @@ fn shard_command<'a>(alloc: Global) -> Result<Command<'a>, AllocError>
         .after_help(SHARD_AFTER_HELP);
     let command = with_free_geometry(alloc, command)?
         .arg(workers(alloc))?
-        .arg(id(alloc))?;
+        .arg(id(alloc))?
+        .arg(run(alloc))?;
     with_image(alloc, command)
 }
 
@@ -217,6 +242,31 @@ fn id<'a>(alloc: Global) -> Arg<'a>
         .value_name("ID")
         .help(ID_HELP)
         .required(true)
+}
+
+/// The command `shards`.
+fn shards_command<'a>(alloc: Global) -> Result<Command<'a>, AllocError>
+    ensures { IfOk result (λ r. shape_of r ≡ shards_shape) }
+{
+    let command = Command::new(alloc, SHARDS)
+        .about(SHARDS_ABOUT)
+        .after_help(SHARDS_AFTER_HELP);
+    let command = with_free_geometry(alloc, command)?
+        .arg(workers(alloc))?
+        .arg(partial(alloc))?
+        .arg(run(alloc))?;
+    with_image(alloc, command)
+}
+
+/// The flag for the payloads that are there of a broken shard.
+fn partial<'a>(alloc: Global) -> Arg<'a>
+    ensures rule { rule_of result ≡ partial_rule }
+    ensures local { result.global ≡ false }
+{
+    Arg::new(alloc, PARTIAL)
+        .long(PARTIAL)
+        .help(PARTIAL_HELP)
+        .action(ArgAction::SetTrue)
 }
 
 /// The command `summary`.

@@ -6,7 +6,7 @@ use Rattle.clap.specs.Values.{IsUnsignedIn}
 use Rattle.clap.specs.declared.error.kind.ErrorKind.{ErrorKind}
 use Rattle.clap.specs.declared.error.kind.ErrorKind.TheVariants.{DisplayHelp, DisplayVersion, OutOfMemory as no_memory}
 use Rattle.clap_walk.specs.Rows.{HasNumberTo}
-use Rattle.scrub_args.specs.Args.{IsWantedWith, command_of}
+use Rattle.scrub_args.specs.Args.{IsFlagOf, IsWantedWith, command_of}
 use Rattle.scrub_args.specs.declared.args.Wanted.{Wanted}
 use Rattle.scrub_args.specs.declared.args.ArgsFault.{ArgsFault}
 use Rattle.scrub_args.specs.declared.args.ArgsFault.TheVariants.{Refused, Help, OutOfMemory}
@@ -46,6 +46,10 @@ HasNumbers found name = All IsReadNumber (unwrap_or (many_of name found) [])
 abbrev pub HasText : List Row → Text → Type 0
 HasText found name = (text : Text) × (first_of name found ≡ Some text)
 
+-- a flag was given or not
+abbrev pub HasFlag : List Row → Text → Type 0
+HasFlag found name = (is_given : Bool) × IsFlagOf found name is_given
+
 -- the name of an image was found
 abbrev pub HasImageName : List Row → Type 0
 HasImageName found = HasText found (codes "image")
@@ -82,18 +86,23 @@ pub record HasShard (found : List Row) : Type 0 where
   pub scan : HasScan found
   pub id : HasText found (codes "id")
 
+-- what `clap` found has all that `shards` needs
+pub record HasShards (found : List Row) : Type 0 where
+  pub scan : HasScan found
+  pub partial : HasFlag found (codes "partial")
+
 -- what `clap` found has all that `items` needs
 pub record HasItems (found : List Row) : Type 0 where
   pub disk : HasImage found
   pub extent : HasNumber found (codes "extent")
   pub pointer : (one_of (codes "pointer") found ≡ None) ⊎ HasNumber found (codes "pointer")
 
--- whether the command is one on the whole disk, other than `manifest`, `compare` and `shard`
+-- whether the command is one on the whole disk, other than `manifest`, `compare`, `shard` and `shards`
 abbrev pub is_disk_command : Text → Bool
 is_disk_command name =
     bytes_eq name (codes "scan") || (bytes_eq name (codes "index")
     || (bytes_eq name (codes "locators")
-    || (bytes_eq name (codes "shards")
+    || (bytes_eq name (codes "runs")
     || (bytes_eq name (codes "summary") || bytes_eq name (codes "reclaimable")))))
 
 -- whether the command is one of them to which the generation of the last superblock can be given
@@ -105,25 +114,26 @@ abbrev pub IsWantedBy : Text → List Row → Wanted → Type 0
 IsWantedBy name found wanted = (name ≡ command_of wanted) × IsWantedWith found wanted
 
 -- what a command needs, by the first of these that it is: one to which the generation of the last superblock can be given, another one on
--- the whole disk, `manifest`, `compare`, `shard`, `superblocks`, `sizes`, `items`, `demo`
-abbrev pub HasNeeds : (dated disk manifest compare shard superblocks sizes items demo : Bool) → List Row → Type 0
-HasNeeds true disk manifest compare shard superblocks sizes items demo found = HasDated found
-HasNeeds false true manifest compare shard superblocks sizes items demo found = HasScan found
-HasNeeds false false true compare shard superblocks sizes items demo found = HasManifest found
-HasNeeds false false false true shard superblocks sizes items demo found = HasCompare found
-HasNeeds false false false false true superblocks sizes items demo found = HasShard found
-HasNeeds false false false false false true sizes items demo found = HasImage found
-HasNeeds false false false false false false true items demo found = HasImageName found
-HasNeeds false false false false false false false true demo found = HasItems found
-HasNeeds false false false false false false false false true found = Unit {0}
-HasNeeds false false false false false false false false false found = ⊥
+-- the whole disk, `manifest`, `compare`, `shard`, `shards`, `superblocks`, `sizes`, `items`, `demo`
+abbrev pub HasNeeds : (dated disk manifest compare shard shards superblocks sizes items demo : Bool) → List Row → Type 0
+HasNeeds true disk manifest compare shard shards superblocks sizes items demo found = HasDated found
+HasNeeds false true manifest compare shard shards superblocks sizes items demo found = HasScan found
+HasNeeds false false true compare shard shards superblocks sizes items demo found = HasManifest found
+HasNeeds false false false true shard shards superblocks sizes items demo found = HasCompare found
+HasNeeds false false false false true shards superblocks sizes items demo found = HasShard found
+HasNeeds false false false false false true superblocks sizes items demo found = HasShards found
+HasNeeds false false false false false false true sizes items demo found = HasImage found
+HasNeeds false false false false false false false true items demo found = HasImageName found
+HasNeeds false false false false false false false false true demo found = HasItems found
+HasNeeds false false false false false false false false false true found = Unit {0}
+HasNeeds false false false false false false false false false false found = ⊥
 
 -- the command is one of the program's, and has all that it needs
 abbrev pub IsWholeCommand : Text → List Row → Type 0
 IsWholeCommand name found =
     HasNeeds (is_dated_command name) (is_disk_command name) (bytes_eq name (codes "manifest")) (bytes_eq name (codes "compare"))
-    (bytes_eq name (codes "shard")) (bytes_eq name (codes "superblocks")) (bytes_eq name (codes "sizes")) (bytes_eq name (codes "items"))
-    (bytes_eq name (codes "demo")) found
+    (bytes_eq name (codes "shard")) (bytes_eq name (codes "shards")) (bytes_eq name (codes "superblocks")) (bytes_eq name (codes "sizes"))
+    (bytes_eq name (codes "items")) (bytes_eq name (codes "demo")) found
 
 -- if a command was found, it is one of the program's, and has all that it needs
 abbrev pub IsWholeParse : Option (Text × List Row) → Type 0
