@@ -4,6 +4,7 @@ use Rattle.std.specs.Prelude.{fold, slice_index_or}
 use Rattle.std.specs.Borrow.{Bor}
 use Rattle.std.specs.List.{AllZip, list_any}
 use Rattle.std.proofs.lemmas.List.{take_all}
+use Rattle.std.proofs.lemmas.List.Elements.{All-nil}
 use Rattle.std.proofs.lemmas.List.Sums.{fold-append}
 use Rattle.list_facts.proofs.Elements.{All-one_more}
 use Rattle.list_facts.proofs.Zips.{AllZip-at, AllZip-take_more}
@@ -63,6 +64,10 @@ pub record AreFirstRuns (image : Image) (places : List (ℕ × ℕ)) (count : �
   pub there : AreRunsAt image (take count places) all
   pub runs_are : runs ≡ once all
   pub located : All IsLocator runs
+
+-- there are none yet
+pub no_runs_yet : (image : Image) (places : List (ℕ × ℕ)) → AreFirstRuns image places 0 []
+no_runs_yet image places = record { all = []; there = tt; runs_are = refl; located = All-nil IsLocator }
 
 -- one more, at the next place
 pub first_runs_more : (image : Image) (places : List (ℕ × ℕ)) (count : ℕ) (runs more : List Locator) (at : ℕ × ℕ) (l : Locator) →
