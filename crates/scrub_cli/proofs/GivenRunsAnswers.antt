@@ -1,6 +1,6 @@
 -- The index runs that arguments give, from what the parts find, and why there are none.
 use Rattle.std.proofs.Common.{◌≡◌, ◌<◌, ◌≤◌, ◌+◌, ◌∙◌, ◌++◌, ◌∷◌, [], ℕ, Bool, true, false, List, Option, None, Some, Result, Ok, Err, MatchResult, All, length, take, get_or, arith, ap, refl, sym, subst}
-use Rattle.std.specs.Prelude.{fold, slice_index_or}
+use Rattle.std.specs.Prelude.{fold, if◌then◌else◌, slice_index_or}
 use Rattle.std.specs.Borrow.{Bor}
 use Rattle.std.specs.List.{AllZip, list_any}
 use Rattle.std.proofs.lemmas.List.{take_all}
@@ -37,7 +37,7 @@ pub one_place_each : (g : Sizes) (args : List (Bor (List ℕ))) (places : List (
 one_place_each g [] [] named = refl
 one_place_each g [] (at ∷ places) named = absurd named
 one_place_each g (arg ∷ args) [] named = absurd named
-one_place_each g (arg ∷ args) (at ∷ places) named = ap (λ n. n + 1) (one_place_each g args places named.1)
+one_place_each g (arg ∷ args) (at ∷ places) named = omega (arith, one_place_each g args places named.1)
 
 -- the place of an argument
 pub place_of : (g : Sizes) (args : List (Bor (List ℕ))) (places : List (ℕ × ℕ)) (i : ℕ) (d : Bor (List ℕ)) (at : ℕ × ℕ) →
