@@ -69,9 +69,9 @@ fn write_answer<O: Write, E: Write>(answer: &Answer, out: &mut O, err: &mut E) -
 /// `out` once all of it is in memory. Help, faults, and the lines of `shard`, `shards`, `manifest` and `sizes`
 /// are written to `err`, whose own failures are ignored.
 ///
-/// The statuses: 0 clean, help or version; 1 findings, a shard that can't be had, or such lines; 2
-/// invalid arguments or map, or an index run that isn't there; 3 the map or the image can't be opened, the image is too long, or the output
-/// failed; 4 out of memory.
+/// The statuses: 0 clean, help or version; 1 findings, a shard that can't be had, or such lines; 2 invalid
+/// arguments or map, or an index run that isn't there; 3 the map or the image can't be opened, the image
+/// is too long, or the output failed; 4 out of memory.
 pub fn run<R: Threads + Wait + Sync, I: Images, O: Write, E: Write>(
     rt: &R,
     alloc: Global,

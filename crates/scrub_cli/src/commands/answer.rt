@@ -127,9 +127,9 @@ fn acceptance<'v, 'a>(accepted: &'v AcceptedDoubts<'a>, last: Option<u64>) -> Ac
     Acceptance::new(&accepted.texts, last)
 }
 
-/// What is wanted of a disk, if that takes a scan, with its status, and the extents that each worker took. This
-/// many workers scan the disk beside the caller. The takings are for contracts alone: they show how many workers
-/// there were, and that each extent was scanned once.
+/// What is wanted of a disk, if that takes a scan, with its status, and the extents that each worker took.
+/// This many workers scan the disk beside the caller. The takings are for contracts alone: they show how
+/// many workers there were, and that each extent was scanned once.
 pub fn disk_answer<R: Threads + Wait + Sync, D: PageSource>(
     rt: &R,
     alloc: Global,
@@ -178,8 +178,8 @@ pub fn disk_answer<R: Threads + Wait + Sync, D: PageSource>(
     }
 }
 
-/// The manifest of a disk, as if these extents, which rise, had been reset, with its status, and the extents
-/// that each worker took. The workers and the takings are as for `disk_answer`.
+/// The manifest of a disk, as if these extents, which rise, had been reset, with its status, and the
+/// extents that each worker took. The workers and the takings are as for `disk_answer`.
 pub fn manifest_listing<R: Threads + Wait + Sync, D: PageSource>(
     rt: &R,
     alloc: Global,

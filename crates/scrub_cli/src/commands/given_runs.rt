@@ -1,5 +1,5 @@
-//! The index runs that arguments give, to go by in place of a superblock: the places that they name, and the
-//! locators of the runs at these places. The runs that a disk has are listed by `scan`.
+//! The index runs that arguments give, to go by in place of a superblock: the places that they name, and
+//! the locators of the runs at these places. The runs that a disk has are listed by `scan`.
 
 ghost use Rattle.std.specs.Prelude.{ℕ, ◌≡◌, ◌↔◌, ◌<◌, ◌≤◌, ◌^◌, All, IfOk, IfSome, IsTrue, MatchOption};
 ghost use Rattle.std.specs.Prelude.{MatchResult, None, OnOk, option_map};
@@ -83,8 +83,8 @@ fn add_run(runs: &mut Vec<Locator>, run: Locator) -> Result<(), OutOfMemory>
     Ok(())
 }
 
-/// The locators of the index runs at the places that the arguments name, one for each place. The fault is the
-/// first argument at whose place there is none.
+/// The locators of the index runs at the places that the arguments name, one for each place. The fault is
+/// the first argument at whose place there is none.
 fn runs_at<'a, D: PageSource>(
     alloc: Global,
     disk: &D,
@@ -133,9 +133,9 @@ fn given_runs<'a, D: PageSource>(
     Ok(Some(runs))
 }
 
-/// The disk of these sizes that the arguments name, and what is given by the words for index runs. What was
-/// opened before isn't opened again. Faults, in this order: the first word that names no place, those of
-/// `load_disk`, and the first word at whose place there is no run.
+/// The disk of these sizes that the arguments name, and what is given by the words for index runs. What
+/// was opened before isn't opened again. Faults, in this order: the first word that names no place, those
+/// of `load_disk`, and the first word at whose place there is no run.
 pub fn load_with_runs<'a, R: Threads + Sync, I: Images>(
     rt: &R,
     alloc: Global,

@@ -1,5 +1,5 @@
-//! The command `manifest`: what a disk in an image file holds, as if some of its extents had been reset, or by index
-//! runs that are given.
+//! The command `manifest`: what a disk in an image file holds, as if some of its extents had been reset,
+//! or by index runs that are given.
 
 ghost use Rattle.std.specs.Prelude.{◌≡◌, ◌≤◌, IfOk, IfSome, MatchResult, option_map};
 ghost use Rattle.std.specs.List.Sorted.{IsStrictlyIncreasing};
@@ -23,8 +23,8 @@ use std::alloc::Global;
 use std::sync::Wait;
 use std::thread::Threads;
 
-/// Whether a disk of these sizes has each of these extents, and extent 0, which has the superblocks, is none
-/// of them.
+/// Whether a disk of these sizes has each of these extents, and extent 0, which has the superblocks, is
+/// none of them.
 pub fn may_all_be_reset(geometry: Geometry, extents: &[u32]) -> bool
     ensures { result ≡ may_all_be_reset geometry extents.now }
 {
@@ -33,9 +33,9 @@ pub fn may_all_be_reset(geometry: Geometry, extents: &[u32]) -> bool
         .all(|extent| 0 < *extent && *extent < geometry.extents)
 }
 
-/// The manifest of a disk by the index runs that are given, or else by the superblock that counts, as if these
-/// extents, which rise, had been reset; with its status, and the extents that each worker took. The workers and the
-/// takings are as for `disk_answer`.
+/// The manifest of a disk by the index runs that are given, or else by the superblock that counts, as if
+/// these extents, which rise, had been reset; with its status, and the extents that each worker took. The
+/// workers and the takings are as for `disk_answer`.
 fn manifest_by<R: Threads + Wait + Sync, D: PageSource>(
     rt: &R,
     alloc: Global,
@@ -60,8 +60,9 @@ fn manifest_by<R: Threads + Wait + Sync, D: PageSource>(
     Ok((Answer::new(listing.text, listing.is_clean), takings))
 }
 
-/// The manifest of the disk that the arguments name, by the index runs that they give, or as if the extents that
-/// they give had been reset, and the extents that each worker took. Faults are checked in the order of `Fault`.
+/// The manifest of the disk that the arguments name, by the index runs that they give, or as if the
+/// extents that they give had been reset, and the extents that each worker took. Faults are checked in the
+/// order of `Fault`.
 pub fn manifest<'a, R: Threads + Wait + Sync, I: Images>(
     rt: &R,
     alloc: Global,

@@ -1,6 +1,6 @@
-//! The commands on a whole disk in an image file: `scan`, `index`, `locators`, `summary` and `reclaimable`, which
-//! scan it, `runs`, which looks for index runs, and `superblocks`, which reads its extent 0. For `shards` see
-//! `shards`, and for `manifest` see `manifest`.
+//! The commands on a whole disk in an image file: `scan`, `index`, `locators`, `summary` and
+//! `reclaimable`, which scan it, `runs`, which looks for index runs, and `superblocks`, which reads its
+//! extent 0. For `shards` see `shards`, and for `manifest` see `manifest`.
 
 ghost use Rattle.std.specs.Prelude.{◌≡◌, ◌≤◌, IfOk, MatchResult, true};
 ghost use Rattle.scrub_disk.specs.Parted.{image_of};
@@ -41,8 +41,8 @@ fn disk_of<'a, R: Threads + Sync, I: Images>(
     load_disk(rt, alloc, geometry, args, opened, images)
 }
 
-/// What is wanted of the disk that the arguments name, if that takes a scan, and the extents that each worker took.
-/// Faults are checked in the order of `Fault`.
+/// What is wanted of the disk that the arguments name, if that takes a scan, and the extents that each
+/// worker took. Faults are checked in the order of `Fault`.
 fn scan<'a, R: Threads + Wait + Sync, I: Images>(
     rt: &R,
     alloc: Global,

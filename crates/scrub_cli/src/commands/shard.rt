@@ -42,8 +42,8 @@ fn bytes_of<'a>(answer: ShardAnswer, lines: Vec<u8>) -> Result<Answer, Fault<'a>
     }
 }
 
-/// The answer for a shard by the index runs that are given, of which nothing is said of the superblocks, or else by
-/// the superblock that counts; and the extents that each worker took.
+/// The answer for a shard by the index runs that are given, of which nothing is said of the superblocks,
+/// or else by the superblock that counts; and the extents that each worker took.
 fn reading<R: Threads + Wait + Sync, D: PageSource>(
     rt: &R,
     alloc: Global,
@@ -69,8 +69,8 @@ fn reading<R: Threads + Wait + Sync, D: PageSource>(
     Ok((ShardReading { answer, remarks }, takings))
 }
 
-/// The bytes of the shard that the arguments name, and the extents that each worker took. Faults are checked
-/// in the order of `Fault`.
+/// The bytes of the shard that the arguments name, and the extents that each worker took. Faults are
+/// checked in the order of `Fault`.
 pub fn shard<'a, R: Threads + Wait + Sync, I: Images>(
     rt: &R,
     alloc: Global,

@@ -59,8 +59,8 @@ fn append_lines(alloc: Global, lines: &mut String, remarks: &[Remark]) -> Result
     Ok(())
 }
 
-/// The archive of all shards of a disk by the index runs that are given, or else by the superblock that counts,
-/// with the payloads of broken shards or without; and the extents that each worker took.
+/// The archive of all shards of a disk by the index runs that are given, or else by the superblock that
+/// counts, with the payloads of broken shards or without; and the extents that each worker took.
 fn archive_by<R: Threads + Wait + Sync, D: PageSource>(
     rt: &R,
     alloc: Global,
@@ -85,7 +85,8 @@ fn archive_by<R: Threads + Wait + Sync, D: PageSource>(
     }
 }
 
-/// That archive, with its status and the lines beside it. The workers and the takings are as for `disk_answer`.
+/// That archive, with its status and the lines beside it. The workers and the takings are as for
+/// `disk_answer`.
 fn archived<R: Threads + Wait + Sync, D: PageSource>(
     rt: &R,
     alloc: Global,
@@ -112,8 +113,8 @@ fn archived<R: Threads + Wait + Sync, D: PageSource>(
     Ok((answer, takings))
 }
 
-/// All shards of the disk that the arguments name, as an archive, and the extents that each worker took. Faults
-/// are checked in the order of `Fault`.
+/// All shards of the disk that the arguments name, as an archive, and the extents that each worker took.
+/// Faults are checked in the order of `Fault`.
 pub fn shards<'a, R: Threads + Wait + Sync, I: Images>(
     rt: &R,
     alloc: Global,
