@@ -10,7 +10,7 @@ import socket
 import subprocess
 
 from lib.cases import RoomCase
-from lib.disks import Disk, be, digest, frame, head, locator, run, shard, uuid
+from lib.disks import Disk, be, digest, frame, head, locator, record, run, shard, uuid
 from lib.system import FAILING_READS, FULL_OUTPUT, run_failing, run_full
 
 SECONDS = 60
@@ -277,6 +277,31 @@ class Faults(AnswerCase):
         self.refused("scan other.img 9:9", 3, "image cannot be opened: other.img")
         self.refused("scan disk.img 9:9", 2, "bad page refused: 9:9")
         self.refused("items --extent 3 disk.img 9:9", 2, "extent out of range")
+
+    def test_sizes_that_are_not_certain(self):
+        """There is a record, but a byte of the first 64 MiB is lost. If no record is left, or none was there, the sizes aren't found."""
+        text = ("sizes not certain: records were found, but bytes of the first 64 MiB can't be read; give --page, --pages and "
+                "--extents (shardscrub sizes lists them)")
+        found = one_shard()
+        two = disk_with((0, found[:256]), (640, record(128, 8, 2, [0], [])))
+        for raw, lost, what in ((found, 767, text), (found, 512, text), (found, 0, "sizes not found: run shardscrub sizes"),
+                                (bytes(768), 767, "sizes not found: run shardscrub sizes"), (two, 512, text)):
+            before = f"0 {lost} +\n" if lost else ""
+            self.given(raw, f"0 +\n{before}{lost} 1 -\n{lost + 1} 768 +\n".encode())
+            for words in ("scan", "locators", "summary", "shards", f"shard --id {ID}", "superblocks", "items --extent 1"):
+                self.refused(f"{words} --map disk.map disk.img 1:0", 2, what)
+        self.given(two)
+        self.refused("scan disk.img", 2, "sizes not found: run shardscrub sizes")
+
+    def test_sizes_without_a_record(self):
+        """A line says that there is none, unless bytes are lost: then it isn't known."""
+        said = "shardscrub: no superblock record in the first 64 MiB\n"
+        for raw, text, wanted in ((bytes(768), None, (1, "", said)), (b"", None, (1, "", said)), (one_shard()[256:], None, (1, "", said)),
+                                  (bytes(768), b"0 +\n0 768 +\n", (1, "", said)),
+                                  (bytes(768), b"0 +\n0 767 +\n", (1, "lost 512 1024\n", "")),
+                                  (one_shard(), None, (0, "0 SSB1 1 64 4 3\n", ""))):
+            self.given(raw, text or b"")
+            self.check("sizes disk.img" if text is None else "sizes --map disk.map disk.img", *wanted)
 
     def test_an_extent_that_can_not_be_reset(self):
         """It is reported before pages and files. Each case also has the faults of all cases below it. Extent 0 can't be reset."""

@@ -21,7 +21,7 @@ from lib.cases import RoomCase, add_tests
 from lib.disks import Disk, frame, geometry, locator, record, shard, uuid
 from lib.program import TOP, need, program
 from lib.system import TOLD_KINDS, need_traces, opened, run_told, state, suspects, traced
-from reference.shardscrub import Image, answered, broken_shards, items, read_map, scrub, shard_of, sizes
+from reference.shardscrub import Image, answered, broken_shards, items, read_map, scrub, shard_of, sizes, told
 
 SECONDS = 300
 MAP_SECONDS = 10
@@ -84,7 +84,9 @@ def some_shards(found):
 def sizes_of(path, blocks=None):
     """The answer of `sizes` by the reference. It needs only the first 64 MiB."""
     with open(path, "rb") as file:
-        return listed(*sizes(file.read(1 << 26), blocks))
+        lines, is_good, said = sizes(file.read(1 << 26), blocks)
+    status, printed, _ = listed(lines, is_good)
+    return status, printed, "".join(map(told, said)).encode()
 
 
 class DiskCase(RoomCase):

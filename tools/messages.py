@@ -55,6 +55,7 @@ SIZES = "READING.md", "What sizes does my disk have?"
 SHARD = "READING.md", "Getting a shard back"
 MAP = "REPORT.md", "A map of what couldn't be read"
 REMARKS = "REPORT.md", "Remarks on superblocks"
+GIVEN_RUNS = "REPORT.md", "Runs that are given"
 ARCHIVE = "REPORT.md", "All shards"
 NOTHING_KNOWN = "REPORT.md", "Without a superblock"
 
@@ -74,8 +75,7 @@ FAULTS = Group("After `shardscrub:`", "There is no answer, or only a part of one
     limit("ExtentBytes", "`--page` × `--pages` is more than 67,108,864 bytes (64 MiB)."),
     limit("TotalBytes", "`--page` × `--pages` × `--extents` is more than 4,294,967,296 bytes (4 GiB)."),
     Message("sizes not found: run shardscrub sizes",
-            "The sizes were left out, and `sizes` isn't sure of them: the first 64 MiB have no superblock record, or records of several sizes, or "
-            "bytes that can't be read.",
+            "The sizes were left out, and the first 64 MiB have no superblock record that can be read, or records of several sizes.",
             "Give the sizes, as the node's records have them.", "summary --page 64 --pages 4 --extents 3 examples/no-superblock.img", SIZES, 1),
     Message("sizes not certain: records were found, but bytes of the first 64 MiB can't be read; give --page, --pages and --extents "
             "(shardscrub sizes lists them)",
@@ -87,6 +87,9 @@ FAULTS = Group("After `shardscrub:`", "There is no answer, or only a part of one
             "Copy it from a line of `locators`.", "shard --id 00000000000000000000000000000001 examples/one-shard.img", SHARD),
     Message("pointer out of range", "`--pointer` is more than the bytes of an extent, `--page` × `--pages`.",
             "Count from the start of the extent.", "items --extent 1 --pointer 41 examples/one-shard.img", RAW_IMAGE),
+    Message("run refused: WORD",
+            "`--run` takes the place of an index run. WORD isn't two numbers with a colon, or the disk has no such place outside extent 0.",
+            "Write `EXTENT:OFFSET`, as on a line of `runs`.", "shards --run 2:0 examples/one-shard.img", GIVEN_RUNS),
     Message("bad page refused: ARG",
             "What follows the image are unreadable pages, and ARG isn't one. No page is `1`, `1:2-3`, `1:2,1:3` or `a:b`, nor is `1:9` on a disk "
             "with 4 pages in an extent.",
@@ -109,6 +112,8 @@ FAULTS = Group("After `shardscrub:`", "There is no answer, or only a part of one
             "Check the sizes, and that nothing is in front of the disk. If the drive is longer than the disk, scan the device that `losetup -r "
             "--sizelimit BYTES -f --show DRIVE` prints; BYTES are the disk's.", f"summary {SIZED}",
             ("READING.md", "A drive that is longer than the disk"), 0, 3),
+    Message("run not found: WORD", "No index run that can be read begins at WORD, the value of `--run`.",
+            "Copy extent and offset from a line of `runs`.", f"runs {SIZED}", GIVEN_RUNS),
     Message("no such shard",
             "No index run that can be read has the shard. It was deleted, its run is lost, there is no superblock, or the identifier is wrong.",
             "See which runs and shards are known.", "locators examples/one-shard.img", SHARD, 0, 1),

@@ -264,7 +264,7 @@ def geometry_of(raw, geometry, blocks):
     """The three sizes; if they are left out, those of the records, or None if `sizes` isn't sure of them."""
     if geometry != ["-"] * 3:
         return tuple(map(int, geometry))
-    lines, is_sure = sizes(raw, blocks)
+    lines, is_sure, _ = sizes(raw, blocks)
     return tuple(map(int, lines.split()[3:6])) if is_sure else None
 
 

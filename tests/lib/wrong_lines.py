@@ -49,12 +49,18 @@ WRONG = {
     "geometry refused: TotalBytes": [f"shardscrub summary --page 4096 --pages 16384 --extents 65 {ONE}"],
     "sizes not found: run shardscrub sizes": [
         "shardscrub summary examples/no-superblock.img", "shardscrub scan text", "shardscrub summary examples/formatted-twice.img"],
+    "sizes not certain: records were found, but bytes of the first 64 MiB can't be read; give --page, --pages and --extents (shardscrub sizes "
+    "lists them)": ["shardscrub summary --map examples/rescued.map examples/rescued.img"],
+    "no superblock record in the first 64 MiB": ["shardscrub sizes text", "shardscrub sizes empty"],
     "extent out of range": [
         f"shardscrub items --extent 3 {ONE}", f"shardscrub manifest {SIZES} --reset 0 {ONE}", f"shardscrub compare {SIZES} --reset 3 {ONE} {ONE}"],
     "shard refused: ID": [
         f"shardscrub shard --id 1 {ONE}", f"shardscrub shard --id 0x{ID}1 {ONE}",
         f"shardscrub shard --id 11111111-1111-1111-1111-111111111111 {ONE}"],
     "pointer out of range": [f"shardscrub items --extent 1 --pointer 257 {ONE}"],
+    "run refused: WORD": [
+        *(f"shardscrub shards --run {place} {ONE}" for place in ("2", "0:0", "3:0", "2:256", "a:b")),
+        f"shardscrub shard --id {ID}1 --run 2,0 {ONE}", f"shardscrub manifest {SIZES} --run 2:0 --run 2 {ONE}"],
     "bad page refused: ARG": [
         *(f"shardscrub summary {ONE} {pair}" for pair in ("1", "1:9", "3:0", "1:2-3", "1:2,1:3", "a:b", "+1:2", "'1:1 1:2'")),
         f"shardscrub shards {SIZES} {ONE} 1:4"],
@@ -68,6 +74,9 @@ WRONG = {
     "image too long": [
         f"shardscrub summary --page 64 --pages 4 --extents 2 {ONE}", "shardscrub summary longer.img",
         f"shardscrub reclaimable {SIZES} in-front.img"],
+    "run not found: WORD": [
+        f"shardscrub shards --run 1:0 {ONE}", f"shardscrub shard --id {ID}1 --run 2:0 --run 2:1 {ONE}",
+        f"shardscrub manifest {SIZES} --run 2:41 {ONE}"],
     "no such shard": [f"shardscrub shard --id {ID}2 {ONE}"],
     "payload lost: NN": [f"shardscrub shard --id {ID}3 {SEVERAL}"],
     "output failed after N bytes": [f"shardscrub scan {ONE} >/dev/full"],
@@ -76,13 +85,6 @@ WRONG = {
         f"shardscrub summary --page 64 --pages 4 --extents 300 {ONE}", f"shardscrub summary --page 128 --pages 2 --extents 3 {ONE}"],
     "nothing at all": [f"shardscrub superblocks {SIZES} zeros"],
     "SHARDSCRUB_CPU is neither x86-64-v2 nor x86-64-v3: VALUE": [f"SHARDSCRUB_CPU=x86-64 script/shardscrub summary {ONE}"],
-}
-
-# What a later program prints.
-LATER = {
-    "sizes not certain: records were found, but bytes of the first 64 MiB can't be read; give --page, --pages and --extents (shardscrub sizes "
-    "lists them)": ["shardscrub summary --map examples/rescued.map examples/rescued.img"],
-    "no superblock record in the first 64 MiB": ["shardscrub sizes text", "shardscrub sizes empty"],
 }
 
 # Runs with remarks, in the order of the lines.

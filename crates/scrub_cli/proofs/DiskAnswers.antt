@@ -8,7 +8,7 @@ use Rattle.scrub_disk.specs.Image.{Image, disk_bytes}
 use Rattle.scrub_disk.specs.Raw.{IsLoadedWith}
 use Rattle.scrub_disk.proofs.LostPages.{loaded_with_more}
 use Rattle.scrub_cli.specs.declared.process.fault.Fault.{Fault}
-use Rattle.scrub_cli.specs.declared.process.fault.Fault.TheVariants.{NotUtf8, Help, Args, Geometry, NoSizes, Extent, BadShard, Pointer, BadPage, NoMap, MapLine, NoImage, TooLong, NoShard, PayloadLost, Output, OutOfMemory}
+use Rattle.scrub_cli.specs.declared.process.fault.Fault.TheVariants.{NotUtf8, Help, Args, Geometry, NoSizes, UncertainSizes, Extent, BadShard, Pointer, BadRun, BadPage, NoMap, MapLine, NoImage, TooLong, NoRun, NoShard, PayloadLost, Output, OutOfMemory}
 use Rattle.scrub_args.specs.declared.args.ImageArgs.{ImageArgs}
 use Rattle.scrub_cli.specs.DiskImage.{AreReadBefore, IsBadPageFault, IsDiskFault, IsLossesFault, IsRawFault, NamePages}
 use Rattle.scrub_cli.specs.Fault.{fault_of_load}
@@ -25,14 +25,17 @@ of_bad_page Holds g args bad memory (Help text) is = absurd is
 of_bad_page Holds g args bad memory (Args text) is = absurd is
 of_bad_page Holds g args bad memory (Geometry fault) is = absurd is
 of_bad_page Holds g args bad memory NoSizes is = absurd is
+of_bad_page Holds g args bad memory UncertainSizes is = absurd is
 of_bad_page Holds g args bad memory Extent is = absurd is
 of_bad_page Holds g args bad memory (BadShard text) is = absurd is
 of_bad_page Holds g args bad memory Pointer is = absurd is
+of_bad_page Holds g args bad memory (BadRun arg) is = absurd is
 of_bad_page Holds g args bad memory (BadPage arg) is = bad arg is
 of_bad_page Holds g args bad memory (NoMap name) is = absurd is
 of_bad_page Holds g args bad memory (MapLine k) is = absurd is
 of_bad_page Holds g args bad memory (NoImage name) is = absurd is
 of_bad_page Holds g args bad memory TooLong is = absurd is
+of_bad_page Holds g args bad memory (NoRun arg) is = absurd is
 of_bad_page Holds g args bad memory NoShard is = absurd is
 of_bad_page Holds g args bad memory (PayloadLost number) is = absurd is
 of_bad_page Holds g args bad memory (Output written) is = absurd is
@@ -50,14 +53,17 @@ of_losses_fault Holds maps args g bad unopened line none memory (Help text) is =
 of_losses_fault Holds maps args g bad unopened line none memory (Args text) is = absurd is
 of_losses_fault Holds maps args g bad unopened line none memory (Geometry fault) is = absurd is
 of_losses_fault Holds maps args g bad unopened line none memory NoSizes is = absurd is
+of_losses_fault Holds maps args g bad unopened line none memory UncertainSizes is = absurd is
 of_losses_fault Holds maps args g bad unopened line none memory Extent is = absurd is
 of_losses_fault Holds maps args g bad unopened line none memory (BadShard text) is = absurd is
 of_losses_fault Holds maps args g bad unopened line none memory Pointer is = absurd is
+of_losses_fault Holds maps args g bad unopened line none memory (BadRun arg) is = absurd is
 of_losses_fault Holds maps args g bad unopened line none memory (BadPage arg) is = bad arg is
 of_losses_fault Holds maps args g bad unopened line none memory (NoMap name) is = unopened name is
 of_losses_fault Holds maps args g bad unopened line none memory (MapLine k) is = line k is
 of_losses_fault Holds maps args g bad unopened line none memory (NoImage name) is = none name is
 of_losses_fault Holds maps args g bad unopened line none memory TooLong is = absurd is
+of_losses_fault Holds maps args g bad unopened line none memory (NoRun arg) is = absurd is
 of_losses_fault Holds maps args g bad unopened line none memory NoShard is = absurd is
 of_losses_fault Holds maps args g bad unopened line none memory (PayloadLost number) is = absurd is
 of_losses_fault Holds maps args g bad unopened line none memory (Output written) is = absurd is
@@ -71,14 +77,17 @@ of_raw_fault Holds known g long memory (Help text) is = absurd is
 of_raw_fault Holds known g long memory (Args text) is = absurd is
 of_raw_fault Holds known g long memory (Geometry fault) is = absurd is
 of_raw_fault Holds known g long memory NoSizes is = absurd is
+of_raw_fault Holds known g long memory UncertainSizes is = absurd is
 of_raw_fault Holds known g long memory Extent is = absurd is
 of_raw_fault Holds known g long memory (BadShard text) is = absurd is
 of_raw_fault Holds known g long memory Pointer is = absurd is
+of_raw_fault Holds known g long memory (BadRun arg) is = absurd is
 of_raw_fault Holds known g long memory (BadPage arg) is = absurd is
 of_raw_fault Holds known g long memory (NoMap name) is = absurd is
 of_raw_fault Holds known g long memory (MapLine k) is = absurd is
 of_raw_fault Holds known g long memory (NoImage name) is = absurd is
 of_raw_fault Holds known g long memory TooLong is = long is
+of_raw_fault Holds known g long memory (NoRun arg) is = absurd is
 of_raw_fault Holds known g long memory NoShard is = absurd is
 of_raw_fault Holds known g long memory (PayloadLost number) is = absurd is
 of_raw_fault Holds known g long memory (Output written) is = absurd is
@@ -123,14 +132,17 @@ of_disk_fault Holds known maps args g bad unopened line none long memory (Help t
 of_disk_fault Holds known maps args g bad unopened line none long memory (Args text) is = absurd is
 of_disk_fault Holds known maps args g bad unopened line none long memory (Geometry fault) is = absurd is
 of_disk_fault Holds known maps args g bad unopened line none long memory NoSizes is = absurd is
+of_disk_fault Holds known maps args g bad unopened line none long memory UncertainSizes is = absurd is
 of_disk_fault Holds known maps args g bad unopened line none long memory Extent is = absurd is
 of_disk_fault Holds known maps args g bad unopened line none long memory (BadShard text) is = absurd is
 of_disk_fault Holds known maps args g bad unopened line none long memory Pointer is = absurd is
+of_disk_fault Holds known maps args g bad unopened line none long memory (BadRun arg) is = absurd is
 of_disk_fault Holds known maps args g bad unopened line none long memory (BadPage arg) is = bad arg is
 of_disk_fault Holds known maps args g bad unopened line none long memory (NoMap name) is = unopened name is
 of_disk_fault Holds known maps args g bad unopened line none long memory (MapLine k) is = line k is
 of_disk_fault Holds known maps args g bad unopened line none long memory (NoImage name) is = none name is
 of_disk_fault Holds known maps args g bad unopened line none long memory TooLong is = long is
+of_disk_fault Holds known maps args g bad unopened line none long memory (NoRun arg) is = absurd is
 of_disk_fault Holds known maps args g bad unopened line none long memory NoShard is = absurd is
 of_disk_fault Holds known maps args g bad unopened line none long memory (PayloadLost number) is = absurd is
 of_disk_fault Holds known maps args g bad unopened line none long memory (Output written) is = absurd is

@@ -49,7 +49,7 @@ items_disk_fault known maps args g fault places =
 pub items_geometry_fault : (known : KnownRaw) (maps : KnownMaps) (args : ItemsArgs) (fault : Fault) →
     IsGeometryFault known maps args.image fault → IsItemsFault known maps args fault
 items_geometry_fault known maps args fault =
-    of_geometry_fault (IsItemsFault known maps args) known maps args.image (λ limit is. is) (λ is. is) (λ name is. inl is)
+    of_geometry_fault (IsItemsFault known maps args) known maps args.image (λ limit is. is) (λ is. is) (λ is. is) (λ name is. inl is)
     (λ k is. inl is) (λ name is. inl is) tt fault
 
 -- The listing of the extent under the pointer, in the image that was loaded, is the answer of `items`.

@@ -1,28 +1,35 @@
 -- What is answered without sizes is answered with those that are found.
 use Rattle.std.proofs.Common.{◌≡◌, ◌⊎◌, inl, inr, refl, sym, subst, ℕ, List, Option, None, Some, MatchOption}
+use Rattle.std.specs.Borrow.{Bor}
 use Rattle.std.proofs.lemmas.Option.{none-some}
 use Rattle.scrub_disk.specs.declared.geometry.Geometry.{Geometry as Sizes}
 use Rattle.scrub_disk.specs.Faults.{HasSizes}
 use Rattle.scrub_disk.specs.Image.{Image}
+use Rattle.scrub_frame.specs.declared.locator.Locator.{Locator}
+use Rattle.scrub_listings.specs.declared.sizes_listing.SizesFound.TheVariants.{Certain}
 use Rattle.scrub_args.specs.declared.args.GivenSizes.{GivenSizes}
 use Rattle.scrub_args.specs.declared.args.ImageArgs.{ImageArgs}
 use Rattle.scrub_args.specs.declared.args.ItemsArgs.{ItemsArgs}
 use Rattle.scrub_args.specs.declared.args.Request.{Request}
-use Rattle.scrub_args.specs.declared.args.Request.TheVariants.{Demo, Items, Disk, Manifest, Compare, Shard, Superblocks, Sizes as sizes_of_image}
+use Rattle.scrub_args.specs.declared.args.Request.TheVariants.{Demo, Items, Disk, Manifest, Compare, Shard, Shards, Superblocks, Sizes as sizes_of_image}
 use Rattle.scrub_args.specs.declared.args.ShardArgs.{ShardArgs}
+use Rattle.scrub_args.specs.declared.args.ShardsArgs.{ShardsArgs}
 use Rattle.scrub_shard.specs.declared.shard.ShardAnswer.{ShardAnswer}
 use Rattle.scrub_cli.specs.declared.process.fault.Fault.{Fault}
-use Rattle.scrub_cli.specs.declared.process.fault.Fault.TheVariants.{NotUtf8, Help, Args, Geometry, NoSizes, Extent, BadShard, Pointer, BadPage, NoMap, MapLine, NoImage, TooLong, NoShard, PayloadLost, Output, OutOfMemory}
+use Rattle.scrub_cli.specs.declared.process.fault.Fault.TheVariants.{NotUtf8, Help, Args, Geometry, NoSizes, UncertainSizes, Extent, BadShard, Pointer, BadRun, BadPage, NoMap, MapLine, NoImage, TooLong, NoRun, NoShard, PayloadLost, Output, OutOfMemory}
 use Rattle.scrub_cli.specs.declared.process.outcome.Outcome.{Outcome}
 use Rattle.scrub_cli.specs.Answer.{IsAnswerOf, IsFaultOf}
 use Rattle.scrub_cli.specs.DiskGeometry.{AreSizesFound, IsGeometryFault, IsGeometryOf}
 use Rattle.scrub_cli.specs.DiskImage.{AreReadBefore, IsDiskFault, IsLoadedDisk}
+use Rattle.scrub_cli.specs.GivenRuns.{IsLoadedWithRuns, IsRunsFault}
 use Rattle.scrub_cli.specs.Items.{AreInDisk, IsItemsFault, IsPlacedFault}
 use Rattle.scrub_cli.specs.KnownFiles.{KnownMaps, KnownRaw}
 use Rattle.scrub_cli.specs.LeftOut.{AreFoundFor, FindsSizes, IsFindingFault, LeavesOut, request_with, with_sizes}
 use Rattle.scrub_cli.specs.Scan.{IsDiskOf, IsLoadFault, IsScanFault}
 use Rattle.scrub_cli.specs.Shard.{IsFaultAfterId, IsShardFault, IsShardLost, IsShardRead}
+use Rattle.scrub_cli.specs.Shards.{IsShardsDisk, IsShardsFault, IsShardsLoadFault}
 use Rattle.scrub_cli.proofs.DiskAnswers.{of_disk_fault}
+use Rattle.scrub_cli.proofs.GivenRunsAnswers.{of_runs_fault}
 
 -- ---- the sizes, and the disk
 
@@ -40,7 +47,7 @@ found_for known maps args g out sizes = record {
   given = has_given g;
   found =
       subst
-      (λ (o : Option GivenSizes). MatchOption o (AreSizesFound (known args.name.now) maps args.map (Some g)) (λ t. HasSizes g t.page t.pages t.extents))
+      (λ (o : Option GivenSizes). MatchOption o (AreSizesFound (known args.name.now) maps args.map (Certain g)) (λ t. HasSizes g t.page t.pages t.extents))
       out sizes;
 }
 
@@ -79,6 +86,23 @@ disk_fault_with known maps args s g fault =
     given_now : Some s ≡ None → ⊥
     given_now e = none-some s (sym e)
 
+-- the same with index runs that are given
+with_runs : {known : KnownRaw} {maps : KnownMaps} {args : ImageArgs} {words : List (Bor (List ℕ))} {g : Sizes} {image : Image} {given_runs : Option (List Locator)}
+    (s : GivenSizes) →
+    IsLoadedWithRuns known maps args words g image given_runs → IsLoadedWithRuns known maps (with_sizes args s) words g image given_runs
+with_runs {known} {maps} {args} {words} {g} {image} s x = record { loaded = loaded_with known maps args s g image x.loaded; gives = x.gives }
+
+runs_fault_with : (known : KnownRaw) (maps : KnownMaps) (args : ImageArgs) (words : List (Bor (List ℕ))) (s : GivenSizes) (g : Sizes) (fault : Fault) →
+    IsRunsFault known maps args words g fault → IsRunsFault known maps (with_sizes args s) words g fault
+runs_fault_with known maps args words s g fault =
+    of_runs_fault (λ (f : Fault). IsRunsFault known maps (with_sizes args s) words g f) known maps args words g (λ arg is. is)
+    (λ arg is. (is.0, disk_fault_with known maps args s g (BadPage arg) is.1))
+    (λ name is. (is.0, disk_fault_with known maps args s g (NoMap name) is.1))
+    (λ k is. (is.0, disk_fault_with known maps args s g (MapLine k) is.1))
+    (λ name is. (is.0, disk_fault_with known maps args s g (NoImage name) is.1))
+    (λ is. (is.0, disk_fault_with known maps args s g TooLong is.1))
+    (λ arg is. (is.0, loaded_with known maps args s g is.0 is.1, is.2)) tt fault
+
 -- ---- a whole disk
 
 module _ (known : List ℕ → KnownRaw) (maps : KnownMaps) (args : ImageArgs) (out : args.sizes ≡ None) where
@@ -105,9 +129,11 @@ module _ (known : List ℕ → KnownRaw) (maps : KnownMaps) (args : ImageArgs) (
   scan_fault_with (Args text) is = inr (given is.0, found_for known maps args is.0 out is.1, load_fault_with (Args text) is)
   scan_fault_with (Geometry limit) is = inl is
   scan_fault_with NoSizes is = inl is
+  scan_fault_with UncertainSizes is = inl is
   scan_fault_with Extent is = inr (given is.0, found_for known maps args is.0 out is.1, load_fault_with Extent is)
   scan_fault_with (BadShard text) is = inr (given is.0, found_for known maps args is.0 out is.1, load_fault_with (BadShard text) is)
   scan_fault_with Pointer is = inr (given is.0, found_for known maps args is.0 out is.1, load_fault_with Pointer is)
+  scan_fault_with (BadRun arg) is = inr (given is.0, found_for known maps args is.0 out is.1, load_fault_with (BadRun arg) is)
   scan_fault_with (BadPage arg) is = inr (given is.0, found_for known maps args is.0 out is.1, load_fault_with (BadPage arg) is)
   scan_fault_with (NoMap name) (inl is) = inl is
   scan_fault_with (NoMap name) (inr is) = inr (given is.0, found_for known maps args is.0 out is.1, inr (load_fault_with (NoMap name) is))
@@ -116,6 +142,7 @@ module _ (known : List ℕ → KnownRaw) (maps : KnownMaps) (args : ImageArgs) (
   scan_fault_with (NoImage name) (inl is) = inl is
   scan_fault_with (NoImage name) (inr is) = inr (given is.0, found_for known maps args is.0 out is.1, inr (load_fault_with (NoImage name) is))
   scan_fault_with TooLong is = inr (given is.0, found_for known maps args is.0 out is.1, load_fault_with TooLong is)
+  scan_fault_with (NoRun arg) is = inr (given is.0, found_for known maps args is.0 out is.1, load_fault_with (NoRun arg) is)
   scan_fault_with NoShard is = inr (given is.0, found_for known maps args is.0 out is.1, load_fault_with NoShard is)
   scan_fault_with (PayloadLost number) is = inr (given is.0, found_for known maps args is.0 out is.1, load_fault_with (PayloadLost number) is)
   scan_fault_with (Output written) is = inr (given is.0, found_for known maps args is.0 out is.1, load_fault_with (Output written) is)
@@ -147,9 +174,11 @@ module _ (known : List ℕ → KnownRaw) (maps : KnownMaps) (args : ItemsArgs) (
   items_fault_with (Args text) is = inr (given is.0, found_for known maps args.image is.0 out is.1.sizes, placed_fault_with (Args text) is)
   items_fault_with (Geometry limit) is = inl is
   items_fault_with NoSizes is = inl is
+  items_fault_with UncertainSizes is = inl is
   items_fault_with Extent is = inr (given is.0, found_for known maps args.image is.0 out is.1, (is.0, has_given is.0, is.2))
   items_fault_with (BadShard text) is = inr (given is.0, found_for known maps args.image is.0 out is.1.sizes, placed_fault_with (BadShard text) is)
   items_fault_with Pointer is = inr (given is.0, found_for known maps args.image is.0 out is.1, (is.0, has_given is.0, is.2, is.3))
+  items_fault_with (BadRun arg) is = inr (given is.0, found_for known maps args.image is.0 out is.1.sizes, placed_fault_with (BadRun arg) is)
   items_fault_with (BadPage arg) is = inr (given is.0, found_for known maps args.image is.0 out is.1.sizes, placed_fault_with (BadPage arg) is)
   items_fault_with (NoMap name) (inl is) = inl is
   items_fault_with (NoMap name) (inr is) = inr (given is.0, found_for known maps args.image is.0 out is.1.sizes, inr (placed_fault_with (NoMap name) is))
@@ -158,6 +187,7 @@ module _ (known : List ℕ → KnownRaw) (maps : KnownMaps) (args : ItemsArgs) (
   items_fault_with (NoImage name) (inl is) = inl is
   items_fault_with (NoImage name) (inr is) = inr (given is.0, found_for known maps args.image is.0 out is.1.sizes, inr (placed_fault_with (NoImage name) is))
   items_fault_with TooLong is = inr (given is.0, found_for known maps args.image is.0 out is.1.sizes, placed_fault_with TooLong is)
+  items_fault_with (NoRun arg) is = inr (given is.0, found_for known maps args.image is.0 out is.1.sizes, placed_fault_with (NoRun arg) is)
   items_fault_with NoShard is = inr (given is.0, found_for known maps args.image is.0 out is.1.sizes, placed_fault_with NoShard is)
   items_fault_with (PayloadLost number) is = inr (given is.0, found_for known maps args.image is.0 out is.1.sizes, placed_fault_with (PayloadLost number) is)
   items_fault_with (Output written) is = inr (given is.0, found_for known maps args.image is.0 out is.1.sizes, placed_fault_with (Output written) is)
@@ -169,19 +199,19 @@ module _ (known : List ℕ → KnownRaw) (maps : KnownMaps) (args : ShardArgs) (
   abbrev shard_with : GivenSizes → ShardArgs
   shard_with s = record args { scan = record args.scan { image = with_sizes args.scan.image s } }
 
-  read_with : {image : Image} {answer : ShardAnswer} (x : IsShardRead (known args.scan.image.name.now) maps args image answer) →
-      IsShardRead (known args.scan.image.name.now) maps (shard_with (given x.geometry)) image answer
-  read_with {image} x = record {
+  read_with : {image : Image} {by : Option (List Locator)} {answer : ShardAnswer} (x : IsShardRead (known args.scan.image.name.now) maps args image by answer) →
+      IsShardRead (known args.scan.image.name.now) maps (shard_with (given x.geometry)) image by answer
+  read_with x = record {
     geometry = x.geometry;
     id = x.id;
     named = record { sizes = has_given x.geometry; id_is = x.named.id_is };
-    loaded = loaded_with (known args.scan.image.name.now) maps args.scan.image (given x.geometry) x.geometry image x.loaded;
+    loaded = with_runs (given x.geometry) x.loaded;
     answered = x.answered;
   }
 
   lost_with : (fault : Fault) → (x : IsShardLost (known args.scan.image.name.now) maps args fault) →
       IsShardLost (known args.scan.image.name.now) maps (shard_with (given x.is_read.geometry)) fault
-  lost_with fault x = record { image = x.image; answer = x.answer; is_read = read_with x.is_read; why = x.why }
+  lost_with fault x = record { image = x.image; given = x.given; answer = x.answer; is_read = read_with x.is_read; why = x.why }
 
   id_fault_with : (fault : Fault) → (x : IsFaultAfterId (known args.scan.image.name.now) maps args fault) →
       IsFaultAfterId (known args.scan.image.name.now) maps (shard_with (given x.0)) fault
@@ -189,7 +219,7 @@ module _ (known : List ℕ → KnownRaw) (maps : KnownMaps) (args : ShardArgs) (
     x.0,
     x.1,
     record { sizes = has_given x.0; id_is = x.2.id_is },
-    disk_fault_with (known args.scan.image.name.now) maps args.scan.image (given x.0) x.0 fault x.3,
+    runs_fault_with (known args.scan.image.name.now) maps args.scan.image args.runs.items (given x.0) x.0 fault x.3,
   )
 
   abbrev ShardOrWith : Fault → Type 0
@@ -203,10 +233,12 @@ module _ (known : List ℕ → KnownRaw) (maps : KnownMaps) (args : ShardArgs) (
   shard_fault_with (Args text) is = inr (given is.0, found_for known maps args.scan.image is.0 out is.2.sizes, id_fault_with (Args text) is)
   shard_fault_with (Geometry limit) is = inl is
   shard_fault_with NoSizes is = inl is
+  shard_fault_with UncertainSizes is = inl is
   shard_fault_with Extent is = inr (given is.0, found_for known maps args.scan.image is.0 out is.2.sizes, id_fault_with Extent is)
   shard_fault_with (BadShard text) is =
       inr (given is.0, found_for known maps args.scan.image is.0 out is.1, (is.0, has_given is.0, is.2, is.3))
   shard_fault_with Pointer is = inr (given is.0, found_for known maps args.scan.image is.0 out is.2.sizes, id_fault_with Pointer is)
+  shard_fault_with (BadRun arg) is = inr (given is.0, found_for known maps args.scan.image is.0 out is.2.sizes, id_fault_with (BadRun arg) is)
   shard_fault_with (BadPage arg) is = inr (given is.0, found_for known maps args.scan.image is.0 out is.2.sizes, id_fault_with (BadPage arg) is)
   shard_fault_with (NoMap name) (inl is) = inl is
   shard_fault_with (NoMap name) (inr is) = inr (given is.0, found_for known maps args.scan.image is.0 out is.2.sizes, inr (id_fault_with (NoMap name) is))
@@ -215,12 +247,58 @@ module _ (known : List ℕ → KnownRaw) (maps : KnownMaps) (args : ShardArgs) (
   shard_fault_with (NoImage name) (inl is) = inl is
   shard_fault_with (NoImage name) (inr is) = inr (given is.0, found_for known maps args.scan.image is.0 out is.2.sizes, inr (id_fault_with (NoImage name) is))
   shard_fault_with TooLong is = inr (given is.0, found_for known maps args.scan.image is.0 out is.2.sizes, id_fault_with TooLong is)
+  shard_fault_with (NoRun arg) is = inr (given is.0, found_for known maps args.scan.image is.0 out is.2.sizes, id_fault_with (NoRun arg) is)
   shard_fault_with NoShard is =
       inr (given is.is_read.geometry, found_for known maps args.scan.image is.is_read.geometry out is.is_read.named.sizes, lost_with NoShard is)
   shard_fault_with (PayloadLost number) is =
       inr (given is.is_read.geometry, found_for known maps args.scan.image is.is_read.geometry out is.is_read.named.sizes, lost_with (PayloadLost number) is)
   shard_fault_with (Output written) is = inr (given is.0, found_for known maps args.scan.image is.0 out is.2.sizes, id_fault_with (Output written) is)
   shard_fault_with OutOfMemory is = inl (memory_fault (known args.scan.image.name.now) maps args.scan.image)
+
+-- ---- all shards
+
+module _ (known : List ℕ → KnownRaw) (maps : KnownMaps) (args : ShardsArgs) (out : args.scan.image.sizes ≡ None) where
+  abbrev shards_with : GivenSizes → ShardsArgs
+  shards_with s = record args { scan = record args.scan { image = with_sizes args.scan.image s } }
+
+  shards_disk_with : {image : Image} {by : Option (List Locator)} (x : IsShardsDisk (known args.scan.image.name.now) maps args image by) →
+      IsShardsDisk (known args.scan.image.name.now) maps (shards_with (given x.geometry)) image by
+  shards_disk_with x = record { geometry = x.geometry; sizes = has_given x.geometry; loaded = with_runs (given x.geometry) x.loaded }
+
+  shards_load_fault_with : (fault : Fault) → (x : IsShardsLoadFault (known args.scan.image.name.now) maps args fault) →
+      IsShardsLoadFault (known args.scan.image.name.now) maps (shards_with (given x.0)) fault
+  shards_load_fault_with fault x =
+      (x.0, has_given x.0, runs_fault_with (known args.scan.image.name.now) maps args.scan.image args.runs.items (given x.0) x.0 fault x.2)
+
+  abbrev ShardsOrWith : Fault → Type 0
+  ShardsOrWith fault =
+      IsGeometryFault (known args.scan.image.name.now) maps args.scan.image fault
+      ⊎ ((s : GivenSizes) × AreFoundFor known maps args.scan.image s × IsShardsFault (known args.scan.image.name.now) maps (shards_with s) fault)
+
+  shards_fault_with : (fault : Fault) → IsShardsFault (known args.scan.image.name.now) maps args fault → ShardsOrWith fault
+  shards_fault_with NotUtf8 is = inr (given is.0, found_for known maps args.scan.image is.0 out is.1, shards_load_fault_with NotUtf8 is)
+  shards_fault_with (Help text) is = inr (given is.0, found_for known maps args.scan.image is.0 out is.1, shards_load_fault_with (Help text) is)
+  shards_fault_with (Args text) is = inr (given is.0, found_for known maps args.scan.image is.0 out is.1, shards_load_fault_with (Args text) is)
+  shards_fault_with (Geometry limit) is = inl is
+  shards_fault_with NoSizes is = inl is
+  shards_fault_with UncertainSizes is = inl is
+  shards_fault_with Extent is = inr (given is.0, found_for known maps args.scan.image is.0 out is.1, shards_load_fault_with Extent is)
+  shards_fault_with (BadShard text) is = inr (given is.0, found_for known maps args.scan.image is.0 out is.1, shards_load_fault_with (BadShard text) is)
+  shards_fault_with Pointer is = inr (given is.0, found_for known maps args.scan.image is.0 out is.1, shards_load_fault_with Pointer is)
+  shards_fault_with (BadRun arg) is = inr (given is.0, found_for known maps args.scan.image is.0 out is.1, shards_load_fault_with (BadRun arg) is)
+  shards_fault_with (BadPage arg) is = inr (given is.0, found_for known maps args.scan.image is.0 out is.1, shards_load_fault_with (BadPage arg) is)
+  shards_fault_with (NoMap name) (inl is) = inl is
+  shards_fault_with (NoMap name) (inr is) = inr (given is.0, found_for known maps args.scan.image is.0 out is.1, inr (shards_load_fault_with (NoMap name) is))
+  shards_fault_with (MapLine k) (inl is) = inl is
+  shards_fault_with (MapLine k) (inr is) = inr (given is.0, found_for known maps args.scan.image is.0 out is.1, inr (shards_load_fault_with (MapLine k) is))
+  shards_fault_with (NoImage name) (inl is) = inl is
+  shards_fault_with (NoImage name) (inr is) = inr (given is.0, found_for known maps args.scan.image is.0 out is.1, inr (shards_load_fault_with (NoImage name) is))
+  shards_fault_with TooLong is = inr (given is.0, found_for known maps args.scan.image is.0 out is.1, shards_load_fault_with TooLong is)
+  shards_fault_with (NoRun arg) is = inr (given is.0, found_for known maps args.scan.image is.0 out is.1, shards_load_fault_with (NoRun arg) is)
+  shards_fault_with NoShard is = inr (given is.0, found_for known maps args.scan.image is.0 out is.1, shards_load_fault_with NoShard is)
+  shards_fault_with (PayloadLost number) is = inr (given is.0, found_for known maps args.scan.image is.0 out is.1, shards_load_fault_with (PayloadLost number) is)
+  shards_fault_with (Output written) is = inr (given is.0, found_for known maps args.scan.image is.0 out is.1, shards_load_fault_with (Output written) is)
+  shards_fault_with OutOfMemory is = inl (memory_fault (known args.scan.image.name.now) maps args.scan.image)
 
 -- ---- each request
 
@@ -252,12 +330,18 @@ answer_left_out known maps (Shard args) text outcome x out = (
   found_for known maps args.scan.image x.is_read.geometry out x.is_read.named.sizes,
   record {
     image = x.image;
+    given = x.given;
     answer = x.answer;
     is_read = read_with known maps args out x.is_read;
     remarks = x.remarks;
     are_remarks = x.are_remarks;
     written = x.written;
   },
+)
+answer_left_out known maps (Shards args) text outcome x out = (
+  given x.disk.geometry,
+  found_for known maps args.scan.image x.disk.geometry out x.disk.sizes,
+  record { image = x.image; given = x.given; disk = shards_disk_with known maps args out x.disk; archived = x.archived },
 )
 answer_left_out known maps (Superblocks args) text outcome x out = (
   given x.disk.geometry,
@@ -277,5 +361,6 @@ fault_left_out known maps (Disk wanted args) fault is out = scan_fault_with know
 fault_left_out known maps (Manifest args) fault is out = absurd out
 fault_left_out known maps (Compare args) fault is out = absurd out
 fault_left_out known maps (Shard args) fault is out = shard_fault_with known maps args out fault is
+fault_left_out known maps (Shards args) fault is out = shards_fault_with known maps args out fault is
 fault_left_out known maps (Superblocks args) fault is out = scan_fault_with known maps args out fault is
 fault_left_out known maps (sizes_of_image args) fault is out = absurd out

@@ -2,7 +2,7 @@
 use Rattle.std.proofs.Common.{ℕ, List, Option}
 use Rattle.std.specs.Borrow.{Bor}
 use Rattle.scrub_cli.specs.declared.process.fault.Fault.{Fault}
-use Rattle.scrub_cli.specs.declared.process.fault.Fault.TheVariants.{NotUtf8, Help, Args, Geometry, NoSizes, Extent, BadShard, Pointer, BadPage, NoMap, MapLine, NoImage, TooLong, NoShard, PayloadLost, Output, OutOfMemory}
+use Rattle.scrub_cli.specs.declared.process.fault.Fault.TheVariants.{NotUtf8, Help, Args, Geometry, NoSizes, UncertainSizes, Extent, BadShard, Pointer, BadRun, BadPage, NoMap, MapLine, NoImage, TooLong, NoRun, NoShard, PayloadLost, Output, OutOfMemory}
 use Rattle.scrub_cli.specs.KnownFiles.{KnownMaps, KnownRaw}
 use Rattle.scrub_cli.specs.DiskGeometry.{IsFoundFault}
 use Rattle.scrub_cli.specs.Opened.{IsOpeningFault}
@@ -18,14 +18,17 @@ of_map_fault Holds maps named unopened line memory (Help text) is = absurd is
 of_map_fault Holds maps named unopened line memory (Args text) is = absurd is
 of_map_fault Holds maps named unopened line memory (Geometry fault) is = absurd is
 of_map_fault Holds maps named unopened line memory NoSizes is = absurd is
+of_map_fault Holds maps named unopened line memory UncertainSizes is = absurd is
 of_map_fault Holds maps named unopened line memory Extent is = absurd is
 of_map_fault Holds maps named unopened line memory (BadShard text) is = absurd is
 of_map_fault Holds maps named unopened line memory Pointer is = absurd is
+of_map_fault Holds maps named unopened line memory (BadRun arg) is = absurd is
 of_map_fault Holds maps named unopened line memory (BadPage arg) is = absurd is
 of_map_fault Holds maps named unopened line memory (NoMap name) is = unopened name is
 of_map_fault Holds maps named unopened line memory (MapLine k) is = line k is
 of_map_fault Holds maps named unopened line memory (NoImage name) is = absurd is
 of_map_fault Holds maps named unopened line memory TooLong is = absurd is
+of_map_fault Holds maps named unopened line memory (NoRun arg) is = absurd is
 of_map_fault Holds maps named unopened line memory NoShard is = absurd is
 of_map_fault Holds maps named unopened line memory (PayloadLost number) is = absurd is
 of_map_fault Holds maps named unopened line memory (Output written) is = absurd is
@@ -48,14 +51,17 @@ of_opening_fault Holds maps named name unopened line none memory (Help text) is 
 of_opening_fault Holds maps named name unopened line none memory (Args text) is = absurd is
 of_opening_fault Holds maps named name unopened line none memory (Geometry fault) is = absurd is
 of_opening_fault Holds maps named name unopened line none memory NoSizes is = absurd is
+of_opening_fault Holds maps named name unopened line none memory UncertainSizes is = absurd is
 of_opening_fault Holds maps named name unopened line none memory Extent is = absurd is
 of_opening_fault Holds maps named name unopened line none memory (BadShard text) is = absurd is
 of_opening_fault Holds maps named name unopened line none memory Pointer is = absurd is
+of_opening_fault Holds maps named name unopened line none memory (BadRun arg) is = absurd is
 of_opening_fault Holds maps named name unopened line none memory (BadPage arg) is = absurd is
 of_opening_fault Holds maps named name unopened line none memory (NoMap map) is = unopened map is
 of_opening_fault Holds maps named name unopened line none memory (MapLine k) is = line k is
 of_opening_fault Holds maps named name unopened line none memory (NoImage image) is = none image is
 of_opening_fault Holds maps named name unopened line none memory TooLong is = absurd is
+of_opening_fault Holds maps named name unopened line none memory (NoRun arg) is = absurd is
 of_opening_fault Holds maps named name unopened line none memory NoShard is = absurd is
 of_opening_fault Holds maps named name unopened line none memory (PayloadLost number) is = absurd is
 of_opening_fault Holds maps named name unopened line none memory (Output written) is = absurd is

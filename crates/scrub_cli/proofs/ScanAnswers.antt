@@ -4,7 +4,7 @@ use Rattle.std.specs.Borrow.{Bor}
 use Rattle.scrub_disk.specs.declared.geometry.GeometryFault.{GeometryFault}
 use Rattle.scrub_disk.specs.declared.geometry.Geometry.{Geometry as Sizes}
 use Rattle.scrub_cli.specs.declared.process.fault.Fault.{Fault}
-use Rattle.scrub_cli.specs.declared.process.fault.Fault.TheVariants.{NotUtf8, Help, Args, Geometry, NoSizes, Extent, BadShard, Pointer, BadPage, NoMap, MapLine, NoImage, TooLong, NoShard, PayloadLost, Output, OutOfMemory}
+use Rattle.scrub_cli.specs.declared.process.fault.Fault.TheVariants.{NotUtf8, Help, Args, Geometry, NoSizes, UncertainSizes, Extent, BadShard, Pointer, BadRun, BadPage, NoMap, MapLine, NoImage, TooLong, NoRun, NoShard, PayloadLost, Output, OutOfMemory}
 use Rattle.scrub_args.specs.declared.args.GivenSizes.{GivenSizes}
 use Rattle.scrub_args.specs.declared.args.ImageArgs.{ImageArgs}
 use Rattle.scrub_cli.specs.DiskImage.{IsDiskFault}
@@ -30,31 +30,35 @@ never (Some s) is = is
 pub of_geometry_fault : (Holds : Fault → Type 0) (known : KnownRaw) (maps : KnownMaps) (args : ImageArgs) →
     ((fault : GeometryFault) → IsGeometryFault known maps args (Geometry fault) → Holds (Geometry fault)) →
     (IsGeometryFault known maps args NoSizes → Holds NoSizes) →
+    (IsGeometryFault known maps args UncertainSizes → Holds UncertainSizes) →
     ((name : Bor (List ℕ)) → IsGeometryFault known maps args (NoMap name) → Holds (NoMap name)) →
     ((k : ℕ) → IsGeometryFault known maps args (MapLine k) → Holds (MapLine k)) →
     ((name : Bor (List ℕ)) → IsGeometryFault known maps args (NoImage name) → Holds (NoImage name)) → Holds OutOfMemory →
     (fault : Fault) → IsGeometryFault known maps args fault → Holds fault
-of_geometry_fault Holds known maps args limit found unopened line none memory NotUtf8 is = absurd (never args.sizes is)
-of_geometry_fault Holds known maps args limit found unopened line none memory (Help text) is = absurd (never args.sizes is)
-of_geometry_fault Holds known maps args limit found unopened line none memory (Args text) is = absurd (never args.sizes is)
-of_geometry_fault Holds known maps args limit found unopened line none memory (Geometry fault) is = limit fault is
-of_geometry_fault Holds known maps args limit found unopened line none memory NoSizes is = found is
-of_geometry_fault Holds known maps args limit found unopened line none memory Extent is = absurd (never args.sizes is)
-of_geometry_fault Holds known maps args limit found unopened line none memory (BadShard text) is = absurd (never args.sizes is)
-of_geometry_fault Holds known maps args limit found unopened line none memory Pointer is = absurd (never args.sizes is)
-of_geometry_fault Holds known maps args limit found unopened line none memory (BadPage arg) is = absurd (never args.sizes is)
-of_geometry_fault Holds known maps args limit found unopened line none memory (NoMap name) is = unopened name is
-of_geometry_fault Holds known maps args limit found unopened line none memory (MapLine k) is = line k is
-of_geometry_fault Holds known maps args limit found unopened line none memory (NoImage name) is = none name is
-of_geometry_fault Holds known maps args limit found unopened line none memory TooLong is = absurd (never args.sizes is)
-of_geometry_fault Holds known maps args limit found unopened line none memory NoShard is = absurd (never args.sizes is)
-of_geometry_fault Holds known maps args limit found unopened line none memory (PayloadLost number) is = absurd (never args.sizes is)
-of_geometry_fault Holds known maps args limit found unopened line none memory (Output written) is = absurd (never args.sizes is)
-of_geometry_fault Holds known maps args limit found unopened line none memory OutOfMemory is = memory
+of_geometry_fault Holds known maps args limit found uncertain unopened line none memory NotUtf8 is = absurd (never args.sizes is)
+of_geometry_fault Holds known maps args limit found uncertain unopened line none memory (Help text) is = absurd (never args.sizes is)
+of_geometry_fault Holds known maps args limit found uncertain unopened line none memory (Args text) is = absurd (never args.sizes is)
+of_geometry_fault Holds known maps args limit found uncertain unopened line none memory (Geometry fault) is = limit fault is
+of_geometry_fault Holds known maps args limit found uncertain unopened line none memory NoSizes is = found is
+of_geometry_fault Holds known maps args limit found uncertain unopened line none memory UncertainSizes is = uncertain is
+of_geometry_fault Holds known maps args limit found uncertain unopened line none memory Extent is = absurd (never args.sizes is)
+of_geometry_fault Holds known maps args limit found uncertain unopened line none memory (BadShard text) is = absurd (never args.sizes is)
+of_geometry_fault Holds known maps args limit found uncertain unopened line none memory Pointer is = absurd (never args.sizes is)
+of_geometry_fault Holds known maps args limit found uncertain unopened line none memory (BadRun arg) is = absurd (never args.sizes is)
+of_geometry_fault Holds known maps args limit found uncertain unopened line none memory (BadPage arg) is = absurd (never args.sizes is)
+of_geometry_fault Holds known maps args limit found uncertain unopened line none memory (NoMap name) is = unopened name is
+of_geometry_fault Holds known maps args limit found uncertain unopened line none memory (MapLine k) is = line k is
+of_geometry_fault Holds known maps args limit found uncertain unopened line none memory (NoImage name) is = none name is
+of_geometry_fault Holds known maps args limit found uncertain unopened line none memory TooLong is = absurd (never args.sizes is)
+of_geometry_fault Holds known maps args limit found uncertain unopened line none memory (NoRun arg) is = absurd (never args.sizes is)
+of_geometry_fault Holds known maps args limit found uncertain unopened line none memory NoShard is = absurd (never args.sizes is)
+of_geometry_fault Holds known maps args limit found uncertain unopened line none memory (PayloadLost number) is = absurd (never args.sizes is)
+of_geometry_fault Holds known maps args limit found uncertain unopened line none memory (Output written) is = absurd (never args.sizes is)
+of_geometry_fault Holds known maps args limit found uncertain unopened line none memory OutOfMemory is = memory
 
 -- a fault of the sizes is one of `scan`
 pub scan_geometry_fault : (known : KnownRaw) (maps : KnownMaps) (args : ImageArgs) (fault : Fault) →
     IsGeometryFault known maps args fault → IsScanFault known maps args fault
 scan_geometry_fault known maps args fault =
-    of_geometry_fault (IsScanFault known maps args) known maps args (λ limit is. is) (λ is. is) (λ name is. inl is) (λ k is. inl is)
+    of_geometry_fault (IsScanFault known maps args) known maps args (λ limit is. is) (λ is. is) (λ is. is) (λ name is. inl is) (λ k is. inl is)
     (λ name is. inl is) tt fault

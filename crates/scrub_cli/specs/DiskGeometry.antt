@@ -1,13 +1,15 @@
 -- The sizes of a disk: those that the arguments give, or else those that its superblock records have.
-use Rattle.std.specs.Prelude.{◌≤◌, ℕ, List, Option, None, Some, MatchOption}
+use Rattle.std.specs.Prelude.{◌≤◌, ℕ, List, Option, MatchOption}
 use Rattle.std.specs.Borrow.{Bor}
 use Rattle.scrub_disk.specs.declared.geometry.Geometry.{Geometry as Sizes}
 use Rattle.scrub_disk.specs.Faults.{HasSizes, IsFirstBroken}
 use Rattle.scrub_map.specs.declared.block.MapBlock.{MapBlock}
 use Rattle.scrub_map.specs.declared.map.RescueMap.{RescueMap}
 use Rattle.scrub_listings.specs.Sizes.{AreSizesOf}
+use Rattle.scrub_listings.specs.declared.sizes_listing.SizesFound.{SizesFound}
+use Rattle.scrub_listings.specs.declared.sizes_listing.SizesFound.TheVariants.{Certain, Uncertain, NotFound}
 use Rattle.scrub_cli.specs.declared.process.fault.Fault.{Fault}
-use Rattle.scrub_cli.specs.declared.process.fault.Fault.TheVariants.{Geometry, NoSizes, OutOfMemory}
+use Rattle.scrub_cli.specs.declared.process.fault.Fault.TheVariants.{Geometry, NoSizes, UncertainSizes, OutOfMemory}
 use Rattle.scrub_args.specs.declared.args.GivenSizes.{GivenSizes}
 use Rattle.scrub_args.specs.declared.args.ImageArgs.{ImageArgs}
 use Rattle.scrub_cli.specs.KnownFiles.{KnownMaps, KnownRaw}
@@ -15,32 +17,33 @@ use Rattle.scrub_cli.specs.Opened.{IsOpeningFault}
 use Rattle.scrub_cli.specs.Rescue.{AreBlocksOf, KeepsMap}
 use Rattle.scrub_cli.specs.SizesListed.{AreLackingBy}
 
--- the sizes of all records in a raw image of which this is known, or None if there are none, with the blocks lost that lack
--- a byte before its end, and those of as many reads as may have failed
-pub record AreSizesRead (known : KnownRaw) (lacking : List ℕ) (found : Option Sizes) : Type 0 where
+-- what the records in a raw image of which this is known say of the sizes, with the blocks lost that lack a byte before its end,
+-- and those of as many reads as may have failed
+pub record AreSizesRead (known : KnownRaw) (lacking : List ℕ) (found : SizesFound) : Type 0 where
   pub failures : ℕ
   pub few : failures ≤ known.most_failures
   pub sizes : AreSizesOf known.bytes lacking known.fails failures found
 
--- the sizes that are found so in a raw image, with the blocks lost that a map of these blocks lacks
-pub record AreSizesWithout (known : KnownRaw) (blocks : Option (List MapBlock)) (found : Option Sizes) : Type 0 where
+-- what is found so of the sizes in a raw image, with the blocks lost that a map of these blocks lacks
+pub record AreSizesWithout (known : KnownRaw) (blocks : Option (List MapBlock)) (found : SizesFound) : Type 0 where
   pub lacking : List ℕ
   pub lacks : AreLackingBy blocks lacking
   pub read : AreSizesRead known lacking found
 
--- the sizes that are found so in a raw image, with the blocks lost that the map lacks
-pub record AreSizesFound (known : KnownRaw) (maps : KnownMaps) (named : Option (Bor (List ℕ))) (found : Option Sizes) : Type 0 where
+-- what is found so of the sizes in a raw image, with the blocks lost that the map lacks
+pub record AreSizesFound (known : KnownRaw) (maps : KnownMaps) (named : Option (Bor (List ℕ))) (found : SizesFound) : Type 0 where
   pub blocks : Option (List MapBlock)
   pub mapped : AreBlocksOf maps named blocks
   pub sizes : AreSizesWithout known blocks found
 
 -- these sizes are found so in a raw image, with the blocks lost that this map lacks
 abbrev pub AreSizesFoundBy : KnownRaw → Option RescueMap → Sizes → Type 0
-AreSizesFoundBy known map g = (blocks : Option (List MapBlock)) → KeepsMap map blocks → AreSizesWithout known blocks (Some g)
+AreSizesFoundBy known map g = (blocks : Option (List MapBlock)) → KeepsMap map blocks → AreSizesWithout known blocks (Certain g)
 
--- why no sizes are found: the map and the image aren't opened, or else that there are none; or memory ran out
+-- why no sizes are found: the map and the image aren't opened, or else the sizes aren't found, or aren't certain; or memory ran out
 abbrev pub IsFoundFault : KnownRaw → KnownMaps → Option (Bor (List ℕ)) → Bor (List ℕ) → Fault → Type 0
-IsFoundFault known maps named name NoSizes = AreSizesFound known maps named None
+IsFoundFault known maps named name NoSizes = AreSizesFound known maps named NotFound
+IsFoundFault known maps named name UncertainSizes = AreSizesFound known maps named Uncertain
 IsFoundFault known maps named name fault = IsOpeningFault maps named name fault
 
 -- why sizes that are given are refused: the first limit that they break
@@ -52,7 +55,7 @@ IsGivenFault s fault = ⊥
 -- the sizes of the disk that the arguments name: those that they give, or else those that its records have
 abbrev pub IsGeometryOf : KnownRaw → KnownMaps → ImageArgs → Sizes → Type 0
 IsGeometryOf known maps args g =
-    MatchOption args.sizes (AreSizesFound known maps args.map (Some g)) (λ s. HasSizes g s.page s.pages s.extents)
+    MatchOption args.sizes (AreSizesFound known maps args.map (Certain g)) (λ s. HasSizes g s.page s.pages s.extents)
 
 -- why there are no such sizes
 abbrev pub IsGeometryFault : KnownRaw → KnownMaps → ImageArgs → Fault → Type 0

@@ -1,11 +1,12 @@
 -- The disk that the arguments name: the pages that they give as unreadable, the image that is loaded, without what its map
 -- lacks, and why none is.
-use Rattle.std.specs.Prelude.{◌≡◌, ◌<◌, ℕ, List, length, take, slice_index_or, Option, None, Some, IfSome}
+use Rattle.std.specs.Prelude.{◌≡◌, ◌<◌, ℕ, List, length, take, slice_index_or, Option, None, IfSome}
 use Rattle.std.specs.Borrow.{Bor}
 use Rattle.std.specs.List.{AllZip}
 use Rattle.scrub_disk.specs.declared.geometry.Geometry.{Geometry as Sizes}
 use Rattle.scrub_disk.specs.Image.{Image, disk_bytes}
 use Rattle.scrub_disk.specs.Raw.{IsLoadedWith}
+use Rattle.scrub_listings.specs.declared.sizes_listing.SizesFound.TheVariants.{Certain}
 use Rattle.scrub_map.specs.declared.block.MapBlock.{MapBlock}
 use Rattle.scrub_cli.specs.declared.process.fault.Fault.{Fault}
 use Rattle.scrub_cli.specs.declared.process.fault.Fault.TheVariants.{BadPage, NoMap, MapLine, NoImage, TooLong, OutOfMemory}
@@ -52,7 +53,7 @@ pub record IsLoadedDisk (known : KnownRaw) (maps : KnownMaps) (args : ImageArgs)
   pub before : Image
   pub loaded : IsLoadedWith known.bytes known.fails known.most_failures g unreadable before
   pub rescued : LosesByMap blocks before image
-  pub sizes : args.sizes ≡ None → AreSizesWithout known blocks (Some g)
+  pub sizes : args.sizes ≡ None → AreSizesWithout known blocks (Certain g)
 
 -- the arguments name pages, and their map was read, if one is named
 pub record AreReadBefore (maps : KnownMaps) (args : ImageArgs) (g : Sizes) : Type 0 where

@@ -10,7 +10,7 @@ use Rattle.scrub_map.specs.declared.reading.MapFault.TheVariants.{Line, OutOfMem
 use Rattle.scrub_args.specs.declared.args.ArgsFault.{ArgsFault}
 use Rattle.scrub_args.specs.declared.args.ArgsFault.TheVariants.{Refused, Help as help, OutOfMemory as no_memory_to_read}
 use Rattle.scrub_cli.specs.declared.process.fault.Fault.{Fault}
-use Rattle.scrub_cli.specs.declared.process.fault.Fault.TheVariants.{NotUtf8, Help, Args, Geometry, NoSizes, Extent, BadShard, Pointer, BadPage, NoMap, MapLine, NoImage, TooLong, NoShard, PayloadLost, Output, OutOfMemory}
+use Rattle.scrub_cli.specs.declared.process.fault.Fault.TheVariants.{NotUtf8, Help, Args, Geometry, NoSizes, UncertainSizes, Extent, BadShard, Pointer, BadRun, BadPage, NoMap, MapLine, NoImage, TooLong, NoRun, NoShard, PayloadLost, Output, OutOfMemory}
 use Rattle.scrub_report.specs.Output.{AppendsFront}
 use Rattle.scrub_cli.specs.Streams.{Held}
 
@@ -30,22 +30,25 @@ fault_of_args (help text) = Help text
 fault_of_args (Refused text) = Args text
 fault_of_args no_memory_to_read = OutOfMemory
 
--- the status of a fault: 0 for help, 1 for a shard that can't be had, 2 for arguments and the text of a map, 3 for files and
--- the output, 4 if memory ran out
+-- the status of a fault: 0 for help, 1 for a shard that can't be had, 2 for arguments, the text of a map and index runs that aren't
+-- there, 3 for files and the output, 4 if memory ran out
 abbrev pub status_of : Fault → ℕ
 status_of NotUtf8 = 2
 status_of (Help text) = 0
 status_of (Args text) = 2
 status_of (Geometry fault) = 2
 status_of NoSizes = 2
+status_of UncertainSizes = 2
 status_of Extent = 2
 status_of (BadShard text) = 2
 status_of Pointer = 2
+status_of (BadRun arg) = 2
 status_of (BadPage arg) = 2
 status_of (NoMap name) = 3
 status_of (MapLine k) = 2
 status_of (NoImage name) = 3
 status_of TooLong = 3
+status_of (NoRun arg) = 2
 status_of NoShard = 1
 status_of (PayloadLost number) = 1
 status_of (Output written) = 3
@@ -66,14 +69,19 @@ text_of (Geometry Extents) = line (codes "geometry refused: Extents")
 text_of (Geometry ExtentBytes) = line (codes "geometry refused: ExtentBytes")
 text_of (Geometry TotalBytes) = line (codes "geometry refused: TotalBytes")
 text_of NoSizes = line (codes "sizes not found: run shardscrub sizes")
+text_of UncertainSizes =
+    line
+    (codes "sizes not certain: records were found, but bytes of the first 64 MiB can't be read; give --page, --pages and --extents (shardscrub sizes lists them)")
 text_of Extent = line (codes "extent out of range")
 text_of (BadShard text) = line (codes "shard refused: " ++ text.now)
 text_of Pointer = line (codes "pointer out of range")
+text_of (BadRun arg) = line (codes "run refused: " ++ arg.now)
 text_of (BadPage arg) = line (codes "bad page refused: " ++ arg.now)
 text_of (NoMap name) = line (codes "map cannot be opened: " ++ name.now)
 text_of (MapLine k) = line (codes "map refused: line " ++ decimal k)
 text_of (NoImage name) = line (codes "image cannot be opened: " ++ name.now)
 text_of TooLong = line (codes "image too long")
+text_of (NoRun arg) = line (codes "run not found: " ++ arg.now)
 text_of NoShard = line (codes "no such shard")
 text_of (PayloadLost number) = line (codes "payload lost: " ++ two_digits number)
 text_of (Output written) = line (codes "output failed after " ++ decimal written ++ codes " bytes")

@@ -4,7 +4,7 @@ use Rattle.scrub_disk.specs.declared.geometry.Geometry.{Geometry as Sizes}
 use Rattle.scrub_disk.specs.Image.{Image, extent_bytes}
 use Rattle.scrub_scan.specs.Extent.{extent_of}
 use Rattle.scrub_cli.specs.declared.process.fault.Fault.{Fault}
-use Rattle.scrub_cli.specs.declared.process.fault.Fault.TheVariants.{Geometry, NoSizes, Extent, Pointer, NoMap, MapLine, NoImage, OutOfMemory}
+use Rattle.scrub_cli.specs.declared.process.fault.Fault.TheVariants.{Geometry, NoSizes, UncertainSizes, Extent, Pointer, NoMap, MapLine, NoImage, OutOfMemory}
 use Rattle.scrub_cli.specs.declared.process.outcome.Outcome.{Outcome}
 use Rattle.scrub_args.specs.declared.args.ItemsArgs.{ItemsArgs}
 use Rattle.scrub_cli.specs.DiskImage.{IsLoadedDisk, IsDiskFault}
@@ -38,6 +38,7 @@ IsPlacedFault known maps args fault = (g : Sizes) × AreInDisk known maps args g
 abbrev pub IsItemsFault : KnownRaw → KnownMaps → ItemsArgs → Fault → Type 0
 IsItemsFault known maps args (Geometry fault) = IsGeometryFault known maps args.image (Geometry fault)
 IsItemsFault known maps args NoSizes = IsGeometryFault known maps args.image NoSizes
+IsItemsFault known maps args UncertainSizes = IsGeometryFault known maps args.image UncertainSizes
 IsItemsFault known maps args Extent = (g : Sizes) × IsGeometryOf known maps args.image g × (g.extents ≤ args.extent)
 IsItemsFault known maps args Pointer =
     (g : Sizes) × IsGeometryOf known maps args.image g × (args.extent < g.extents) × (extent_bytes g < given_pointer args g)

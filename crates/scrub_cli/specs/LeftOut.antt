@@ -2,10 +2,11 @@
 use Rattle.std.specs.Prelude.{◌≡◌, ℕ, List, Option, None, Some, MatchOption}
 use Rattle.scrub_disk.specs.declared.geometry.Geometry.{Geometry as Sizes}
 use Rattle.scrub_disk.specs.Faults.{HasSizes}
+use Rattle.scrub_listings.specs.declared.sizes_listing.SizesFound.TheVariants.{Certain}
 use Rattle.scrub_args.specs.declared.args.GivenSizes.{GivenSizes}
 use Rattle.scrub_args.specs.declared.args.ImageArgs.{ImageArgs}
 use Rattle.scrub_args.specs.declared.args.Request.{Request}
-use Rattle.scrub_args.specs.declared.args.Request.TheVariants.{Items, Disk, Shard, Superblocks}
+use Rattle.scrub_args.specs.declared.args.Request.TheVariants.{Items, Disk, Shard, Shards, Superblocks}
 use Rattle.scrub_cli.specs.declared.process.fault.Fault.{Fault}
 use Rattle.scrub_cli.specs.DiskGeometry.{AreSizesFound, IsGeometryFault}
 use Rattle.scrub_cli.specs.KnownFiles.{KnownMaps, KnownRaw}
@@ -15,6 +16,7 @@ abbrev pub image_args : Request → Option ImageArgs
 image_args (Items args) = Some args.image
 image_args (Disk wanted args) = Some args.image
 image_args (Shard args) = Some args.scan.image
+image_args (Shards args) = Some args.scan.image
 image_args (Superblocks args) = Some args
 image_args request = None
 
@@ -27,6 +29,7 @@ abbrev pub request_with : Request → GivenSizes → Request
 request_with (Items args) s = Items (record args { image = with_sizes args.image s })
 request_with (Disk wanted args) s = Disk wanted (record args { image = with_sizes args.image s })
 request_with (Shard args) s = Shard (record args { scan = record args.scan { image = with_sizes args.scan.image s } })
+request_with (Shards args) s = Shards (record args { scan = record args.scan { image = with_sizes args.scan.image s } })
 request_with (Superblocks args) s = Superblocks (with_sizes args s)
 request_with request s = request
 
@@ -38,7 +41,7 @@ LeavesOut request = MatchOption (image_args request) ⊥ (λ args. args.sizes �
 pub record AreFoundFor (known : List ℕ → KnownRaw) (maps : KnownMaps) (args : ImageArgs) (s : GivenSizes) : Type 0 where
   pub geometry : Sizes
   pub given : HasSizes geometry s.page s.pages s.extents
-  pub found : AreSizesFound (known args.name.now) maps args.map (Some geometry)
+  pub found : AreSizesFound (known args.name.now) maps args.map (Certain geometry)
 
 -- these are sizes that are found in the image of a request
 abbrev pub FindsSizes : (List ℕ → KnownRaw) → KnownMaps → Request → GivenSizes → Type 0

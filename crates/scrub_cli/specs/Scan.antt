@@ -1,47 +1,49 @@
--- What the commands `scan`, `index`, `locators`, `shards`, `summary` and `reclaimable` answer for an image file, and why they don't.
-use Rattle.std.specs.Prelude.{◌≡◌, ◌⊎◌, ℕ, List, Bool, Option}
+-- What the commands `scan`, `index`, `locators`, `runs`, `summary` and `reclaimable` answer for an image file, and why they don't.
+use Rattle.std.specs.Prelude.{◌≡◌, ◌⊎◌, ℕ, List, Bool, true, false, Option}
 use Rattle.scrub_disk.specs.declared.geometry.Geometry.{Geometry as Sizes}
 use Rattle.scrub_disk.specs.Image.{Image}
 use Rattle.scrub_pool.specs.Takings.{TakingsValue}
 use Rattle.scrub_report.specs.Answer.{AnswerValue, IsScrubAnswer}
 use Rattle.scrub_found.specs.Takings.{AreTakingsBy}
+use Rattle.scrub_listings.specs.FoundRuns.{IsRunsListing}
 use Rattle.scrub_listings.specs.Locators.{IsLocatorListing}
 use Rattle.scrub_listings.specs.Summary.{IsSummary}
 use Rattle.scrub_reclaim.specs.Doubts.{Acceptance}
 use Rattle.scrub_reclaim.specs.Reclaimable.{AreReclaimLines}
-use Rattle.scrub_shard.specs.Archive.{IsArchive}
-use Rattle.scrub_shard.specs.declared.archiving.Remark.{Remark}
 use Rattle.scrub_args.specs.declared.args.Wanted.{Wanted}
-use Rattle.scrub_args.specs.declared.args.Wanted.TheVariants.{Report, Index, Locators, Shards, Summary, Reclaimable}
+use Rattle.scrub_args.specs.declared.args.Wanted.TheVariants.{Report, Index, Locators, Runs, Summary, Reclaimable}
 use Rattle.scrub_cli.specs.declared.process.fault.Fault.{Fault}
-use Rattle.scrub_cli.specs.declared.process.fault.Fault.TheVariants.{Geometry, NoSizes, NoMap, MapLine, NoImage, OutOfMemory}
+use Rattle.scrub_cli.specs.declared.process.fault.Fault.TheVariants.{Geometry, NoSizes, UncertainSizes, NoMap, MapLine, NoImage, OutOfMemory}
 use Rattle.scrub_cli.specs.declared.process.outcome.Outcome.{Outcome}
 use Rattle.scrub_args.specs.declared.args.ImageArgs.{ImageArgs}
 use Rattle.scrub_args.specs.declared.args.ScanArgs.{ScanArgs}
 use Rattle.scrub_cli.specs.DiskImage.{IsLoadedDisk, IsDiskFault}
 use Rattle.scrub_cli.specs.KnownFiles.{KnownMaps, KnownRaw}
 use Rattle.scrub_cli.specs.DiskGeometry.{IsGeometryFault, IsGeometryOf}
-use Rattle.scrub_cli.specs.Outcome.{IsOutcomeWith, outcome_of}
-use Rattle.scrub_cli.specs.Remarks.{remark_lines}
+use Rattle.scrub_cli.specs.Outcome.{outcome_of}
 
 -- the lines of doubts that are accepted, and the generation of the last superblock, if it is given
 abbrev pub acceptance : List (List ℕ) → Option ℕ → Acceptance
 acceptance lines last = record { lines = lines; last = last }
 
 -- the text is what is wanted of the image, with the outcome: its report or its index, and whether it is clean; the lines of its
--- named locators; the archive of its shards, with the lines of what is said beside it; its summary; or the lines of what may be
--- reclaimed
+-- named locators; those of the index runs that are found, and whether each page can be read; its summary; or the lines of what may
+-- be reclaimed
 abbrev pub IsDiskAnswer : Wanted → Image → List ℕ → Outcome → Type 0
 IsDiskAnswer Report image text outcome =
     (a : AnswerValue) × IsScrubAnswer image a × (text ≡ a.report) × (outcome ≡ outcome_of a.is_clean)
 IsDiskAnswer Index image text outcome =
     (a : AnswerValue) × IsScrubAnswer image a × (text ≡ a.index) × (outcome ≡ outcome_of a.is_clean)
 IsDiskAnswer Locators image text outcome = (clean : Bool) × IsLocatorListing image text clean × (outcome ≡ outcome_of clean)
-IsDiskAnswer Shards image text outcome =
-    (remarks : List Remark) × IsArchive image text remarks × IsOutcomeWith (remark_lines remarks) outcome
+IsDiskAnswer Runs image text outcome = (clean : Bool) × IsRunsListing image text clean × (outcome ≡ outcome_of clean)
 IsDiskAnswer (Summary last) image text outcome = (sound : Bool) × IsSummary last image text sound × (outcome ≡ outcome_of sound)
 IsDiskAnswer (Reclaimable lines last) image text outcome =
     (clear : Bool) × AreReclaimLines image (acceptance lines last) text clear × (outcome ≡ outcome_of clear)
+
+-- whether workers scan the disk for what is wanted: index runs are found without a scan
+abbrev pub is_scanned : Wanted → Bool
+is_scanned Runs = false
+is_scanned wanted = true
 
 -- an image of the sizes that are given or found, loaded from this raw image
 pub record IsDiskOf (known : KnownRaw) (maps : KnownMaps) (args : ImageArgs) (image : Image) : Type 0 where
@@ -72,6 +74,7 @@ IsLoadFault known maps args fault = (g : Sizes) × IsGeometryOf known maps args 
 abbrev pub IsScanFault : KnownRaw → KnownMaps → ImageArgs → Fault → Type 0
 IsScanFault known maps args (Geometry fault) = IsGeometryFault known maps args (Geometry fault)
 IsScanFault known maps args NoSizes = IsGeometryFault known maps args NoSizes
+IsScanFault known maps args UncertainSizes = IsGeometryFault known maps args UncertainSizes
 IsScanFault known maps args OutOfMemory = Unit {0}
 IsScanFault known maps args (NoMap name) = IsGeometryFault known maps args (NoMap name) ⊎ IsLoadFault known maps args (NoMap name)
 IsScanFault known maps args (MapLine k) = IsGeometryFault known maps args (MapLine k) ⊎ IsLoadFault known maps args (MapLine k)

@@ -1,21 +1,22 @@
 -- What the command `shard` answers for an image file, and why it doesn't.
-use Rattle.std.specs.Prelude.{◌≡◌, ◌⊎◌, ℕ, true, List}
+use Rattle.std.specs.Prelude.{◌≡◌, ◌⊎◌, ℕ, true, List, Option}
 use Rattle.scrub_disk.specs.declared.geometry.Geometry.{Geometry as Sizes}
 use Rattle.scrub_disk.specs.Image.{Image}
+use Rattle.scrub_frame.specs.declared.locator.Locator.{Locator}
 use Rattle.scrub_pool.specs.Takings.{TakingsValue}
-use Rattle.scrub_found.specs.Takings.{AreTakingsBy}
+use Rattle.scrub_found.specs.Takings.{AreTakingsFrom}
 use Rattle.scrub_run.specs.declared.shard_id.ShardId.{ShardId}
 use Rattle.scrub_listings.specs.declared.remarks.SuperblockRemark.{SuperblockRemark}
-use Rattle.scrub_listings.specs.Remarks.{AreSuperblockRemarks}
-use Rattle.scrub_shard.specs.Shard.{IsShardAnswer}
+use Rattle.scrub_shard.specs.Archive.{AreSaidFrom}
+use Rattle.scrub_shard.specs.Shard.{IsShardAnswerFrom}
 use Rattle.scrub_shard.specs.declared.shard.ShardAnswer.{ShardAnswer}
 use Rattle.scrub_shard.specs.declared.shard.ShardAnswer.TheVariants.{NoSuchShard, PayloadLost as payload_is_lost, Found}
 use Rattle.scrub_cli.specs.declared.process.fault.Fault.{Fault}
-use Rattle.scrub_cli.specs.declared.process.fault.Fault.TheVariants.{Geometry, NoSizes, BadShard, NoMap, MapLine, NoImage, NoShard, PayloadLost, OutOfMemory}
+use Rattle.scrub_cli.specs.declared.process.fault.Fault.TheVariants.{Geometry, NoSizes, UncertainSizes, BadShard, NoMap, MapLine, NoImage, NoShard, PayloadLost, OutOfMemory}
 use Rattle.scrub_cli.specs.declared.process.outcome.Outcome.{Outcome}
 use Rattle.scrub_args.specs.declared.args.ShardArgs.{ShardArgs}
-use Rattle.scrub_cli.specs.DiskImage.{IsLoadedDisk, IsDiskFault}
 use Rattle.scrub_cli.specs.DiskGeometry.{IsGeometryFault, IsGeometryOf}
+use Rattle.scrub_cli.specs.GivenRuns.{IsLoadedWithRuns, IsRunsFault}
 use Rattle.scrub_cli.specs.KnownFiles.{KnownMaps, KnownRaw}
 use Rattle.scrub_cli.specs.Outcome.{IsWarnedOutcome}
 use Rattle.scrub_cli.specs.Remarks.{shard_lines}
@@ -37,50 +38,56 @@ pub record IsNamed (known : KnownRaw) (maps : KnownMaps) (args : ShardArgs) (g :
   pub sizes : IsGeometryOf known maps args.scan.image g
   pub id_is : IsIdText args.id.now id
 
--- the answer for the shard that is named, in an image that was loaded from this raw image
-pub record IsShardRead (known : KnownRaw) (maps : KnownMaps) (args : ShardArgs) (image : Image) (answer : ShardAnswer) : Type 0 where
+-- the answer for the shard that is named, in an image that was loaded from this raw image: by the index runs that are given, or
+-- else by the superblock that counts
+pub record IsShardRead (known : KnownRaw) (maps : KnownMaps) (args : ShardArgs) (image : Image) (given : Option (List Locator))
+    (answer : ShardAnswer) : Type 0 where
   pub geometry : Sizes
   pub id : ShardId
   pub named : IsNamed known maps args geometry id
-  pub loaded : IsLoadedDisk known maps args.scan.image geometry image
-  pub answered : IsShardAnswer image id answer
+  pub loaded : IsLoadedWithRuns known maps args.scan.image args.runs.items geometry image given
+  pub answered : IsShardAnswerFrom given image id answer
 
 -- the answer of `shard`: the bytes of the shard that is named, and the lines for the error stream
 pub record IsShardWritten (known : KnownRaw) (maps : KnownMaps) (args : ShardArgs) (text : List ℕ) (outcome : Outcome) : Type 0 where
   pub image : Image
+  pub given : Option (List Locator)
   pub answer : ShardAnswer
-  pub is_read : IsShardRead known maps args image answer
+  pub is_read : IsShardRead known maps args image given answer
   pub remarks : List SuperblockRemark
-  pub are_remarks : AreSuperblockRemarks image remarks
+  pub are_remarks : AreSaidFrom given image remarks
   pub written : IsWrittenFor answer (shard_lines remarks answer) text outcome
 
 -- that answer, and what the workers that were asked for took of the image
 pub record AreShardTakings (known : KnownRaw) (maps : KnownMaps) (args : ShardArgs) (text : List ℕ) (outcome : Outcome)
     (takings : TakingsValue) : Type 0 where
   pub image : Image
+  pub given : Option (List Locator)
   pub answer : ShardAnswer
-  pub is_read : IsShardRead known maps args image answer
+  pub is_read : IsShardRead known maps args image given answer
   pub remarks : List SuperblockRemark
-  pub are_remarks : AreSuperblockRemarks image remarks
+  pub are_remarks : AreSaidFrom given image remarks
   pub written : IsWrittenFor answer (shard_lines remarks answer) text outcome
-  pub taken : AreTakingsBy image args.scan.workers takings
+  pub taken : AreTakingsFrom given image args.scan.workers takings
 
 -- the shard that is named isn't there, or has a lost payload, and this is the fault for that
 pub record IsShardLost (known : KnownRaw) (maps : KnownMaps) (args : ShardArgs) (fault : Fault) : Type 0 where
   pub image : Image
+  pub given : Option (List Locator)
   pub answer : ShardAnswer
-  pub is_read : IsShardRead known maps args image answer
+  pub is_read : IsShardRead known maps args image given answer
   pub why : IsFaultFor answer fault
 
--- why no disk is loaded, though a shard is named
+-- why no disk is loaded that has the index runs which are given, though a shard is named
 abbrev pub IsFaultAfterId : KnownRaw → KnownMaps → ShardArgs → Fault → Type 0
 IsFaultAfterId known maps args fault =
-    (g : Sizes) × (id : ShardId) × IsNamed known maps args g id × IsDiskFault known maps args.scan.image g fault
+    (g : Sizes) × (id : ShardId) × IsNamed known maps args g id × IsRunsFault known maps args.scan.image args.runs.items g fault
 
 -- why no bytes are written: each fault only if none before it applies, or memory ran out, anywhere
 abbrev pub IsShardFault : KnownRaw → KnownMaps → ShardArgs → Fault → Type 0
 IsShardFault known maps args (Geometry fault) = IsGeometryFault known maps args.scan.image (Geometry fault)
 IsShardFault known maps args NoSizes = IsGeometryFault known maps args.scan.image NoSizes
+IsShardFault known maps args UncertainSizes = IsGeometryFault known maps args.scan.image UncertainSizes
 IsShardFault known maps args (BadShard text) =
     (g : Sizes) × IsGeometryOf known maps args.scan.image g × (text ≡ args.id) × IsNoIdText args.id.now
 IsShardFault known maps args NoShard = IsShardLost known maps args NoShard

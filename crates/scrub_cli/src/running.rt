@@ -9,8 +9,9 @@ use crate::commands::compare::compare;
 use crate::commands::demo::demo;
 use crate::commands::items::items;
 use crate::commands::manifest::manifest;
-use crate::commands::scan::{scan, superblocks};
+use crate::commands::scan::{on_disk, superblocks};
 use crate::commands::shard::shard;
+use crate::commands::shards::shards;
 use crate::commands::sizes::sizes;
 use crate::process::fault::Fault;
 use crate::process::images::Images;
@@ -39,10 +40,11 @@ fn answer<'a, R: Threads + Wait + Sync, I: Images>(
     match request {
         Request::Demo => Ok(demo(rt, alloc)?.0),
         Request::Items(args) => items(alloc, &args, images),
-        Request::Disk(wanted, args) => Ok(scan(rt, alloc, &args, images, &wanted)?.0),
+        Request::Disk(wanted, args) => on_disk(rt, alloc, &args, images, &wanted),
         Request::Manifest(args) => Ok(manifest(rt, alloc, &args, images)?.0),
         Request::Compare(args) => Ok(compare(rt, alloc, &args, images)?.0),
         Request::Shard(args) => Ok(shard(rt, alloc, &args, images)?.0),
+        Request::Shards(args) => Ok(shards(rt, alloc, &args, images)?.0),
         Request::Superblocks(args) => superblocks(alloc, &args, images),
         Request::Sizes(args) => sizes(alloc, &args, images),
     }
@@ -64,12 +66,12 @@ fn write_answer<O: Write, E: Write>(answer: &Answer, out: &mut O, err: &mut E) -
 }
 
 /// Runs the command that the arguments name; the program's name isn't one of them. The answer is written to
-/// `out` once all of it is in memory. Help, faults, and the lines of `shard`, `shards` and `manifest` are
-/// written to `err`, whose own failures are ignored.
+/// `out` once all of it is in memory. Help, faults, and the lines of `shard`, `shards`, `manifest` and `sizes`
+/// are written to `err`, whose own failures are ignored.
 ///
-/// The statuses: 0 clean, help or version; 1 findings, a shard that can't be had, or such lines; 2
-/// invalid arguments or map; 3 the map or the image can't be opened, the image is too long, or the output
-/// failed; 4 out of memory.
+/// The statuses: 0 clean, help or version; 1 findings, a shard that can't be had, or such lines; 2 invalid
+/// arguments or map, or an index run that isn't there; 3 the map or the image can't be opened, the image
+/// is too long, or the output failed; 4 out of memory.
 pub fn run<R: Threads + Wait + Sync, I: Images, O: Write, E: Write>(
     rt: &R,
     alloc: Global,

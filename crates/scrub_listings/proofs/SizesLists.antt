@@ -1,5 +1,5 @@
 -- Records and lost ranges in one list by ascending start, and the lines of raw bytes that it gives.
-use Rattle.std.proofs.Common.{◌≡◌, ◌≢◌, ◌<◌, ◌≤◌, ◌+◌, ◌-◌, ◌*◌, ◌/◌, ◌++◌, ℕ, zero, suc, Bool, true, false, List, [], ◌∷◌, length, slice_get, take, get_or, arith, refl, sym, ◌∙◌, ap, subst, inl, inr, Option, Some, None, MatchOption}
+use Rattle.std.proofs.Common.{◌≡◌, ◌≢◌, ◌<◌, ◌≤◌, ◌+◌, ◌-◌, ◌*◌, ◌/◌, ◌++◌, ℕ, zero, suc, Bool, true, false, List, [], ◌∷◌, length, slice_get, take, get_or, arith, refl, sym, ◌∙◌, ap, subst, inl, inr, Option, Some}
 use Rattle.std.specs.Prelude.{◌↔◌, IsTrue}
 use Rattle.std.specs.List.{All, AllPairs, Contains}
 use Rattle.std.proofs.lemmas.Bool.{cases_lt, false≢true}
@@ -16,8 +16,10 @@ use Rattle.scrub_super.proofs.BlocksFront.{left_at, left_there, mark_within}
 use Rattle.scrub_super.proofs.FoundByOwnSizes.{same_record}
 use Rattle.scrub_listings.specs.declared.sizes_listing.lines.SizesLine.{SizesLine}
 use Rattle.scrub_listings.specs.declared.sizes_listing.lines.SizesLine.TheVariants.{Record, Lost}
-use Rattle.scrub_listings.specs.Sizes.{line_start, size_lines, AreSizesBy, AreSizesInOrder, AreSizesLines, AreSizesOf, IsCleanFront, IsSizesListingOf}
-use Rattle.scrub_listings.specs.steps.Sizes.{CanMerge, AreInOrder, IsNextLine, record_count, AreCleanLists}
+use Rattle.scrub_listings.specs.declared.sizes_listing.SizesFound.{SizesFound}
+use Rattle.scrub_listings.specs.declared.sizes_listing.SizesFound.TheVariants.{Certain, Uncertain, NotFound}
+use Rattle.scrub_listings.specs.Sizes.{line_start, size_lines, IsFoundInFront, AreSizesInOrder, AreSizesLines, AreSizesOf, IsCleanFront, IsSizesListingOf, IsUncertainFront}
+use Rattle.scrub_listings.specs.steps.Sizes.{CanMerge, AreInOrder, AreSizesIn, IsNextLine, record_count, AreCleanLists, AreUncertainLists}
 
 -- ---- the merge
 
@@ -360,6 +362,28 @@ clean_front bytes lost records ranges h = (
   }),
 )
 
+-- In raw bytes there is a record, and something is lost, exactly if the lists of what was found in them say so.
+pub uncertain_front : (bytes : List ℕ) (lost : List Bool) (records : List FoundRecord) (ranges : List LostBytes) →
+    AreFoundByOwnSizes bytes lost records ranges →
+    AreUncertainLists records ranges ↔ IsUncertainFront bytes lost
+uncertain_front bytes lost records ranges h = (
+  (λ u. record {
+    some = let x = an_element records u.some in (x.0, (h.records_are.exact x.0).0 x.1);
+    something_lost =
+        let l = an_element ranges u.something_lost in
+        let run = (h.ranges_are.exact l.0).0 l.1 in
+        (run.0, run.2.all run.0 (omega arith) run.2.some);
+  }),
+  (λ u. record {
+    some = let there = (h.records_are.exact u.some.0).1 u.some.1 in omega (arith, there.1);
+    something_lost =
+        let run = run_of lost u.something_lost.0 u.something_lost.1 in
+        let l : LostBytes = record { from = run.0 * 512; to = run.1 * 512 } in
+        let there = (h.ranges_are.exact l).1 (run.0, run.1, run.2, refl, refl) in
+        omega (arith, there.1);
+  }),
+)
+
 -- The lines of all that was found, with whether it is clean, are a listing of sizes.
 pub listing_known : (raw : Option (List ℕ)) (lacking : List ℕ) {fails : ℕ → ℕ → Bool} (failures : ℕ) (records : List FoundRecord) (ranges : List LostBytes) (lines : List SizesLine) (text : List ℕ) (clean : Bool) →
     AreFoundInSome raw lacking fails failures records ranges →
@@ -386,25 +410,29 @@ listing_known raw lacking failures records ranges lines text clean some merged i
       };
     }
 
--- the sizes of all records in the bytes in which they were found
+-- what the lists say of the sizes is so of the bytes in which the records were found
 pub sizes_known : (raw : Option (List ℕ)) (lacking : List ℕ) {fails : ℕ → ℕ → Bool} (failures : ℕ) (records : List FoundRecord) (ranges : List LostBytes) →
-    AreFoundInSome raw lacking fails failures records ranges → (o : Option Geometry) →
-    MatchOption o (¬ AreCleanLists records ranges) (λ g. AreCleanLists records ranges × All (λ r. r.geometry ≡ g) records) →
-    AreSizesOf raw lacking fails failures o
-sizes_known raw lacking failures records ranges some o answer = record {
+    AreFoundInSome raw lacking fails failures records ranges → (said : SizesFound) → AreSizesIn records ranges said →
+    AreSizesOf raw lacking fails failures said
+sizes_known raw lacking failures records ranges some said answer = record {
   bytes = some.bytes;
   known = some.known;
   lost = some.found.lost;
   loses = some.found.loses;
-  sizes = by o answer;
+  sizes = by said answer;
 }
   where
-    by : (p : Option Geometry) →
-        MatchOption p (¬ AreCleanLists records ranges) (λ g. AreCleanLists records ranges × All (λ r. r.geometry ≡ g) records) →
-        MatchOption p (¬ IsCleanFront some.bytes some.found.lost) (AreSizesBy some.bytes some.found.lost)
-    by None none = λ clean. none ((clean_front some.bytes some.found.lost records ranges some.found.found).1 clean)
-    by (Some g) all = record {
-      clean = (clean_front some.bytes some.found.lost records ranges some.found.found).0 all.0;
+    clean_is : AreCleanLists records ranges ↔ IsCleanFront some.bytes some.found.lost
+    clean_is = clean_front some.bytes some.found.lost records ranges some.found.found
+
+    uncertain_is : AreUncertainLists records ranges ↔ IsUncertainFront some.bytes some.found.lost
+    uncertain_is = uncertain_front some.bytes some.found.lost records ranges some.found.found
+
+    by : (s : SizesFound) → AreSizesIn records ranges s → IsFoundInFront some.bytes some.found.lost s
+    by NotFound none = ((λ clean. none.0 (clean_is.1 clean)), (λ uncertain. none.1 (uncertain_is.1 uncertain)))
+    by Uncertain uncertain = uncertain_is.0 uncertain
+    by (Certain g) all = record {
+      clean = clean_is.0 all.0;
       each = λ r f.
           let c = (some.found.found.records_are.exact r).1 f in
           ap (λ (x : FoundRecord). x.geometry) (sym c.2) ∙ all.1 c.0 r c.1;
@@ -461,7 +489,7 @@ moved_record bytes others lost gone r same none nothing f =
 
 -- If raw bytes give sizes twice, these are the same, whatever may be lacking or fail each time.
 pub one_size_lem : (bytes lacking others : List ℕ) (fails faults : ℕ → ℕ → Bool) (failures more : ℕ) (g h : Geometry) →
-    AreSizesOf (Some bytes) lacking fails failures (Some g) → AreSizesOf (Some bytes) others faults more (Some h) → g ≡ h
+    AreSizesOf (Some bytes) lacking fails failures (Certain g) → AreSizesOf (Some bytes) others faults more (Certain h) → g ≡ h
 one_size_lem bytes lacking others fails faults failures more g h x y =
     let one = x.sizes.clean.some in
     sym (x.sizes.each one.0 one.1)

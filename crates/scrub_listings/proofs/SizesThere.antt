@@ -1,5 +1,5 @@
 -- There are lines of the records and the lost bytes of raw bytes, and it is decided whether they are clean.
-use Rattle.std.proofs.Common.{◌≡◌, ◌⊎◌, ◌<◌, ◌≤◌, ◌+◌, ◌-◌, ◌++◌, ℕ, zero, suc, Bool, true, false, List, [], ◌∷◌, length, get_or, All, arith, refl, sym, ◌∙◌, ap, subst, inl, inr, MatchOption, Option, None, Some}
+use Rattle.std.proofs.Common.{◌≡◌, ◌⊎◌, ◌<◌, ◌≤◌, ◌+◌, ◌-◌, ◌++◌, ℕ, zero, suc, Bool, true, false, List, [], ◌∷◌, length, get_or, All, arith, refl, sym, ◌∙◌, ap, subst, inl, inr, Option}
 use Rattle.std.specs.Prelude.{◌↔◌, IsTrue}
 use Rattle.std.proofs.lemmas.Bool.{cases_lt, false≢true}
 use Rattle.std.proofs.lemmas.List.{get_or_default}
@@ -13,7 +13,9 @@ use Rattle.scrub_super.proofs.SizesThere.{some_found, some_found_in}
 use Rattle.scrub_listings.specs.declared.sizes_listing.lines.SizesLine.{SizesLine}
 use Rattle.scrub_listings.specs.declared.sizes_listing.lines.SizesLine.TheVariants.{Record, Lost}
 use Rattle.scrub_listings.specs.Sizes.{AreSizesLines, AreSizesOf, IsCleanFront, IsSizesListingOf, size_lines}
-use Rattle.scrub_listings.specs.steps.Sizes.{AreCleanLists, AreInOrder, CanMerge, IsNextLine, record_count}
+use Rattle.scrub_listings.specs.declared.sizes_listing.SizesFound.{SizesFound}
+use Rattle.scrub_listings.specs.declared.sizes_listing.SizesFound.TheVariants.{Certain, Uncertain, NotFound}
+use Rattle.scrub_listings.specs.steps.Sizes.{AreCleanLists, AreInOrder, AreSizesIn, AreUncertainLists, CanMerge, IsNextLine, record_count}
 use Rattle.scrub_listings.proofs.SizesLists.{AreMerged, all_merged, can_merge, clean_front, counts_more, in_order, line_more, listing_known, none_merged, sizes_known}
 
 element_at : {X : Type 0} (xs : List X) (i : ℕ) → i < length xs → (x : X) × (x ≡ get_or xs i x)
@@ -154,17 +156,23 @@ module _ (records : List FoundRecord) (ranges : List LostBytes) where
             h.same_sizes (get_or records k d) (get_or records j e) (All-contains_itself records k d here) (All-contains_itself records j e there),
       ))
 
-  -- the sizes of all records, if they are clean, or else none
-  some_sizes : (o : Option Geometry) ×
-      MatchOption o (¬ AreCleanLists records ranges) (λ g. AreCleanLists records ranges × All (λ r. r.geometry ≡ g) records)
-  some_sizes = by decided_clean
+  decided_uncertain : Decided (AreUncertainLists records ranges)
+  decided_uncertain =
+      let both : Decided ((0 < length records) × (0 < length ranges)) =
+      decided_both (decided_less 0 (length records)) (decided_less 0 (length ranges)) in
+      decided_like both (λ h. record { some = h.0; something_lost = h.1 }) (λ h. (h.some, h.something_lost))
+
+  -- the sizes of all records if they are clean, or that they are uncertain, or neither
+  some_sizes : (sizes : SizesFound) × AreSizesIn records ranges sizes
+  some_sizes = by decided_clean decided_uncertain
     where
-      by : Decided (AreCleanLists records ranges) → (o : Option Geometry) ×
-          MatchOption o (¬ AreCleanLists records ranges) (λ g. AreCleanLists records ranges × All (λ r. r.geometry ≡ g) records)
-      by (inr odd) = (None, odd)
-      by (inl clean) =
+      by : Decided (AreCleanLists records ranges) → Decided (AreUncertainLists records ranges) →
+          (sizes : SizesFound) × AreSizesIn records ranges sizes
+      by (inr odd) (inl uncertain) = (Uncertain, uncertain)
+      by (inr odd) (inr no_doubt) = (NotFound, (odd, no_doubt))
+      by (inl clean) whether =
           let first = element_at records 0 clean.some in (
-            Some first.0.geometry,
+            Certain first.0.geometry,
             (
               clean,
               λ k d here.
@@ -207,9 +215,9 @@ some_sizes_listing raw lacking fails failures =
       listing_known raw lacking failures some.0 some.1 lines.0 (size_lines lines.0) clean.0 some.2 (λ can. lines.1) refl clean.1,
     )
 
--- For any raw image, lacking bytes and failures there are sizes, or it is right to give none.
+-- For any raw image, lacking bytes and failures the sizes are certain, uncertain or not found.
 pub some_sizes_of : (raw : Option (List ℕ)) (lacking : List ℕ) (fails : ℕ → ℕ → Bool) (failures : ℕ) →
-    (found : Option Geometry) × AreSizesOf raw lacking fails failures found
+    (found : SizesFound) × AreSizesOf raw lacking fails failures found
 some_sizes_of raw lacking fails failures =
     let some = some_found_in raw lacking fails failures in
     let sizes = some_sizes some.0 some.1 in

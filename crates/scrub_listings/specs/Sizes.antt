@@ -1,5 +1,5 @@
 -- The lines of the superblock records in raw bytes, of any sizes, and of the lost bytes.
-use Rattle.std.specs.Prelude.{◌≡◌, ◌<◌, ◌↔◌, ◌++◌, ◌∷◌, [], ℕ, List, Bool, AllPairs, Contains, IfSome, IsTrue, MatchOption, Option, codes}
+use Rattle.std.specs.Prelude.{◌≡◌, ◌<◌, ◌↔◌, ◌++◌, ◌∷◌, [], ℕ, List, Bool, AllPairs, Contains, IfSome, IsTrue, Option, codes}
 use Rattle.std.specs.Fmt.{decimal}
 use Rattle.std.specs.List.{flat_map}
 use Rattle.scrub_disk.specs.declared.geometry.Geometry.{Geometry}
@@ -11,6 +11,8 @@ use Rattle.scrub_super.specs.Blocks.{byte_left, IsMarked, LosesBlocks}
 use Rattle.scrub_super.specs.UnknownSizes.{IsFoundRecord, AreLostBytes}
 use Rattle.scrub_listings.specs.declared.sizes_listing.lines.SizesLine.{SizesLine}
 use Rattle.scrub_listings.specs.declared.sizes_listing.lines.SizesLine.TheVariants.{Record, Lost}
+use Rattle.scrub_listings.specs.declared.sizes_listing.SizesFound.{SizesFound}
+use Rattle.scrub_listings.specs.declared.sizes_listing.SizesFound.TheVariants.{Certain, Uncertain, NotFound}
 
 -- the text of a record: `OFFSET KIND GENERATION PAGE PAGES EXTENTS`
 abbrev pub record_text : FoundRecord → List ℕ
@@ -74,11 +76,23 @@ pub record AreSizesBy (bytes : List ℕ) (lost : List Bool) (g : Geometry) : Typ
   pub clean : IsCleanFront bytes lost
   pub each : (r : FoundRecord) → IsFoundRecord (byte_left bytes lost) r → r.geometry ≡ g
 
--- the sizes of a disk by some bytes, as above, and for some lost blocks that fit these first lacking bytes, the reads that
--- may fail, and this many failures; or None if there is no record, not all have the same sizes, or something is lost
-pub record AreSizesOf (raw : Option (List ℕ)) (lacking : List ℕ) (fails : ℕ → ℕ → Bool) (failures : ℕ) (found : Option Geometry) : Type 0 where
+-- the sizes of a disk aren't certain, by raw bytes with these lost blocks: there is a record, but something is lost
+pub record IsUncertainFront (bytes : List ℕ) (lost : List Bool) : Type 0 where
+  pub some : (r : FoundRecord) × IsFoundRecord (byte_left bytes lost) r
+  pub something_lost : (n : ℕ) × IsMarked lost n
+
+-- whether the sizes of a disk are certain, uncertain, or neither: not found, since there is no record, or since nothing is lost and
+-- not all records have the same sizes
+abbrev pub IsFoundInFront : List ℕ → List Bool → SizesFound → Type 0
+IsFoundInFront bytes lost (Certain g) = AreSizesBy bytes lost g
+IsFoundInFront bytes lost Uncertain = IsUncertainFront bytes lost
+IsFoundInFront bytes lost NotFound = ¬ IsCleanFront bytes lost × ¬ IsUncertainFront bytes lost
+
+-- what is found of the sizes of a disk by some bytes: those of the raw image if they are known, or else any; for some lost blocks
+-- that fit these first lacking bytes, the reads that may fail, and this many failures
+pub record AreSizesOf (raw : Option (List ℕ)) (lacking : List ℕ) (fails : ℕ → ℕ → Bool) (failures : ℕ) (found : SizesFound) : Type 0 where
   pub bytes : List ℕ
   pub known : IfSome raw (λ all. bytes ≡ all)
   pub lost : List Bool
   pub loses : LosesBlocks bytes lacking fails failures lost
-  pub sizes : MatchOption found (¬ IsCleanFront bytes lost) (AreSizesBy bytes lost)
+  pub sizes : IsFoundInFront bytes lost found

@@ -18,7 +18,7 @@ pub use remarks::{
     SuperblockRemark, each_image_has_remarks, one_list_of_remarks, superblock_remarks,
 };
 pub use sizes_listing::{
-    each_front_has_a_sizes_listing, find_sizes, list_sizes, one_size, one_sizes_listing,
+    SizesFound, each_front_has_a_sizes_listing, find_sizes, list_sizes, one_size, one_sizes_listing,
 };
 pub use summary::{each_image_has_a_summary, list_summary, one_summary};
 pub use superblocks::{

@@ -1,11 +1,13 @@
 //! The superblock records of a raw image of any sizes, and what is lost of it, as lines.
 
 ghost use Rattle.std.specs.Prelude.{◌≡◌, ◌+◌, ◌-◌, ◌<◌, ◌≤◌, ◌↔◌, ◌^◌, ℕ, All, List, Bool, IfOk, IsTrue};
-ghost use Rattle.std.specs.Prelude.{MatchOption, Option, Some};
+ghost use Rattle.std.specs.Prelude.{Option, Some};
 ghost use Rattle.scrub_disk.specs.Limits.{max_extent_bytes};
+ghost use Rattle.scrub_listings.specs.declared.sizes_listing.SizesFound.{SizesFound};
+ghost use Rattle.scrub_listings.specs.declared.sizes_listing.SizesFound.TheVariants.{Certain};
 ghost use Rattle.scrub_listings.specs.Sizes.{AreSizesLines, AreSizesOf, IsCleanFront, IsSizesListingOf};
 ghost use Rattle.scrub_disk.specs.declared.geometry.Geometry.{Geometry};
-ghost use Rattle.scrub_listings.specs.steps.Sizes.{AreCleanLists};
+ghost use Rattle.scrub_listings.specs.steps.Sizes.{AreCleanLists, AreSizesIn, AreUncertainLists};
 
 mod lines;
 
@@ -14,6 +16,17 @@ use crate::sizes_listing::lines::{lines_in_order, lines_text};
 use scrub_disk::{Geometry, OutOfMemory, RawImage};
 use scrub_super::{FoundRecord, FoundSuperblocks, find_superblocks};
 use std::alloc::Global;
+
+/// What the superblock records in the front of a raw image say of the sizes of its disk.
+#[derive(Debug, Clone, Copy, PartialEq, Eq)]
+pub enum SizesFound {
+    /// All records have these sizes, and nothing is lost.
+    Certain(Geometry),
+    /// There is a record, but something is lost.
+    Uncertain,
+    /// There is no record, or nothing is lost and not all records have the same sizes.
+    NotFound,
+}
 
 /// Whether each record has these sizes.
 fn have_sizes(records: &[FoundRecord], geometry: Geometry) -> bool
@@ -37,27 +50,35 @@ fn is_clean(found: &FoundSuperblocks) -> bool
     have_sizes(&found.records, found.records[0].geometry)
 }
 
-/// The sizes that all records have, if there is a record and nothing is lost.
-fn sizes_in(found: &FoundSuperblocks) -> Option<Geometry>
-    ensures { MatchOption result (¬ AreCleanLists found.now.records.items found.now.lost.items) (λ g.
-        AreCleanLists found.now.records.items found.now.lost.items ×
-        All (λ r. r.geometry ≡ g) found.now.records.items) }
+/// Whether there is a record, and something is lost.
+fn is_uncertain(found: &FoundSuperblocks) -> bool
+    ensures { IsTrue result ↔ AreUncertainLists found.now.records.items found.now.lost.items }
 {
-    if !is_clean(found) {
-        return None;
+    !found.records.is_empty() && !found.lost.is_empty()
+}
+
+/// What the records say of the sizes.
+fn sizes_in(found: &FoundSuperblocks) -> SizesFound
+    ensures { AreSizesIn found.now.records.items found.now.lost.items result }
+{
+    if is_clean(found) {
+        SizesFound::Certain(found.records[0].geometry)
+    } else if is_uncertain(found) {
+        SizesFound::Uncertain
+    } else {
+        SizesFound::NotFound
     }
-    Some(found.records[0].geometry)
 }
 
 /// Finds the sizes of the disk in a raw image: those that all superblock records in its first 67,108,864
-/// bytes have. None if there is no record, if not all have the same sizes, or if something is lost there.
-/// `find_superblocks` reads the image, whose blocks lack what `lacking` says, as for `list_sizes`. The only
-/// fault is `OutOfMemory`.
+/// bytes have. They are uncertain if there is a record, but something is lost there, and not found if there
+/// is no record, or if nothing is lost and not all records have the same sizes. `find_superblocks` reads the
+/// image, whose blocks lack what `lacking` says, as for `list_sizes`. The only fault is `OutOfMemory`.
 pub fn find_sizes<R: RawImage>(
     alloc: Global,
     raw: &mut R,
     lacking: &[u32],
-) -> Result<Option<Geometry>, OutOfMemory>
+) -> Result<SizesFound, OutOfMemory>
     requires few_reads { R.reads raw.old < 2 ^ 62 }
     ensures sizes { IfOk result
         (AreSizesOf (R.bytes raw.old) lacking.now (R.fails raw.old)
@@ -76,8 +97,8 @@ pub fn find_sizes<R: RawImage>(
 pub fn one_size()
     ensures { (bytes lacking others : List ℕ) (fails faults : ℕ → ℕ → Bool) (failures more : ℕ)
         (g h : Geometry) →
-        AreSizesOf (Some bytes) lacking fails failures (Some g) →
-        AreSizesOf (Some bytes) others faults more (Some h) →
+        AreSizesOf (Some bytes) lacking fails failures (Certain g) →
+        AreSizesOf (Some bytes) others faults more (Certain h) →
         g ≡ h }
 {}
 
@@ -120,8 +141,8 @@ pub fn one_sizes_listing()
 {}
 
 /// A law: for given bytes and lost blocks there is a listing, and with `one_sizes_listing` exactly one. It is
-/// decided whether it is clean. So raw bytes have a listing, and their sizes or none, whatever blocks lack
-/// and whichever reads fail.
+/// decided whether it is clean. So raw bytes have a listing, and it is known whether their sizes are certain,
+/// uncertain or not found, whatever blocks lack and whichever reads fail.
 pub fn each_front_has_a_sizes_listing()
     ensures text { (bytes : List ℕ) (lost : List Bool) → (text : List ℕ) × AreSizesLines bytes lost text }
     ensures clean { (bytes : List ℕ) (lost : List Bool) →
@@ -129,5 +150,5 @@ pub fn each_front_has_a_sizes_listing()
     ensures listing { (raw : Option (List ℕ)) (lacking : List ℕ) (fails : ℕ → ℕ → Bool) (failures : ℕ) →
         (text : List ℕ) × (clean : Bool) × IsSizesListingOf raw lacking fails failures text clean }
     ensures sizes { (raw : Option (List ℕ)) (lacking : List ℕ) (fails : ℕ → ℕ → Bool) (failures : ℕ) →
-        (found : Option Geometry) × AreSizesOf raw lacking fails failures found }
+        (found : SizesFound) × AreSizesOf raw lacking fails failures found }
 {}

@@ -1,7 +1,7 @@
 //! The answer of a command: its text and its outcome, for one extent, a whole disk or a raw image. For
 //! loading the disk see `disk_image`, and for writing the answer `running`.
 
-ghost use Rattle.std.specs.Prelude.{◌≡◌, ◌≤◌, ◌<◌, ◌^◌, IfOk};
+ghost use Rattle.std.specs.Prelude.{◌≡◌, ◌≤◌, ◌<◌, ◌^◌, IfOk, true};
 ghost use Rattle.std.specs.List.{list_all};
 ghost use Rattle.std.specs.List.Sorted.{IsStrictlyIncreasing};
 ghost use Rattle.scrub_found.specs.Takings.{AreTakingsBy};
@@ -10,12 +10,11 @@ ghost use Rattle.scrub_cli.specs.Answer.{IsVersionAnswer};
 ghost use Rattle.scrub_cli.specs.Lines.{lines_of};
 ghost use Rattle.scrub_cli.specs.Outcome.{outcome_of};
 ghost use Rattle.scrub_cli.specs.Manifest.{IsManifestListed};
-ghost use Rattle.scrub_cli.specs.Scan.{IsDiskAnswer, acceptance};
-ghost use Rattle.scrub_cli.specs.SizesListed.{AreSizesListed};
+ghost use Rattle.scrub_cli.specs.Scan.{IsDiskAnswer, acceptance, is_scanned};
+ghost use Rattle.scrub_cli.specs.SizesListed.{AreSizesListed, no_record_line};
 ghost use Rattle.scrub_cli.specs.Superblock.{AreSuperblocksListed};
 
 use crate::commands::remarks::superblock_lines;
-use crate::commands::shards::shards;
 use crate::process::outcome::Outcome;
 use scrub_args::{AcceptedDoubts, VERSION, Wanted};
 use scrub_disk::{OutOfMemory, PageSource, RawImage};
@@ -89,6 +88,19 @@ pub fn superblock_listing<D: PageSource>(alloc: Global, disk: &D) -> Result<Answ
     Ok(Answer::new(listing.text, listing.is_clean))
 }
 
+/// The line of the error stream for a listing of records without lines; none for another one.
+fn no_record_line(alloc: Global, text: &[u8]) -> Result<Vec<u8>, OutOfMemory>
+    ensures { IfOk result (λ lines. lines.items ≡ no_record_line text.now) }
+{
+    if !text.is_empty() {
+        return Ok(Vec::new(alloc));
+    }
+    Vec::from_slice(
+        alloc,
+        b"shardscrub: no superblock record in the first 64 MiB\n",
+    )
+}
+
 /// The lines of the superblock records of a raw image, whose blocks lack what `lacking` says.
 pub fn sizes_listing<R: RawImage>(
     alloc: Global,
@@ -101,7 +113,11 @@ pub fn sizes_listing<R: RawImage>(
         lacking.now a.text.items a.outcome) }
 {
     let listing = list_sizes(alloc, raw, lacking)?;
-    Ok(Answer::new(listing.text, listing.is_clean))
+    let lines = no_record_line(alloc, &listing.text)?;
+    Ok(Answer {
+        text: listing.text,
+        outcome: Outcome::warned(lines, listing.is_clean),
+    })
 }
 
 /// The doubts that the arguments accept, for a list of what may be reclaimed.
@@ -111,9 +127,9 @@ fn acceptance<'v, 'a>(accepted: &'v AcceptedDoubts<'a>, last: Option<u64>) -> Ac
     Acceptance::new(&accepted.texts, last)
 }
 
-/// What is wanted of a disk, with its status, and the extents that each worker took. This many workers scan
-/// the disk beside the caller. The takings are for contracts alone: they show how many workers there were,
-/// and that each extent was scanned once.
+/// What is wanted of a disk, if that takes a scan, with its status, and the extents that each worker took.
+/// This many workers scan the disk beside the caller. The takings are for contracts alone: they show how
+/// many workers there were, and that each extent was scanned once.
 pub fn disk_answer<R: Threads + Wait + Sync, D: PageSource>(
     rt: &R,
     alloc: Global,
@@ -121,7 +137,8 @@ pub fn disk_answer<R: Threads + Wait + Sync, D: PageSource>(
     workers: u32,
     wanted: &Wanted<'_>,
 ) -> Result<(Answer, Takings), ScrubFault>
-    requires { workers ≤ 64 }
+    requires workers { workers ≤ 64 }
+    requires scanned { is_scanned wanted.now ≡ true }
     ensures answer { IfOk result
         (λ r. IsDiskAnswer wanted.now (D.image disk.now) r.0.text.items r.0.outcome) }
     ensures takings { IfOk result (λ r. AreTakingsBy (D.image disk.now) workers r.1) }
@@ -141,7 +158,7 @@ pub fn disk_answer<R: Threads + Wait + Sync, D: PageSource>(
             let (listing, takings) = list_locators(rt, alloc, disk, workers, &NoGate)?;
             Ok((Answer::new(listing.text, listing.is_clean), takings))
         }
-        Wanted::Shards => shards(rt, alloc, disk, workers),
+        Wanted::Runs => unreachable!(),
         Wanted::Summary(last) => {
             let (summary, takings) = list_summary(rt, alloc, disk, workers, &NoGate, *last)?;
             Ok((Answer::new(summary.text, summary.is_clean), takings))
@@ -161,8 +178,8 @@ pub fn disk_answer<R: Threads + Wait + Sync, D: PageSource>(
     }
 }
 
-/// The manifest of a disk, as if these extents, which rise, had been reset, with its status, and the extents
-/// that each worker took. The workers and the takings are as for `disk_answer`.
+/// The manifest of a disk, as if these extents, which rise, had been reset, with its status, and the
+/// extents that each worker took. The workers and the takings are as for `disk_answer`.
 pub fn manifest_listing<R: Threads + Wait + Sync, D: PageSource>(
     rt: &R,
     alloc: Global,

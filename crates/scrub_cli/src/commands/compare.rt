@@ -1,7 +1,7 @@
 //! The command `compare`: whether what was written to a disk between two images lost anything, and extents
 //! may be reset.
 
-ghost use Rattle.std.specs.Prelude.{◌≡◌, ◌≤◌, IfOk, MatchResult};
+ghost use Rattle.std.specs.Prelude.{◌≡◌, ◌≤◌, [], IfOk, MatchResult};
 ghost use Rattle.std.specs.List.Sorted.{IsStrictlyIncreasing};
 ghost use Rattle.scrub_disk.specs.Parted.{image_of};
 ghost use Rattle.scrub_found.specs.Takings.{AreTakingsBy};
@@ -61,6 +61,7 @@ pub fn compare<'a, R: Threads + Wait + Sync, I: Images>(
 ) -> Result<(Answer, Takings, Takings), Fault<'a>>
     requires workers { args.now.before.scan.workers ≤ 64 }
     requires rising { IsStrictlyIncreasing args.now.before.resets.items }
+    requires no_runs { args.now.before.runs.items ≡ [] }
     ensures answer { MatchResult result
         (λ r. IsCompareAnswer (I.known images.old) (I.known_map images.old) args.now
         r.0.text.items r.0.outcome)

@@ -1,8 +1,9 @@
 //! The sizes of a disk: those that the arguments give, or else those that its superblock records have.
 
 ghost use Rattle.std.specs.Prelude.{◌≡◌, ◌+◌, ◌<◌, ◌≤◌, ◌^◌, IfOk, IfSome, MatchOption, MatchResult};
-ghost use Rattle.std.specs.Prelude.{None, Some};
+ghost use Rattle.std.specs.Prelude.{None};
 ghost use Rattle.scrub_disk.specs.Limits.{max_extent_bytes};
+ghost use Rattle.scrub_listings.specs.declared.sizes_listing.SizesFound.TheVariants.{Certain};
 ghost use Rattle.scrub_cli.specs.DiskGeometry.{AreSizesFound, AreSizesRead, IsFoundFault, IsGeometryFault};
 ghost use Rattle.scrub_cli.specs.DiskGeometry.{AreSizesFoundBy, IsGeometryOf};
 ghost use Rattle.scrub_cli.specs.KnownFiles.{IsKnownAs};
@@ -14,16 +15,16 @@ use crate::process::fault::Fault;
 use crate::process::images::Images;
 use scrub_args::ImageArgs;
 use scrub_disk::{Geometry, OutOfMemory, RawImage};
-use scrub_listings::find_sizes;
+use scrub_listings::{SizesFound, find_sizes};
 use std::alloc::Global;
 
-/// The sizes that all superblock records in the front of a raw image have, whose blocks lack what `lacking`
+/// What the superblock records in the front of a raw image say of the sizes, whose blocks lack what `lacking`
 /// says.
 fn sizes_of<R: RawImage>(
     alloc: Global,
     raw: &mut R,
     lacking: &[u32],
-) -> Result<Option<Geometry>, OutOfMemory>
+) -> Result<SizesFound, OutOfMemory>
     requires { R.reads raw.old < 2 ^ 62 }
     ensures sizes { IfOk result (AreSizesRead
         (record { bytes = R.bytes raw.old; fails = R.fails raw.old; most_failures = R.most_failures raw.old })
@@ -38,7 +39,8 @@ fn sizes_of<R: RawImage>(
 
 /// The sizes that all superblock records in the front of the image of this name have, without the blocks that
 /// the map lacks, and what was opened to find them. Faults, in this order: a map that can't be opened, its
-/// first line that breaks the rules, an image that can't be opened, and that no sizes are found.
+/// first line that breaks the rules, an image that can't be opened, and sizes that aren't found or aren't
+/// certain.
 fn found_geometry<'a, I: Images>(
     alloc: Global,
     map: Option<&'a str>,
@@ -46,7 +48,7 @@ fn found_geometry<'a, I: Images>(
     images: &mut I,
 ) -> Result<(Geometry, Opened<I::Image>), Fault<'a>>
     ensures geometry { MatchResult result
-        (λ r. AreSizesFound (I.known images.old name.entry.now) (I.known_map images.old) map.entry (Some r.0))
+        (λ r. AreSizesFound (I.known images.old name.entry.now) (I.known_map images.old) map.entry (Certain r.0))
         (IsFoundFault (I.known images.old name.entry.now) (I.known_map images.old) map.entry name.entry) }
     ensures map { IfOk result (λ r. IsMapNamed (I.known_map images.new) map.entry r.1.map) }
     ensures raw { IfOk result (λ r.
@@ -59,8 +61,9 @@ fn found_geometry<'a, I: Images>(
     let mut opened = open(alloc, map, name, images)?;
     let lacking = first_lacking(alloc, &opened.map)?;
     match sizes_of(alloc, &mut opened.raw, &lacking)? {
-        Some(geometry) => Ok((geometry, opened)),
-        None => Err(Fault::NoSizes),
+        SizesFound::Certain(geometry) => Ok((geometry, opened)),
+        SizesFound::Uncertain => Err(Fault::UncertainSizes),
+        SizesFound::NotFound => Err(Fault::NoSizes),
     }
 }
 

@@ -1,24 +1,30 @@
-//! The command `manifest`: what a disk in an image file holds, as if some of its extents had been reset.
+//! The command `manifest`: what a disk in an image file holds, as if some of its extents had been reset,
+//! or by index runs that are given.
 
-ghost use Rattle.std.specs.Prelude.{◌≡◌, ◌≤◌, IfOk, MatchResult};
+ghost use Rattle.std.specs.Prelude.{◌≡◌, ◌≤◌, IfOk, IfSome, MatchResult, option_map};
 ghost use Rattle.std.specs.List.Sorted.{IsStrictlyIncreasing};
+ghost use Rattle.scrub_super.specs.steps.Limits.{AreRunLocators};
+ghost use Rattle.scrub_found.specs.Takings.{AreTakingsFrom};
 ghost use Rattle.scrub_cli.specs.Manifest.{AreManifestTakings, IsManifestAnswer, IsManifestFault};
-ghost use Rattle.scrub_cli.specs.Manifest.{may_all_be_reset};
+ghost use Rattle.scrub_cli.specs.Manifest.{IsManifestOf, may_all_be_reset};
 
 use crate::commands::answer::{Answer, manifest_listing};
-use crate::commands::disk_image::load_disk;
 use crate::commands::geometry::geometry_of;
+use crate::commands::given_runs::load_with_runs;
 use crate::process::fault::Fault;
 use crate::process::images::Images;
 use scrub_args::ManifestArgs;
-use scrub_disk::Geometry;
-use scrub_pool::Takings;
+use scrub_disk::{Geometry, PageSource};
+use scrub_found::ScrubFault;
+use scrub_frame::Locator;
+use scrub_listings::list_manifest_by_runs;
+use scrub_pool::{NoGate, Takings};
 use std::alloc::Global;
 use std::sync::Wait;
 use std::thread::Threads;
 
-/// Whether a disk of these sizes has each of these extents, and extent 0, which has the superblocks, is none
-/// of them.
+/// Whether a disk of these sizes has each of these extents, and extent 0, which has the superblocks, is
+/// none of them.
 pub fn may_all_be_reset(geometry: Geometry, extents: &[u32]) -> bool
     ensures { result ≡ may_all_be_reset geometry extents.now }
 {
@@ -27,8 +33,36 @@ pub fn may_all_be_reset(geometry: Geometry, extents: &[u32]) -> bool
         .all(|extent| 0 < *extent && *extent < geometry.extents)
 }
 
-/// The manifest of the disk that the arguments name, as if the extents that they give had been reset, and the
-/// extents that each worker took. Faults are checked in the order of `Fault`.
+/// The manifest of a disk by the index runs that are given, or else by the superblock that counts, as if
+/// these extents, which rise, had been reset; with its status, and the extents that each worker took. The
+/// workers and the takings are as for `disk_answer`.
+fn manifest_by<R: Threads + Wait + Sync, D: PageSource>(
+    rt: &R,
+    alloc: Global,
+    disk: &D,
+    workers: u32,
+    given: &Option<Vec<Locator>>,
+    resets: &[u32],
+) -> Result<(Answer, Takings), ScrubFault>
+    requires workers { workers ≤ 64 }
+    requires located { IfSome given.now (λ runs. AreRunLocators runs.items) }
+    requires rising { IsStrictlyIncreasing resets.now }
+    ensures answer { IfOk result (λ r.
+        IsManifestOf (option_map (λ runs. runs.items) given.now) resets.now (D.image disk.now)
+        r.0.text.items r.0.outcome) }
+    ensures takings { IfOk result (λ r.
+        AreTakingsFrom (option_map (λ runs. runs.items) given.now) (D.image disk.now) workers r.1) }
+{
+    let Some(runs) = given else {
+        return manifest_listing(rt, alloc, disk, workers, resets);
+    };
+    let (listing, takings) = list_manifest_by_runs(rt, alloc, disk, workers, &NoGate, runs)?;
+    Ok((Answer::new(listing.text, listing.is_clean), takings))
+}
+
+/// The manifest of the disk that the arguments name, by the index runs that they give, or as if the
+/// extents that they give had been reset, and the extents that each worker took. Faults are checked in the
+/// order of `Fault`.
 pub fn manifest<'a, R: Threads + Wait + Sync, I: Images>(
     rt: &R,
     alloc: Global,
@@ -51,6 +85,7 @@ pub fn manifest<'a, R: Threads + Wait + Sync, I: Images>(
     if !may_all_be_reset(geometry, &args.resets) {
         return Err(Fault::Extent);
     }
-    let disk = load_disk(rt, alloc, geometry, image, opened, images)?;
-    Ok(manifest_listing(rt, alloc, &disk, args.scan.workers, &args.resets)?)
+    let (disk, given) = load_with_runs(rt, alloc, geometry, image, &args.runs, opened, images)?;
+    let workers = args.scan.workers;
+    Ok(manifest_by(rt, alloc, &disk, workers, &given, &args.resets)?)
 }

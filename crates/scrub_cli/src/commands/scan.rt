@@ -1,11 +1,13 @@
-//! The commands on a whole disk in an image file: `scan`, `index`, `locators`, `shards`, `summary` and
-//! `reclaimable`, which scan it, and `superblocks`, which reads its extent 0. For `manifest` see `manifest`.
+//! The commands on a whole disk in an image file: `scan`, `index`, `locators`, `summary` and
+//! `reclaimable`, which scan it, `runs`, which looks for index runs, and `superblocks`, which reads its
+//! extent 0. For `shards` see `shards`, and for `manifest` see `manifest`.
 
-ghost use Rattle.std.specs.Prelude.{◌≤◌, IfOk, MatchResult};
+ghost use Rattle.std.specs.Prelude.{◌≡◌, ◌≤◌, IfOk, MatchResult, true};
 ghost use Rattle.scrub_disk.specs.Parted.{image_of};
 ghost use Rattle.scrub_disk.specs.OneExtent.{image_of as image_of_extent};
+ghost use Rattle.scrub_args.specs.declared.args.Wanted.TheVariants.{Runs};
 ghost use Rattle.scrub_cli.specs.DiskExtent.{IsExtentOfDisk};
-ghost use Rattle.scrub_cli.specs.Scan.{AreTakingsOf, IsDiskOf, IsScanAnswer, IsScanFault};
+ghost use Rattle.scrub_cli.specs.Scan.{AreTakingsOf, IsDiskOf, IsScanAnswer, IsScanFault, is_scanned};
 ghost use Rattle.scrub_cli.specs.Superblock.{IsSuperblocksAnswer};
 
 use crate::commands::answer::{Answer, disk_answer, superblock_listing};
@@ -16,6 +18,7 @@ use crate::process::fault::Fault;
 use crate::process::images::Images;
 use scrub_args::{ImageArgs, ScanArgs, Wanted};
 use scrub_disk::{OneExtent, PartedDisk};
+use scrub_listings::list_runs;
 use scrub_pool::Takings;
 use std::alloc::Global;
 use std::sync::Wait;
@@ -38,16 +41,17 @@ fn disk_of<'a, R: Threads + Sync, I: Images>(
     load_disk(rt, alloc, geometry, args, opened, images)
 }
 
-/// What is wanted of the disk that the arguments name, and the extents that each worker took. Faults are
-/// checked in the order of `Fault`.
-pub fn scan<'a, R: Threads + Wait + Sync, I: Images>(
+/// What is wanted of the disk that the arguments name, if that takes a scan, and the extents that each
+/// worker took. Faults are checked in the order of `Fault`.
+fn scan<'a, R: Threads + Wait + Sync, I: Images>(
     rt: &R,
     alloc: Global,
     args: &ScanArgs<'a>,
     images: &mut I,
     wanted: &Wanted<'_>,
 ) -> Result<(Answer, Takings), Fault<'a>>
-    requires { args.now.workers ≤ 64 }
+    requires workers { args.now.workers ≤ 64 }
+    requires scanned { is_scanned wanted.now ≡ true }
     ensures answer { MatchResult result
         (λ r. IsScanAnswer wanted.now (I.known images.old args.now.image.name.now) (I.known_map images.old)
         args.now.image r.0.text.items r.0.outcome)
@@ -58,6 +62,57 @@ pub fn scan<'a, R: Threads + Wait + Sync, I: Images>(
 {
     let disk = disk_of(rt, alloc, &args.image, images)?;
     Ok(disk_answer(rt, alloc, &disk, args.workers, wanted)?)
+}
+
+/// The index runs of the disk that the arguments name. Faults are checked in the order of `Fault`.
+fn runs<'a, R: Threads + Sync, I: Images>(
+    rt: &R,
+    alloc: Global,
+    args: &ScanArgs<'a>,
+    images: &mut I,
+) -> Result<Answer, Fault<'a>>
+    ensures { MatchResult result
+        (λ a. IsScanAnswer Runs (I.known images.old args.now.image.name.now) (I.known_map images.old)
+        args.now.image a.text.items a.outcome)
+        (IsScanFault (I.known images.old args.now.image.name.now) (I.known_map images.old) args.now.image) }
+{
+    let disk = disk_of(rt, alloc, &args.image, images)?;
+    let listing = list_runs(rt, alloc, &disk, args.workers)?;
+    Ok(Answer::new(listing.text, listing.is_clean))
+}
+
+/// Whether workers scan the disk for what is wanted.
+fn is_scanned(wanted: &Wanted<'_>) -> bool
+    ensures { result ≡ is_scanned wanted.now }
+{
+    match wanted {
+        Wanted::Runs => false,
+        Wanted::Report
+        | Wanted::Index
+        | Wanted::Locators
+        | Wanted::Summary(_)
+        | Wanted::Reclaimable(_, _) => true,
+    }
+}
+
+/// What is wanted of the disk that the arguments name. Faults are checked in the order of `Fault`.
+pub fn on_disk<'a, R: Threads + Wait + Sync, I: Images>(
+    rt: &R,
+    alloc: Global,
+    args: &ScanArgs<'a>,
+    images: &mut I,
+    wanted: &Wanted<'_>,
+) -> Result<Answer, Fault<'a>>
+    requires { args.now.workers ≤ 64 }
+    ensures { MatchResult result
+        (λ a. IsScanAnswer wanted.now (I.known images.old args.now.image.name.now) (I.known_map images.old)
+        args.now.image a.text.items a.outcome)
+        (IsScanFault (I.known images.old args.now.image.name.now) (I.known_map images.old) args.now.image) }
+{
+    if !is_scanned(wanted) {
+        return runs(rt, alloc, args, images);
+    }
+    Ok(scan(rt, alloc, args, images, wanted)?.0)
 }
 
 /// Extent 0 of the disk that the arguments name, with the sizes that they give, or else those that its

@@ -1,19 +1,26 @@
 //! The command `shards`: all shards of a disk as a tar archive, and the lines of the error stream.
 
-ghost use Rattle.std.specs.Prelude.{◌≡◌, ◌≤◌, ◌++◌, IfOk, OnOk, string_bytes};
-ghost use Rattle.scrub_args.specs.declared.args.Wanted.TheVariants.{Shards};
-ghost use Rattle.scrub_found.specs.Takings.{AreTakingsBy};
+ghost use Rattle.std.specs.Prelude.{◌≡◌, ◌≤◌, ◌++◌, IfOk, IfSome, MatchResult, OnOk, option_map, string_bytes};
+ghost use Rattle.scrub_super.specs.steps.Limits.{AreRunLocators};
+ghost use Rattle.scrub_found.specs.Takings.{AreTakingsFrom};
+ghost use Rattle.scrub_shard.specs.PartialArchive.{IsArchiveFrom};
 ghost use Rattle.scrub_cli.specs.Remarks.{remark_line, remark_lines};
-ghost use Rattle.scrub_cli.specs.Scan.{IsDiskAnswer};
+ghost use Rattle.scrub_cli.specs.Shards.{AreShardsTakings, IsArchived, IsShardsAnswer, IsShardsFault};
 
 use crate::commands::answer::Answer;
+use crate::commands::geometry::geometry_of;
+use crate::commands::given_runs::load_with_runs;
 use crate::commands::remarks::append_superblock_line;
+use crate::process::fault::Fault;
+use crate::process::images::Images;
 use crate::process::outcome::Outcome;
+use scrub_args::ShardsArgs;
 use scrub_disk::{OutOfMemory, PageSource};
 use scrub_found::ScrubFault;
 use scrub_found::texts::state_text;
+use scrub_frame::Locator;
 use scrub_pool::{NoGate, Takings};
-use scrub_shard::{Remark, read_shards};
+use scrub_shard::{Archive, Remark, read_shards, read_shards_by_runs};
 use std::alloc::Global;
 use std::fmt::Write;
 use std::sync::Wait;
@@ -52,20 +59,51 @@ fn append_lines(alloc: Global, lines: &mut String, remarks: &[Remark]) -> Result
     Ok(())
 }
 
-/// The archive of all shards of a disk, with its status, and the extents that each worker took. The workers
-/// and the takings are as for `disk_answer`.
-pub fn shards<R: Threads + Wait + Sync, D: PageSource>(
+/// The archive of all shards of a disk by the index runs that are given, or else by the superblock that
+/// counts, with the payloads of broken shards or without; and the extents that each worker took.
+fn archive_by<R: Threads + Wait + Sync, D: PageSource>(
     rt: &R,
     alloc: Global,
     disk: &D,
     workers: u32,
-) -> Result<(Answer, Takings), ScrubFault>
-    requires { workers ≤ 64 }
-    ensures answer { IfOk result
-        (λ r. IsDiskAnswer Shards (D.image disk.now) r.0.text.items r.0.outcome) }
-    ensures takings { IfOk result (λ r. AreTakingsBy (D.image disk.now) workers r.1) }
+    given: &Option<Vec<Locator>>,
+    is_partial: bool,
+) -> Result<(Archive, Takings), ScrubFault>
+    requires workers { workers ≤ 64 }
+    requires located { IfSome given.now (λ runs. AreRunLocators runs.items) }
+    ensures archive { IfOk result (λ r.
+        IsArchiveFrom (option_map (λ runs. runs.items) given.now) is_partial (D.image disk.now)
+        r.0.tar.items r.0.remarks.items) }
+    ensures takings { IfOk result (λ r.
+        AreTakingsFrom (option_map (λ runs. runs.items) given.now) (D.image disk.now) workers r.1) }
 {
-    let (archive, takings) = read_shards(rt, alloc, disk, workers, &NoGate, false)?;
+    match given {
+        Some(runs) => {
+            read_shards_by_runs(rt, alloc, disk, workers, &NoGate, runs, is_partial)
+        }
+        None => read_shards(rt, alloc, disk, workers, &NoGate, is_partial),
+    }
+}
+
+/// That archive, with its status and the lines beside it. The workers and the takings are as for
+/// `disk_answer`.
+fn archived<R: Threads + Wait + Sync, D: PageSource>(
+    rt: &R,
+    alloc: Global,
+    disk: &D,
+    workers: u32,
+    given: &Option<Vec<Locator>>,
+    is_partial: bool,
+) -> Result<(Answer, Takings), ScrubFault>
+    requires workers { workers ≤ 64 }
+    requires located { IfSome given.now (λ runs. AreRunLocators runs.items) }
+    ensures answer { IfOk result (λ r.
+        IsArchived (option_map (λ runs. runs.items) given.now) is_partial (D.image disk.now)
+        r.0.text.items r.0.outcome) }
+    ensures takings { IfOk result (λ r.
+        AreTakingsFrom (option_map (λ runs. runs.items) given.now) (D.image disk.now) workers r.1) }
+{
+    let (archive, takings) = archive_by(rt, alloc, disk, workers, given, is_partial)?;
     let mut lines = String::new(alloc);
     append_lines(alloc, &mut lines, &archive.remarks)?;
     let answer = Answer {
@@ -73,4 +111,28 @@ pub fn shards<R: Threads + Wait + Sync, D: PageSource>(
         outcome: Outcome::with_lines(lines.into_bytes()),
     };
     Ok((answer, takings))
+}
+
+/// All shards of the disk that the arguments name, as an archive, and the extents that each worker took.
+/// Faults are checked in the order of `Fault`.
+pub fn shards<'a, R: Threads + Wait + Sync, I: Images>(
+    rt: &R,
+    alloc: Global,
+    args: &ShardsArgs<'a>,
+    images: &mut I,
+) -> Result<(Answer, Takings), Fault<'a>>
+    requires { args.now.scan.workers ≤ 64 }
+    ensures answer { MatchResult result
+        (λ r. IsShardsAnswer (I.known images.old args.now.scan.image.name.now) (I.known_map images.old)
+        args.now r.0.text.items r.0.outcome)
+        (IsShardsFault (I.known images.old args.now.scan.image.name.now) (I.known_map images.old) args.now) }
+    ensures takings { IfOk result
+        (λ r. AreShardsTakings (I.known images.old args.now.scan.image.name.now) (I.known_map images.old)
+        args.now r.0.text.items r.0.outcome r.1) }
+{
+    let image = &args.scan.image;
+    let (geometry, opened) = geometry_of(alloc, image, images)?;
+    let (disk, given) = load_with_runs(rt, alloc, geometry, image, &args.runs, opened, images)?;
+    let workers = args.scan.workers;
+    Ok(archived(rt, alloc, &disk, workers, &given, args.is_partial)?)
 }

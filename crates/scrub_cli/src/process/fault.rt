@@ -28,15 +28,18 @@ pub enum Fault<'a> {
     Args(String),
     /// The sizes are refused; this is the first limit that they break.
     Geometry(GeometryFault),
-    /// No sizes are given, and the image has no superblock record, or not all have the same sizes, or
-    /// something is lost there.
+    /// No sizes are given, and the image has no superblock record, or not all have the same sizes.
     NoSizes,
+    /// No sizes are given, and the image has superblock records, but something is lost where they may be.
+    UncertainSizes,
     /// The disk has no such extent, or it is extent 0 and can't be reset.
     Extent,
     /// This argument isn't the identifier of a shard.
     BadShard(&'a str),
     /// The write pointer is past the end of the extent.
     Pointer,
+    /// This argument isn't `EXTENT:OFFSET`, the extent is extent 0, or the disk has no such place.
+    BadRun(&'a str),
     /// This argument isn't `EXTENT:PAGE`, or the disk has no such page.
     BadPage(&'a str),
     /// The map of this name can't be opened, or a read of it failed.
@@ -48,6 +51,8 @@ pub enum Fault<'a> {
     NoImage(&'a str),
     /// The image has a byte after the disk's last page.
     TooLong,
+    /// No index run is at the place that this argument names.
+    NoRun(&'a str),
     /// The shard map has no such shard.
     NoShard,
     /// The payload of this number, from 0 in the order of the shard's entry, is lost. It is the first such.
@@ -147,11 +152,14 @@ impl Fault<'_> {
             | Fault::Args(_)
             | Fault::Geometry(_)
             | Fault::NoSizes
+            | Fault::UncertainSizes
             | Fault::Extent
             | Fault::BadShard(_)
             | Fault::Pointer
+            | Fault::BadRun(_)
             | Fault::BadPage(_)
-            | Fault::MapLine(_) => 2,
+            | Fault::MapLine(_)
+            | Fault::NoRun(_) => 2,
             Fault::NoMap(_) | Fault::NoImage(_) | Fault::TooLong | Fault::Output { .. } => 3,
             Fault::OutOfMemory => 4,
         }
@@ -168,14 +176,21 @@ impl Fault<'_> {
             Fault::NotUtf8 => write_line(err, "a word is not UTF-8", ""),
             Fault::Geometry(fault) => write_line(err, "geometry refused: ", limit(*fault)),
             Fault::NoSizes => write_line(err, "sizes not found: run shardscrub sizes", ""),
+            Fault::UncertainSizes => write_line(
+                err,
+                "sizes not certain: records were found, but bytes of the first 64 MiB can't be read; ",
+                "give --page, --pages and --extents (shardscrub sizes lists them)",
+            ),
             Fault::Extent => write_line(err, "extent out of range", ""),
             Fault::BadShard(arg) => write_line(err, "shard refused: ", arg),
             Fault::Pointer => write_line(err, "pointer out of range", ""),
+            Fault::BadRun(arg) => write_line(err, "run refused: ", arg),
             Fault::BadPage(arg) => write_line(err, "bad page refused: ", arg),
             Fault::NoMap(name) => write_line(err, "map cannot be opened: ", name),
             Fault::MapLine(line) => write_number(err, "map refused: line ", *line as usize, ""),
             Fault::NoImage(name) => write_line(err, "image cannot be opened: ", name),
             Fault::TooLong => write_line(err, "image too long", ""),
+            Fault::NoRun(arg) => write_line(err, "run not found: ", arg),
             Fault::NoShard => write_line(err, "no such shard", ""),
             Fault::PayloadLost(number) => write_number(err, before_number(*number), *number, ""),
             Fault::Output { written } => write_number(

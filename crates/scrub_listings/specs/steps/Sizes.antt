@@ -1,9 +1,11 @@
 -- Steps of listing records and lost ranges: one list of both, and whether they are clean.
-use Rattle.std.specs.Prelude.{◌≡◌, ◌≢◌, ◌<◌, ◌≤◌, ◌↔◌, ℕ, List, [], AllPairs, Contains, length, slice_index_or}
+use Rattle.std.specs.Prelude.{◌≡◌, ◌≢◌, ◌<◌, ◌≤◌, ◌↔◌, ℕ, List, [], All, AllPairs, Contains, length, slice_index_or}
 use Rattle.scrub_super.specs.declared.unknown_sizes.FoundRecord.{FoundRecord}
 use Rattle.scrub_super.specs.declared.unknown_sizes.LostBytes.{LostBytes}
 use Rattle.scrub_listings.specs.declared.sizes_listing.lines.SizesLine.{SizesLine}
 use Rattle.scrub_listings.specs.declared.sizes_listing.lines.SizesLine.TheVariants.{Record, Lost}
+use Rattle.scrub_listings.specs.declared.sizes_listing.SizesFound.{SizesFound}
+use Rattle.scrub_listings.specs.declared.sizes_listing.SizesFound.TheVariants.{Certain, Uncertain, NotFound}
 use Rattle.scrub_listings.specs.Sizes.{line_start}
 
 -- both lists rise, and no record begins where a lost range does
@@ -35,3 +37,14 @@ pub record AreCleanLists (records : List FoundRecord) (ranges : List LostBytes) 
   pub some : 0 < length records
   pub same_sizes : (r s : FoundRecord) → Contains records r → Contains records s → r.geometry ≡ s.geometry
   pub nothing_lost : ranges ≡ []
+
+-- there is a record, and there is a lost range
+pub record AreUncertainLists (records : List FoundRecord) (ranges : List LostBytes) : Type 0 where
+  pub some : 0 < length records
+  pub something_lost : 0 < length ranges
+
+-- what the lists say of the sizes
+abbrev pub AreSizesIn : List FoundRecord → List LostBytes → SizesFound → Type 0
+AreSizesIn records ranges (Certain g) = AreCleanLists records ranges × All (λ r. r.geometry ≡ g) records
+AreSizesIn records ranges Uncertain = AreUncertainLists records ranges
+AreSizesIn records ranges NotFound = ¬ AreCleanLists records ranges × ¬ AreUncertainLists records ranges

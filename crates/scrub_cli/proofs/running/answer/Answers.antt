@@ -1,7 +1,7 @@
 -- The answer or the fault of a request is that of the arguments that ask for it.
 use Rattle.std.proofs.Common.{rules}
 use Rattle.scrub_args.specs.Args.{NameCommand, texts}
-use Rattle.scrub_args.specs.declared.args.Request.TheVariants.{Items, Disk, Manifest, Compare, Shard, Superblocks, Sizes}
+use Rattle.scrub_args.specs.declared.args.Request.TheVariants.{Items, Disk, Manifest, Compare, Shard, Shards, Superblocks, Sizes}
 use Rattle.std.proofs.lemmas.Result.{err_from_is_err_and}
 use Rattle.scrub_cli.proofs.RunAnswers.{answered, own_fault, request_answer}
 use Rattle.scrub_args.proofs.ArgsFound.{few_workers}
@@ -22,8 +22,8 @@ returns-in-Sizes g c =
     answered (g.I.Images.known c.args.images.now) (g.I.Images.known_map c.args.images.now) (texts c.args.args.now)
     (Sizes c.in-Sizes.args) c.sizes.result (rw (c.in-Some.is, c.in-Sizes.is) at c.in_ok-request.ensures) c.sizes.ensures
 
-pub scan-requires : goal.scan-requires
-scan-requires g c =
+pub on_disk-requires : goal.on_disk-requires
+on_disk-requires g c =
     let asked : NameCommand (texts c.args.args.now) (Disk c.in-Disk.wanted c.in-Disk.args) = rw (c.in-Some.is, c.in-Disk.is) at c.in_ok-request.ensures in
     (search rules, (search rules, few_workers asked.1.0 c.in-Disk.args.workers asked.1.3.workers))
 
@@ -31,14 +31,14 @@ pub manifest-requires : goal.manifest-requires
 manifest-requires g c =
     let asked : NameCommand (texts c.args.args.now) (Manifest c.in-Manifest.args) = rw (c.in-Some.is, c.in-Manifest.is) at c.in_ok-request.ensures in (
       search rules,
-      (search rules, (few_workers asked.1.0 c.in-Manifest.args.scan.workers asked.1.2.scan.workers, asked.1.2.resets.rising)),
+      (search rules, (few_workers asked.1.0 c.in-Manifest.args.scan.workers asked.1.2.disk.scan.workers, asked.1.2.disk.resets.rising)),
     )
 
 pub compare-requires : goal.compare-requires
 compare-requires g c =
     let asked : NameCommand (texts c.args.args.now) (Compare c.in-Compare.args) = rw (c.in-Some.is, c.in-Compare.is) at c.in_ok-request.ensures in (
       search rules,
-      (search rules, (few_workers asked.1.0 c.in-Compare.args.before.scan.workers asked.1.2.before.scan.workers, asked.1.2.before.resets.rising)),
+      (search rules, (few_workers asked.1.0 c.in-Compare.args.before.scan.workers asked.1.2.before.scan.workers, asked.1.2.before.resets.rising, asked.1.2.no_runs)),
     )
 
 pub shard-requires : goal.shard-requires
@@ -46,19 +46,15 @@ shard-requires g c =
     let asked : NameCommand (texts c.args.args.now) (Shard c.in-Shard.args) = rw (c.in-Some.is, c.in-Shard.is) at c.in_ok-request.ensures in
     (search rules, (search rules, few_workers asked.1.0 c.in-Shard.args.scan.workers asked.1.2.scan.workers))
 
-pub returns-in_ok-scan-in-Disk : goal.returns-in_ok-scan-in-Disk
-returns-in_ok-scan-in-Disk g c =
-    let asked : NameCommand (texts c.args.args.now) (Disk c.in-Disk.wanted c.in-Disk.args) = rw (c.in-Some.is, c.in-Disk.is) at c.in_ok-request.ensures in
-    request_answer (g.I.Images.known c.args.images.now) (g.I.Images.known_map c.args.images.now) (texts c.args.args.now) (Disk c.in-Disk.wanted c.in-Disk.args)
-    c.in_ok-scan-in-Disk.field-0.0.text.items c.in_ok-scan-in-Disk.field-0.0.outcome asked c.in_ok-scan-in-Disk.ensures.answer
+pub shards-requires : goal.shards-requires
+shards-requires g c =
+    let asked : NameCommand (texts c.args.args.now) (Shards c.in-Shards.args) = rw (c.in-Some.is, c.in-Shards.is) at c.in_ok-request.ensures in
+    (search rules, (search rules, few_workers asked.1.0 c.in-Shards.args.scan.workers asked.1.2.scan.workers))
 
-pub returns-in_err-scan-in-Disk : goal.returns-in_err-scan-in-Disk
-returns-in_err-scan-in-Disk g c =
-    let asked : NameCommand (texts c.args.args.now) (Disk c.in-Disk.wanted c.in-Disk.args) = rw (c.in-Some.is, c.in-Disk.is) at c.in_ok-request.ensures in
-    let p = err_from_is_err_and c.from_residual-in_err-scan-in-Disk.result c.from_residual-in_err-scan-in-Disk.ensures.1 in
-    rw (p.1, p.2)
-    (own_fault (g.I.Images.known c.args.images.now) (g.I.Images.known_map c.args.images.now) (texts c.args.args.now) (Disk c.in-Disk.wanted c.in-Disk.args)
-    c.in_err-scan-in-Disk.field-0.0 asked c.in_err-scan-in-Disk.ensures.answer)
+pub returns-in-Disk : goal.returns-in-Disk
+returns-in-Disk g c =
+    answered (g.I.Images.known c.args.images.now) (g.I.Images.known_map c.args.images.now) (texts c.args.args.now)
+    (Disk c.in-Disk.wanted c.in-Disk.args) c.on_disk.result (rw (c.in-Some.is, c.in-Disk.is) at c.in_ok-request.ensures) c.on_disk.ensures
 
 pub returns-in_ok-shard-in-Shard : goal.returns-in_ok-shard-in-Shard
 returns-in_ok-shard-in-Shard g c =
@@ -73,3 +69,17 @@ returns-in_err-shard-in-Shard g c =
     rw (p.1, p.2)
     (own_fault (g.I.Images.known c.args.images.now) (g.I.Images.known_map c.args.images.now) (texts c.args.args.now) (Shard c.in-Shard.args)
     c.in_err-shard-in-Shard.field-0.0 asked c.in_err-shard-in-Shard.ensures.answer)
+
+pub returns-in_ok-shards-in-Shards : goal.returns-in_ok-shards-in-Shards
+returns-in_ok-shards-in-Shards g c =
+    let asked : NameCommand (texts c.args.args.now) (Shards c.in-Shards.args) = rw (c.in-Some.is, c.in-Shards.is) at c.in_ok-request.ensures in
+    request_answer (g.I.Images.known c.args.images.now) (g.I.Images.known_map c.args.images.now) (texts c.args.args.now) (Shards c.in-Shards.args)
+    c.in_ok-shards-in-Shards.field-0.0.text.items c.in_ok-shards-in-Shards.field-0.0.outcome asked c.in_ok-shards-in-Shards.ensures.answer
+
+pub returns-in_err-shards-in-Shards : goal.returns-in_err-shards-in-Shards
+returns-in_err-shards-in-Shards g c =
+    let asked : NameCommand (texts c.args.args.now) (Shards c.in-Shards.args) = rw (c.in-Some.is, c.in-Shards.is) at c.in_ok-request.ensures in
+    let p = err_from_is_err_and c.from_residual-in_err-shards-in-Shards.result c.from_residual-in_err-shards-in-Shards.ensures.1 in
+    rw (p.1, p.2)
+    (own_fault (g.I.Images.known c.args.images.now) (g.I.Images.known_map c.args.images.now) (texts c.args.args.now) (Shards c.in-Shards.args)
+    c.in_err-shards-in-Shards.field-0.0 asked c.in_err-shards-in-Shards.ensures.answer)

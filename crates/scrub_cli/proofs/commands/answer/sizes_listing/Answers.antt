@@ -1,5 +1,7 @@
--- No more reads failed than may fail.
-use Rattle.std.proofs.Common.{arith, ◌-◌}
+-- No more reads failed than may fail, and a listing without lines has its line.
+use Rattle.std.proofs.Common.{◌∙◌, arith, ◌-◌, ap, subst, List, ℕ}
+use Rattle.scrub_cli.specs.Outcome.{IsWarnedOutcome}
+use Rattle.scrub_cli.specs.SizesListed.{no_record_line}
 use Rattle.scrub_cli.proofs.commands.answer.sizes_listing.Goals as goal
 
 pub returns : goal.returns
@@ -11,6 +13,8 @@ returns g c =
       failures = g.R.RawImage.failures c.list_sizes.new.raw - g.R.RawImage.failures c.args.raw.now;
       few = omega (arith, bound, same);
       is_clean = listing.is_clean;
-      listed = rw c.new.ensures.text c.in_ok-listing.ensures.listing;
-      ended = c.new.ensures.outcome;
+      listed = c.in_ok-listing.ensures.listing;
+      ended =
+          subst (λ (ls : List ℕ). IsWarnedOutcome listing.is_clean ls c.warned.result)
+          (c.in_ok-lines.ensures ∙ ap no_record_line c.deref.ensures.value) c.warned.ensures;
     }

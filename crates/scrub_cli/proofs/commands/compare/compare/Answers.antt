@@ -31,7 +31,7 @@ returns-in_err-losses-clause-answer g c =
     } in
     let p = err_from_is_err_and c.from_residual-in_err-losses.result c.from_residual-in_err-losses.ensures.1 in
     rw (p.1, p.2)
-    (compare_losses_fault known maps args sizes places c.in_err-losses.field-0.0 (rw c.geometry_of.ensures.same_maps at c.in_err-losses.ensures.losses))
+    (compare_losses_fault known maps args c.requires.no_runs sizes places c.in_err-losses.field-0.0 (rw c.geometry_of.ensures.same_maps at c.in_err-losses.ensures.losses))
 
 pub load_raw-requires-clause-pages : goal.load_raw-requires-clause-pages
 load_raw-requires-clause-pages g c =
@@ -51,7 +51,7 @@ returns-in_err-before-clause-answer g c =
     let kept : AreLossesKept maps args.before.scan.image sizes c.in_ok-losses.losses = rw c.geometry_of.ensures.same_maps at c.in_ok-losses.ensures.losses in
     let p = err_from_is_err_and c.from_residual-in_err-before.result c.from_residual-in_err-before.ensures.1 in
     rw (p.1, p.2)
-    (compare_before_fault known maps args sizes places c.in_err-before.field-0.0
+    (compare_before_fault known maps args c.requires.no_runs sizes places c.in_err-before.field-0.0
     (record { pages = c.in_ok-losses.losses.pages.items; named = kept.named; blocks = kept.map.blocks; mapped = kept.map.are })
     (c.in_err-before.ensures.disk _ (rw c.geometry_of.ensures.same_images at c.in_ok-losses.ensures.raw)))
 
@@ -99,7 +99,7 @@ returns-in_err-after-clause-answer g c =
     c.in_ok-before.ensures.disk _ (rw c.geometry_of.ensures.same_images at c.in_ok-losses.ensures.raw) kept.map.blocks kept.map.keeps in
     let p = err_from_is_err_and c.from_residual-in_err-after.result c.from_residual-in_err-after.ensures.1 in
     rw (p.1, p.2)
-    (compare_after_fault known maps args sizes places c.in_err-after.field-0.0
+    (compare_after_fault known maps args c.requires.no_runs sizes places c.in_err-after.field-0.0
     (record {
       places = places;
       pages = c.in_ok-losses.losses.pages.items;

@@ -1,11 +1,13 @@
 -- Each way out of `manifest`, in the order of the code.
-use Rattle.std.proofs.Common.{ap, sym, ◌∙◌}
+use Rattle.std.proofs.Common.{List, Option, Vec, Global, ap, sym, ◌∙◌}
+use Rattle.std.specs.Prelude.{option_map}
 use Rattle.std.proofs.lemmas.Result.{err_from_is_err_and}
 use Rattle.scrub_disk.specs.Parted.{image_of}
+use Rattle.scrub_frame.specs.declared.locator.Locator.{Locator}
 use Rattle.scrub_args.specs.declared.args.ManifestArgs.{ManifestArgs}
 use Rattle.scrub_cli.specs.KnownFiles.{KnownMaps, KnownRaw}
 use Rattle.scrub_cli.specs.Manifest.{IsManifestDisk, MayBeReset, may_all_be_reset}
-use Rattle.scrub_cli.proofs.ManifestAnswers.{manifest_disk_fault, manifest_geometry_fault}
+use Rattle.scrub_cli.proofs.ManifestAnswers.{manifest_geometry_fault, manifest_runs_fault}
 use Rattle.scrub_cli.proofs.commands.manifest.manifest.Given.{Over}
 use Rattle.scrub_cli.proofs.commands.manifest.manifest.Goals as goal
 
@@ -40,8 +42,8 @@ returns-in_err-disk-clause-answer g c =
     } in
     let p = err_from_is_err_and c.from_residual-in_err-disk.result c.from_residual-in_err-disk.ensures.1 in
     rw (p.1, p.2)
-    (manifest_disk_fault known maps args sizes c.in_err-disk.field-0.0 places
-    (rw (c.geometry_of.ensures.same_images, c.geometry_of.ensures.same_maps) at c.in_err-disk.ensures))
+    (manifest_runs_fault known maps args sizes c.in_err-disk.field-0.0 places
+    (rw (c.geometry_of.ensures.same_images, c.geometry_of.ensures.same_maps, c.deref-2.ensures.value) at c.in_err-disk.ensures.disk))
 
 -- the disk that was loaded is listed
 module _ (g : Over) (c : goal.After-drop-disk-3 g) where
@@ -54,7 +56,10 @@ module _ (g : Over) (c : goal.After-drop-disk-3 g) where
   abbrev maps_of : KnownMaps
   maps_of = g.I.Images.known_map c.args.images.now
 
-  disk_is : IsManifestDisk known_of maps_of args_of (image_of c.in_ok-disk.disk)
+  abbrev given_of : Option (List Locator)
+  given_of = option_map (λ (v : Vec Locator Global). v.items) c.in_ok-disk.given
+
+  disk_is : IsManifestDisk known_of maps_of args_of (image_of c.in_ok-disk.disk) given_of
   disk_is = record {
     geometry = c.in_ok-geometry.geometry;
     places = record {
@@ -63,20 +68,22 @@ module _ (g : Over) (c : goal.After-drop-disk-3 g) where
           ap (may_all_be_reset c.in_ok-geometry.geometry) (sym c.deref.ensures.value) ∙ sym c.may_all_be_reset.ensures
           ∙ c.if-not-may_all_be_reset.false;
     };
-    loaded = rw (c.geometry_of.ensures.same_images, c.geometry_of.ensures.same_maps) at c.in_ok-disk.ensures;
+    loaded = rw (c.geometry_of.ensures.same_images, c.geometry_of.ensures.same_maps, c.deref-2.ensures.value) at c.in_ok-disk.ensures.disk;
   }
 
 pub returns-clause-answer : goal.returns-clause-answer
 returns-clause-answer g c = record {
   image = image_of c.in_ok-disk.disk;
+  given = given_of g c;
   disk = disk_is g c;
-  listed = rw c.deref-2.ensures.value at c.in_ok-manifest_listing.ensures.answer;
+  listed = rw c.deref-3.ensures.value at c.in_ok-manifest_by.ensures.answer;
 }
 
 pub returns-clause-takings : goal.returns-clause-takings
 returns-clause-takings g c = record {
   image = image_of c.in_ok-disk.disk;
+  given = given_of g c;
   disk = disk_is g c;
-  listed = rw c.deref-2.ensures.value at c.in_ok-manifest_listing.ensures.answer;
-  taken = c.in_ok-manifest_listing.ensures.takings;
+  listed = rw c.deref-3.ensures.value at c.in_ok-manifest_by.ensures.answer;
+  taken = c.in_ok-manifest_by.ensures.takings;
 }

@@ -1,13 +1,15 @@
 -- Each way out of `shard`, in the order of the code.
-use Rattle.std.proofs.Common.{◌≡◌, ◌∙◌, List, ℕ, Vec, Global, ap, refl}
+use Rattle.std.proofs.Common.{◌≡◌, ◌∙◌, List, ℕ, Option, Vec, Global, ap, refl}
+use Rattle.std.specs.Prelude.{option_map}
 use Rattle.std.proofs.lemmas.Result.{err_from_is_err_and}
 use Rattle.scrub_disk.specs.Parted.{image_of}
+use Rattle.scrub_frame.specs.declared.locator.Locator.{Locator}
 use Rattle.scrub_listings.specs.declared.remarks.SuperblockRemark.{SuperblockRemark}
 use Rattle.scrub_args.specs.declared.args.ShardArgs.{ShardArgs}
 use Rattle.scrub_cli.specs.KnownFiles.{KnownMaps, KnownRaw}
 use Rattle.scrub_cli.specs.Remarks.{shard_lines}
 use Rattle.scrub_cli.specs.Shard.{IsNamed, IsShardRead}
-use Rattle.scrub_cli.proofs.ShardAnswers.{lost_fault, shard_disk_fault, shard_geometry_fault, written_with}
+use Rattle.scrub_cli.proofs.ShardAnswers.{lost_fault, shard_geometry_fault, shard_runs_fault, written_with}
 use Rattle.scrub_cli.proofs.commands.shard.shard.Given.{Over}
 use Rattle.scrub_cli.proofs.commands.shard.shard.Goals as goal
 
@@ -35,8 +37,8 @@ returns-in_err-disk-clause-answer g c =
     let named : IsNamed known maps args sizes c.in-Some.id = record { sizes = c.in_ok-geometry.ensures.geometry; id_is = c.in-Some.ensures } in
     let p = err_from_is_err_and c.from_residual-in_err-disk.result c.from_residual-in_err-disk.ensures.1 in
     rw (p.1, p.2)
-    (shard_disk_fault known maps args sizes c.in-Some.id c.in_err-disk.field-0.0 named
-    (rw (c.geometry_of.ensures.same_images, c.geometry_of.ensures.same_maps) at c.in_err-disk.ensures))
+    (shard_runs_fault known maps args sizes c.in-Some.id c.in_err-disk.field-0.0 named
+    (rw (c.geometry_of.ensures.same_images, c.geometry_of.ensures.same_maps, c.deref.ensures.value) at c.in_err-disk.ensures.disk))
 
 -- there are no bytes of the shard
 pub returns-in_err-bytes_of-clause-answer : goal.returns-in_err-bytes_of-clause-answer
@@ -44,16 +46,17 @@ returns-in_err-bytes_of-clause-answer g c =
     let args = c.args.args.now in
     let known = g.I.Images.known c.args.images.now args.scan.image.name.now in
     let maps = g.I.Images.known_map c.args.images.now in
-    let is_read : IsShardRead known maps args (image_of c.in_ok-disk.disk) c.in_ok-found.found.answer = record {
+    let given : Option (List Locator) = option_map (λ (v : Vec Locator Global). v.items) c.in_ok-disk.given in
+    let is_read : IsShardRead known maps args (image_of c.in_ok-disk.disk) given c.in_ok-found.found.answer = record {
       geometry = c.in_ok-geometry.geometry;
       id = c.in-Some.id;
       named = record { sizes = c.in_ok-geometry.ensures.geometry; id_is = c.in-Some.ensures };
-      loaded = rw (c.geometry_of.ensures.same_images, c.geometry_of.ensures.same_maps) at c.in_ok-disk.ensures;
+      loaded = rw (c.geometry_of.ensures.same_images, c.geometry_of.ensures.same_maps, c.deref.ensures.value) at c.in_ok-disk.ensures.disk;
       answered = c.in_ok-found.ensures.shard;
     } in
     let p = err_from_is_err_and c.from_residual-in_err-bytes_of.result c.from_residual-in_err-bytes_of.ensures.1 in
     rw (p.1, p.2)
-    (lost_fault known maps args (image_of c.in_ok-disk.disk) c.in_ok-found.found.answer c.in_err-bytes_of.field-0.0 is_read
+    (lost_fault known maps args (image_of c.in_ok-disk.disk) given c.in_ok-found.found.answer c.in_err-bytes_of.field-0.0 is_read
     c.in_err-bytes_of.ensures)
 
 -- the bytes of the shard are written
@@ -67,12 +70,15 @@ module _ (g : Over) (c : goal.After-drop-disk-3 g) where
   abbrev maps_of : KnownMaps
   maps_of = g.I.Images.known_map c.args.images.now
 
-  is_read : IsShardRead known_of maps_of args_of (image_of c.in_ok-disk.disk) c.in_ok-found.found.answer
+  abbrev given_of : Option (List Locator)
+  given_of = option_map (λ (v : Vec Locator Global). v.items) c.in_ok-disk.given
+
+  is_read : IsShardRead known_of maps_of args_of (image_of c.in_ok-disk.disk) given_of c.in_ok-found.found.answer
   is_read = record {
     geometry = c.in_ok-geometry.geometry;
     id = c.in-Some.id;
     named = record { sizes = c.in_ok-geometry.ensures.geometry; id_is = c.in-Some.ensures };
-    loaded = rw (c.geometry_of.ensures.same_images, c.geometry_of.ensures.same_maps) at c.in_ok-disk.ensures;
+    loaded = rw (c.geometry_of.ensures.same_images, c.geometry_of.ensures.same_maps, c.deref.ensures.value) at c.in_ok-disk.ensures.disk;
     answered = c.in_ok-found.ensures.shard;
   }
 
@@ -80,11 +86,12 @@ module _ (g : Over) (c : goal.After-drop-disk-3 g) where
   lines_are =
       ap (λ (v : Vec ℕ Global). v.items) c.into_bytes.ensures.value
       ∙ c.in_ok-lines.ensures
-      ∙ ap (λ (rs : List SuperblockRemark). shard_lines rs c.in_ok-found.found.answer) c.deref.ensures.value
+      ∙ ap (λ (rs : List SuperblockRemark). shard_lines rs c.in_ok-found.found.answer) c.deref-2.ensures.value
 
 pub returns-clause-answer : goal.returns-clause-answer
 returns-clause-answer g c = record {
   image = image_of c.in_ok-disk.disk;
+  given = given_of g c;
   answer = c.in_ok-found.found.answer;
   is_read = is_read g c;
   remarks = c.in_ok-found.found.remarks.items;
@@ -95,6 +102,7 @@ returns-clause-answer g c = record {
 pub returns-clause-takings : goal.returns-clause-takings
 returns-clause-takings g c = record {
   image = image_of c.in_ok-disk.disk;
+  given = given_of g c;
   answer = c.in_ok-found.found.answer;
   is_read = is_read g c;
   remarks = c.in_ok-found.found.remarks.items;

@@ -1,0 +1,218 @@
+-- The index runs that arguments give, from what the parts find, and why there are none.
+use Rattle.std.proofs.Common.{◌≡◌, ◌<◌, ◌≤◌, ◌+◌, ◌∙◌, ◌++◌, ◌∷◌, [], ℕ, Bool, true, false, List, Option, None, Some, Result, Ok, Err, MatchResult, All, length, take, get_or, arith, ap, refl, sym, subst}
+use Rattle.std.specs.Prelude.{fold, if◌then◌else◌, slice_index_or}
+use Rattle.std.specs.Borrow.{Bor}
+use Rattle.std.specs.List.{AllZip, list_any}
+use Rattle.std.proofs.lemmas.List.{take_all}
+use Rattle.std.proofs.lemmas.List.Elements.{All-nil}
+use Rattle.std.proofs.lemmas.List.Sums.{fold-append}
+use Rattle.list_facts.proofs.Elements.{All-one_more}
+use Rattle.list_facts.proofs.Zips.{AllZip-at, AllZip-take_more}
+use Rattle.scrub_disk.specs.declared.geometry.Geometry.{Geometry as Sizes}
+use Rattle.scrub_disk.specs.Image.{Image}
+use Rattle.scrub_frame.specs.declared.locator.Locator.{Locator}
+use Rattle.scrub_frame.specs.Locator.{IsLocator}
+use Rattle.scrub_loose.specs.Outer.{IsRunThere}
+use Rattle.scrub_args.specs.declared.args.ImageArgs.{ImageArgs}
+use Rattle.scrub_cli.specs.declared.process.fault.Fault.{Fault}
+use Rattle.scrub_cli.specs.declared.process.fault.Fault.TheVariants.{NotUtf8, Help, Args, Geometry, NoSizes, UncertainSizes, Extent, BadShard, Pointer, BadRun, BadPage, NoMap, MapLine, NoImage, TooLong, NoRun, NoShard, PayloadLost, Output, OutOfMemory}
+use Rattle.scrub_cli.specs.DiskImage.{IsDiskFault, IsLoadedDisk}
+use Rattle.scrub_cli.specs.GivenRuns.{AreRunsAt, EachNamesRun, GiveRuns, IsBadRunFault, IsFirstNoRun, IsLoadedWithRuns, IsNoRunFault, IsRunsFault, NameRuns, NamesRun, is_of_place, once, with_one}
+use Rattle.scrub_cli.specs.KnownFiles.{KnownMaps, KnownRaw}
+use Rattle.scrub_cli.proofs.DiskAnswers.{of_disk_fault}
+use Rattle.scrub_cli.proofs.Rescues.{lost_geometry}
+
+-- ---- places
+
+-- one more argument, and the place that it names
+pub named_run_more : (g : Sizes) (args : List (Bor (List ℕ))) (places more : List (ℕ × ℕ)) (i : ℕ) (d : Bor (List ℕ)) (at : ℕ × ℕ) →
+    i < length args → NameRuns g (take i args) places → NamesRun g (get_or args i d).now at →
+    more ≡ places ++ at ∷ [] → NameRuns g (take (i + 1) args) more
+named_run_more g args places more i d at below named next grown =
+    AllZip-take_more (λ arg at. NamesRun g arg.now at) args places more i d at below named next grown
+
+-- there is a place for each argument
+pub one_place_each : (g : Sizes) (args : List (Bor (List ℕ))) (places : List (ℕ × ℕ)) → NameRuns g args places →
+    length places ≡ length args
+one_place_each g [] [] named = refl
+one_place_each g [] (at ∷ places) named = absurd named
+one_place_each g (arg ∷ args) [] named = absurd named
+one_place_each g (arg ∷ args) (at ∷ places) named = omega (arith, one_place_each g args places named.1)
+
+-- the place of an argument
+pub place_of : (g : Sizes) (args : List (Bor (List ℕ))) (places : List (ℕ × ℕ)) (i : ℕ) (d : Bor (List ℕ)) (at : ℕ × ℕ) →
+    NameRuns g args places → i < length args → NamesRun g (get_or args i d).now (get_or places i at)
+place_of g args places i d at named below = AllZip-at (λ arg at. NamesRun g arg.now at) args places i d at below named
+
+-- ---- runs
+
+-- one more locator, of a place that may be known
+pub once_more : (all : List Locator) (l : Locator) → once (all ++ l ∷ []) ≡ with_one (once all) l
+once_more all l = fold-append with_one [] all (l ∷ [])
+
+-- each of them is still a locator
+pub located_more : (runs more : List Locator) (l : Locator) → All IsLocator runs → IsLocator l → more ≡ with_one runs l → All IsLocator more
+located_more runs more l all one grown = by (list_any (is_of_place l.extent l.offset) runs) grown
+  where
+    by : (b : Bool) → more ≡ (if b then runs else runs ++ l ∷ []) → All IsLocator more
+    by true is = subst (All IsLocator) (sym is) all
+    by false is = All-one_more IsLocator runs more l is all one
+
+-- the runs at the first places
+pub record AreFirstRuns (image : Image) (places : List (ℕ × ℕ)) (count : ℕ) (runs : List Locator) : Type 0 where
+  pub all : List Locator
+  pub there : AreRunsAt image (take count places) all
+  pub runs_are : runs ≡ once all
+  pub located : All IsLocator runs
+
+-- there are none yet
+pub no_runs_yet : (image : Image) (places : List (ℕ × ℕ)) → AreFirstRuns image places 0 []
+no_runs_yet image places = record { all = []; there = tt; runs_are = refl; located = All-nil IsLocator }
+
+-- one more, at the next place
+pub first_runs_more : (image : Image) (places : List (ℕ × ℕ)) (count : ℕ) (runs more : List Locator) (at : ℕ × ℕ) (l : Locator) →
+    count < length places → AreFirstRuns image places count runs →
+    IsRunThere image (get_or places count at).0 (get_or places count at).1 l → IsLocator l → more ≡ with_one runs l →
+    AreFirstRuns image places (count + 1) more
+first_runs_more image places count runs more at l below first there one grown = record {
+  all = first.all ++ l ∷ [];
+  there = AllZip-take_more (λ at l. IsRunThere image at.0 at.1 l) places first.all (first.all ++ l ∷ []) count at l below first.there there refl;
+  runs_are = grown ∙ ap (λ (rs : List Locator). with_one rs l) first.runs_are ∙ sym (once_more first.all l);
+  located = located_more runs more l first.located one grown;
+}
+
+-- once there is a run for each place, these are the runs that the arguments give
+pub all_runs : (image : Image) (args : List (Bor (List ℕ))) (places : List (ℕ × ℕ)) (count : ℕ) (runs : List Locator) →
+    NameRuns image.geometry args places → length args ≤ count → AreFirstRuns image places count runs → GiveRuns image args runs
+all_runs image args places count runs named enough first = record {
+  places = places;
+  named = named;
+  all = first.all;
+  there =
+      subst (λ (at : List (ℕ × ℕ)). AreRunsAt image at first.all)
+      (take_all count places (omega (arith, one_place_each image.geometry args places named, enough))) first.there;
+  runs_are = first.runs_are;
+}
+
+-- there is none at the next place, that of this argument
+pub no_run_there : (image : Image) (args : List (Bor (List ℕ))) (places : List (ℕ × ℕ)) (count : ℕ) (runs : List Locator) (arg : Bor (List ℕ)) (at : ℕ × ℕ) →
+    NameRuns image.geometry args places → count < length args → arg ≡ slice_index_or args count arg → AreFirstRuns image places count runs →
+    ((l : Locator) → IsRunThere image (get_or places count at).0 (get_or places count at).1 l → ⊥) → IsFirstNoRun image args arg
+no_run_there image args places count runs arg at named below stands first none = record {
+  place = count;
+  within = below;
+  stands = stands;
+  places = places;
+  named = named;
+  runs = first.all;
+  before = first.there;
+  at = get_or places count at;
+  names = subst (λ (a : Bor (List ℕ)). NamesRun image.geometry a.now (get_or places count at)) (sym stands) (place_of image.geometry args places count arg at named below);
+  none = none;
+}
+
+-- ---- the disk
+
+-- an image that was loaded for a disk of some sizes has them
+pub loaded_geometry : (known : KnownRaw) (maps : KnownMaps) (args : ImageArgs) (g : Sizes) (image : Image) → IsLoadedDisk known maps args g image →
+    image.geometry ≡ g
+loaded_geometry known maps args g image x = lost_geometry x.blocks x.before image x.rescued ∙ x.loaded.geometry
+
+-- what holds for each fault of loading a disk with the runs that arguments give holds for the one that there is
+pub of_runs_fault : (Holds : Fault → Type 0) (known : KnownRaw) (maps : KnownMaps) (args : ImageArgs) (words : List (Bor (List ℕ))) (g : Sizes) →
+    ((arg : Bor (List ℕ)) → IsRunsFault known maps args words g (BadRun arg) → Holds (BadRun arg)) →
+    ((arg : Bor (List ℕ)) → IsRunsFault known maps args words g (BadPage arg) → Holds (BadPage arg)) →
+    ((name : Bor (List ℕ)) → IsRunsFault known maps args words g (NoMap name) → Holds (NoMap name)) →
+    ((k : ℕ) → IsRunsFault known maps args words g (MapLine k) → Holds (MapLine k)) →
+    ((name : Bor (List ℕ)) → IsRunsFault known maps args words g (NoImage name) → Holds (NoImage name)) →
+    (IsRunsFault known maps args words g TooLong → Holds TooLong) →
+    ((arg : Bor (List ℕ)) → IsRunsFault known maps args words g (NoRun arg) → Holds (NoRun arg)) → Holds OutOfMemory →
+    (fault : Fault) → IsRunsFault known maps args words g fault → Holds fault
+of_runs_fault Holds known maps args words g no_place bad unopened line none long no_run memory NotUtf8 is = absurd is.1
+of_runs_fault Holds known maps args words g no_place bad unopened line none long no_run memory (Help text) is = absurd is.1
+of_runs_fault Holds known maps args words g no_place bad unopened line none long no_run memory (Args text) is = absurd is.1
+of_runs_fault Holds known maps args words g no_place bad unopened line none long no_run memory (Geometry fault) is = absurd is.1
+of_runs_fault Holds known maps args words g no_place bad unopened line none long no_run memory NoSizes is = absurd is.1
+of_runs_fault Holds known maps args words g no_place bad unopened line none long no_run memory UncertainSizes is = absurd is.1
+of_runs_fault Holds known maps args words g no_place bad unopened line none long no_run memory Extent is = absurd is.1
+of_runs_fault Holds known maps args words g no_place bad unopened line none long no_run memory (BadShard text) is = absurd is.1
+of_runs_fault Holds known maps args words g no_place bad unopened line none long no_run memory Pointer is = absurd is.1
+of_runs_fault Holds known maps args words g no_place bad unopened line none long no_run memory (BadRun arg) is = no_place arg is
+of_runs_fault Holds known maps args words g no_place bad unopened line none long no_run memory (BadPage arg) is = bad arg is
+of_runs_fault Holds known maps args words g no_place bad unopened line none long no_run memory (NoMap name) is = unopened name is
+of_runs_fault Holds known maps args words g no_place bad unopened line none long no_run memory (MapLine k) is = line k is
+of_runs_fault Holds known maps args words g no_place bad unopened line none long no_run memory (NoImage name) is = none name is
+of_runs_fault Holds known maps args words g no_place bad unopened line none long no_run memory TooLong is = long is
+of_runs_fault Holds known maps args words g no_place bad unopened line none long no_run memory (NoRun arg) is = no_run arg is
+of_runs_fault Holds known maps args words g no_place bad unopened line none long no_run memory NoShard is = absurd is.1
+of_runs_fault Holds known maps args words g no_place bad unopened line none long no_run memory (PayloadLost number) is = absurd is.1
+of_runs_fault Holds known maps args words g no_place bad unopened line none long no_run memory (Output written) is = absurd is.1
+of_runs_fault Holds known maps args words g no_place bad unopened line none long no_run memory OutOfMemory is = memory
+
+-- what holds for each fault of the places that arguments name holds for the one that they have
+pub of_bad_run : (Holds : Fault → Type 0) (g : Sizes) (args : List (Bor (List ℕ))) →
+    ((arg : Bor (List ℕ)) → IsBadRunFault g args (BadRun arg) → Holds (BadRun arg)) → Holds OutOfMemory →
+    (fault : Fault) → IsBadRunFault g args fault → Holds fault
+of_bad_run Holds g args bad memory NotUtf8 is = absurd is
+of_bad_run Holds g args bad memory (Help text) is = absurd is
+of_bad_run Holds g args bad memory (Args text) is = absurd is
+of_bad_run Holds g args bad memory (Geometry fault) is = absurd is
+of_bad_run Holds g args bad memory NoSizes is = absurd is
+of_bad_run Holds g args bad memory UncertainSizes is = absurd is
+of_bad_run Holds g args bad memory Extent is = absurd is
+of_bad_run Holds g args bad memory (BadShard text) is = absurd is
+of_bad_run Holds g args bad memory Pointer is = absurd is
+of_bad_run Holds g args bad memory (BadRun arg) is = bad arg is
+of_bad_run Holds g args bad memory (BadPage arg) is = absurd is
+of_bad_run Holds g args bad memory (NoMap name) is = absurd is
+of_bad_run Holds g args bad memory (MapLine k) is = absurd is
+of_bad_run Holds g args bad memory (NoImage name) is = absurd is
+of_bad_run Holds g args bad memory TooLong is = absurd is
+of_bad_run Holds g args bad memory (NoRun arg) is = absurd is
+of_bad_run Holds g args bad memory NoShard is = absurd is
+of_bad_run Holds g args bad memory (PayloadLost number) is = absurd is
+of_bad_run Holds g args bad memory (Output written) is = absurd is
+of_bad_run Holds g args bad memory OutOfMemory is = memory
+
+-- what holds for each fault of the runs at the places that arguments name holds for the one that there is
+pub of_no_run : (Holds : Fault → Type 0) (image : Image) (args : List (Bor (List ℕ))) →
+    ((arg : Bor (List ℕ)) → IsNoRunFault image args (NoRun arg) → Holds (NoRun arg)) → Holds OutOfMemory →
+    (fault : Fault) → IsNoRunFault image args fault → Holds fault
+of_no_run Holds image args lacks memory NotUtf8 is = absurd is
+of_no_run Holds image args lacks memory (Help text) is = absurd is
+of_no_run Holds image args lacks memory (Args text) is = absurd is
+of_no_run Holds image args lacks memory (Geometry fault) is = absurd is
+of_no_run Holds image args lacks memory NoSizes is = absurd is
+of_no_run Holds image args lacks memory UncertainSizes is = absurd is
+of_no_run Holds image args lacks memory Extent is = absurd is
+of_no_run Holds image args lacks memory (BadShard text) is = absurd is
+of_no_run Holds image args lacks memory Pointer is = absurd is
+of_no_run Holds image args lacks memory (BadRun arg) is = absurd is
+of_no_run Holds image args lacks memory (BadPage arg) is = absurd is
+of_no_run Holds image args lacks memory (NoMap name) is = absurd is
+of_no_run Holds image args lacks memory (MapLine k) is = absurd is
+of_no_run Holds image args lacks memory (NoImage name) is = absurd is
+of_no_run Holds image args lacks memory TooLong is = absurd is
+of_no_run Holds image args lacks memory (NoRun arg) is = lacks arg is
+of_no_run Holds image args lacks memory NoShard is = absurd is
+of_no_run Holds image args lacks memory (PayloadLost number) is = absurd is
+of_no_run Holds image args lacks memory (Output written) is = absurd is
+of_no_run Holds image args lacks memory OutOfMemory is = memory
+
+-- an argument that names no place is a fault of both
+pub bad_run_fault : (known : KnownRaw) (maps : KnownMaps) (args : ImageArgs) (words : List (Bor (List ℕ))) (g : Sizes) (fault : Fault) →
+    IsBadRunFault g words fault → IsRunsFault known maps args words g fault
+bad_run_fault known maps args words g fault = of_bad_run (IsRunsFault known maps args words g) g words (λ arg is. is) tt fault
+
+-- so is a fault of the disk
+pub runs_disk_fault : (known : KnownRaw) (maps : KnownMaps) (args : ImageArgs) (words : List (Bor (List ℕ))) (g : Sizes) (fault : Fault) →
+    EachNamesRun g words → IsDiskFault known maps args g fault → IsRunsFault known maps args words g fault
+runs_disk_fault known maps args words g fault each =
+    of_disk_fault (IsRunsFault known maps args words g) known maps args g (λ arg is. (each, is)) (λ name is. (each, is)) (λ k is. (each, is))
+    (λ name is. (each, is)) (λ is. (each, is)) tt fault
+
+-- so is a place without a run
+pub no_run_fault : (known : KnownRaw) (maps : KnownMaps) (args : ImageArgs) (words : List (Bor (List ℕ))) (g : Sizes) (image : Image) (fault : Fault) →
+    IsLoadedDisk known maps args g image → IsNoRunFault image words fault → IsRunsFault known maps args words g fault
+no_run_fault known maps args words g image fault loaded =
+    of_no_run (IsRunsFault known maps args words g) image words (λ arg is. (image, loaded, is)) tt fault
