@@ -59,7 +59,7 @@ OPTIONS = {
                         "the texts use up to one thread per processor"),
     "--id": Option("ID", TEXTS["ID_HELP"], "the digits in either case"),
     "--partial": Option("", TEXTS["PARTIAL_HELP"], "[which files and lines](#all-shards)"),
-    "--run": Option("EXTENT:OFFSET", TEXTS["RUN_HELP"], "may be repeated: [what it says](#the-bytes-of-a-shard)", True),
+    "--run": Option("EXTENT:OFFSET", TEXTS["RUN_HELP"], "may be repeated: [what it says](#runs-that-are-given)", True),
     "--reset": Option("EXTENT", TEXTS["RESET_HELP"], "may be repeated: of [`manifest`](#the-manifest) and of [`compare`](#two-images)", True),
     "--accept": Option("LINE", TEXTS["ACCEPT_HELP"], "may be [repeated](#what-reclaimable-prints)", True),
     "--last": Option("G", TEXTS["LAST_HELP"], "[what it says](#the-last-superblock)"),
