@@ -240,10 +240,10 @@ module _ (image : Image) (m : Mapped) (mapped : IsMapped image m) (read : All (�
           bound = bound;
           contents = contents;
           other_contents =
-            let c : HaveContentsOfEntryFrom (Some m.plan.runs) image id o.bytes = bytes_are_asked_for (Some m.plan.runs) image id o y in
-            subst (λ (v : BindingValue). HaveContentsOf v.locators o.bytes) (same_entry c.found c.mapped c.entry c.bound) c.contents;
+              let c : HaveContentsOfEntryFrom (Some m.plan.runs) image id o.bytes = bytes_are_asked_for (Some m.plan.runs) image id o y in
+              subst (λ (v : BindingValue). HaveContentsOf v.locators o.bytes) (same_entry c.found c.mapped c.entry c.bound) c.contents;
           same_doubt =
-            y.answer.2.answer.2 ∙ ap (λ (v : BindingValue). v.doubtful) (same_entry y.found y.mapped y.answer.0 y.answer.1)
-            ∙ sym of_entry.answer.2;
+              y.answer.2.answer.2 ∙ ap (λ (v : BindingValue). v.doubtful) (same_entry y.found y.mapped y.answer.0 y.answer.1)
+              ∙ sym of_entry.answer.2;
         };
       }
