@@ -44,8 +44,8 @@ def statuses_of(text):
 
 
 def written(name):
-    """An option of the help: its name and that of its value."""
-    return f"{name} <{OPTIONS[name].value}>"
+    """An option of the help: its name and that of its value, if it isn't a flag."""
+    return f"{name} <{OPTIONS[name].value}>" if OPTIONS[name].value else name
 
 
 class Help(Case):
@@ -148,7 +148,8 @@ class Completions(RoomCase):
                 self.same(f"{name}, {number} images", sorted(self.offered(name, *["disk.img"] * number, "")),
                           files if number < len(images) else [])
             for option in options:
-                wanted = {"--map": files, "--page": [str(1 << bit) for bit in range(6, 17)]}.get(option, [])
+                after_flag = files if images and not OPTIONS[option].value else []
+                wanted = {"--map": files, "--page": [str(1 << bit) for bit in range(6, 17)]}.get(option, after_flag)
                 self.same(f"{name} {option}", sorted(self.offered(name, option, "")), sorted(wanted))
         self.same("a beginning", self.offered("scan", "--map", "disk\\ t"), [])
         self.same("a beginning", self.offered("scan", "--map", "disk t"), ["disk two.img"])
@@ -166,7 +167,7 @@ class Completions(RoomCase):
     def test_zsh_has_the_same(self):
         text = (SHELLS / "_shardscrub").read_text(encoding="utf-8")
         blocks = re.findall(r"^ {12}(\w+)\) _arguments((?: \\\n {16}.*)+) ;;$", text, re.M)
-        self.check_listed("zsh", {name: (re.findall(r"^ +'\*?(--\w+)=", block, re.M), re.findall(r"^ +'\*(--\w+)=", block, re.M),
+        self.check_listed("zsh", {name: (re.findall(r"^ +'\*?(--\w+)[=[]", block, re.M), re.findall(r"^ +'\*(--\w+)=", block, re.M),
                                          len(re.findall(r"^ +'\d:[A-Z]+:_files'", block, re.M))) for name, block in blocks})
         self.same("the first line", text.partition("\n")[0], "#compdef shardscrub")
 

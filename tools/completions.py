@@ -6,7 +6,7 @@ SIZES_OF_PAGES = " ".join(str(1 << n) for n in range(6, 17))
 
 
 class Taken(NamedTuple):
-    """An option that a command takes. Each has a value."""
+    """An option that a command takes. A flag has no value."""
     name: str
     value: str
     about: str
@@ -24,14 +24,14 @@ class Completed(NamedTuple):
 
 BASH = MADE.format("bash") + r"""
 _shardscrub() {
-    local commands="COMMANDS" word=${COMP_WORDS[COMP_CWORD]} command="" options="" repeated="REPEATED" given=" "
+    local commands="COMMANDS" word=${COMP_WORDS[COMP_CWORD]} command="" options="" repeated="REPEATED" flags="FLAGS" given=" "
     local -i images=0 places=0 i
     local option="" one
     for ((i = 1; i < COMP_CWORD; i++)); do
         one=${COMP_WORDS[i]}
         if [[ $option && $one = "=" ]]; then continue; fi
         if [[ $option ]]; then option=""
-        elif [[ $one = --help || $one = --version ]]; then given+="$one "
+        elif [[ $one = --help || $one = --version || " $flags " = *" $one "* ]]; then given+="$one "
         elif [[ $one = --* ]]; then option=$one given+="$one "
         elif [[ $one = -* ]]; then continue
         elif [[ ! $command ]]; then command=$one
@@ -70,8 +70,9 @@ def bash(commands):
     cases = [f'        {one.name}) options="{" ".join([*(option.name for option in one.options), "--help"])}" images={len(one.images)} ;;'
              for one in commands]
     repeated = dict.fromkeys(option.name for one in commands for option in one.options if option.is_repeated)
+    flags = dict.fromkeys(option.name for one in commands for option in one.options if not option.value)
     return (BASH.replace("COMMANDS", " ".join([*(one.name for one in commands), "help"])).replace("REPEATED", " ".join(repeated))
-            .replace("CASES", "\n".join(cases)).replace("PAGES", SIZES_OF_PAGES))
+            .replace("FLAGS", " ".join(flags)).replace("CASES", "\n".join(cases)).replace("PAGES", SIZES_OF_PAGES))
 
 
 def quoted(text):
@@ -86,6 +87,11 @@ def zsh(commands):
     def escaped(text):
         return text.replace("[", "\\[").replace("]", "\\]").replace(":", "\\:")
 
+    def spec(option):
+        if not option.value:
+            return f"{option.name}[{escaped(option.about)}]"
+        return f"{'*' * option.is_repeated}{option.name}=[{escaped(option.about)}]:{escaped(option.value)}:{action(option)}"
+
     lines = ["#compdef shardscrub", MADE.format("zsh"), "_shardscrub() {", "    local curcontext=$curcontext state line",
              "    local -a commands", "    commands=("]
     lines += [f"        {quoted(one.name + ':' + escaped(one.about))}" for one in commands]
@@ -94,8 +100,7 @@ def zsh(commands):
               "    case $state in", "        command) _describe command commands ;;", "        rest) case $words[1] in",
               "            help) _describe command commands ;;"]
     for one in commands:
-        specs = [quoted(f"{'*' * option.is_repeated}{option.name}=[{escaped(option.about)}]:{option.value}:{action(option)}")
-                 for option in one.options]
+        specs = [quoted(spec(option)) for option in one.options]
         specs += ["'(- *)'{-h,--help}'[Print help]'", *(f"'{number}:{name}:_files'" for number, name in enumerate(one.images, 1))]
         specs += ["'*:EXTENT\\:PAGE: '"] * one.takes_pages
         lines.append(f"            {one.name}) _arguments \\\n                " + " \\\n                ".join(specs) + " ;;")
@@ -113,8 +118,8 @@ def fish(commands):
     lines += ['complete -c shardscrub -n "$none" -f -a help -d \'Prints the help of a command\'',
               "complete -c shardscrub -n '__fish_seen_subcommand_from help' -f -a \"$commands\"",
               f"complete -c shardscrub -n '__fish_seen_subcommand_from {without}' -f"]
-    how = {"--page": f"-x -a '{SIZES_OF_PAGES}'", "--map": "-r -F"}
+    how = {"--page": f"-x -a '{SIZES_OF_PAGES}' ", "--map": "-r -F "}
     for one in commands:
-        lines += [f"complete -c shardscrub -n '__fish_seen_subcommand_from {one.name}' {how.get(option.name, '-x')} "
+        lines += [f"complete -c shardscrub -n '__fish_seen_subcommand_from {one.name}' {how.get(option.name, '-x ' * (option.value != ''))}"
                   f"-l {option.name[2:]} -d {quoted(option.about)}" for option in one.options]
     return "\n".join([*lines, ""])

@@ -107,8 +107,9 @@ $ shardscrub scan examples/one\-shard.img 2:1 | jq \-c '.dangling[] | [.owner, .
 
 
 def roff(text):
-    """A text as a line of input."""
+    """A text as a line of input. A quote that is no apostrophe stays as it is, to be copied."""
     text = text.replace("\\", "\\e").replace("-", "\\-")
+    text = re.sub(r"(?<!\w)'|'(?!\w)", r"\\(aq", text)
     return f"\\&{text}" if text.startswith((".", "'")) else text
 
 
@@ -172,6 +173,8 @@ def command_text(text, statuses):
 def option_line(name, is_required):
     """An option in the synopsis."""
     value, word = OPTIONS[name].value, roff(name)
+    if not value:
+        return f".OP {word}"
     if is_required:
         return f".B {word}\n.I {value}"
     return f".RB [ {word}\n.IR {value} ]..." if OPTIONS[name].is_repeated else f".OP {word} {value}"
@@ -193,7 +196,8 @@ def synopsis():
 def options_text():
     out = ["Numbers are below 2^32, that of", ".B \\-\\-last", "below 2^64."]
     for name, option in OPTIONS.items():
-        head = f'.BI {roff(name)} " {option.value}"' if option.value else ".IR EXTENT : PAGE" if ":" in name else f".I {name}"
+        head = (f'.BI {roff(name)} " {option.value}"' if option.value else f".B {roff(name)}" if name.startswith("--") else
+                ".IR EXTENT : PAGE" if ":" in name else f".I {name}")
         text = TEXTS["FREE_PAGE_HELP"] if name == SIZES[0] else option.help
         out += [".TP", head, *(f"{roff(one)}." for one in text.split(". "))]
     return [*out, ".TP", '.BR \\-h ", " \\-\\-help', "Prints help on the error stream.", ".TP", '.BR \\-V ", " \\-\\-version',

@@ -4,7 +4,7 @@ and the completions for three shells in release/completions/. README.md has the 
 
 Which command takes which options, and what its statuses mean, is in tables in this file; the sentences of the help are in
 crates/scrub_args/src/help_texts.rt. tests/test_help.py compares the help of the program, and its version, with both. In the tables a word
-of the program is in backquotes, which the help hasn't.
+of the program is in backquotes, in the help in single quotes.
 """
 import re
 import sys
@@ -28,7 +28,8 @@ TEXTS = help_texts()
 
 
 class Option(NamedTuple):
-    """An option or an argument: its value, its sentence in the help, what REPORT.md adds, and whether it may be repeated."""
+    """An option or an argument: its value, of which a flag has none, its sentence in the help, what REPORT.md adds, and whether it may be
+    repeated."""
     value: str
     help: str
     report: str = ""
@@ -57,6 +58,8 @@ OPTIONS = {
     "--workers": Option("COUNT", TEXTS["WORKERS_HELP"], "workers only scan. Loading an image of 4 MiB or more, checking locators and making "
                         "the texts use up to one thread per processor"),
     "--id": Option("ID", TEXTS["ID_HELP"], "the digits in either case"),
+    "--partial": Option("", TEXTS["PARTIAL_HELP"], "[which files and lines](#all-shards)"),
+    "--run": Option("EXTENT:OFFSET", TEXTS["RUN_HELP"], "may be repeated: [what it says](#runs-that-are-given)", True),
     "--reset": Option("EXTENT", TEXTS["RESET_HELP"], "may be repeated: of [`manifest`](#the-manifest) and of [`compare`](#two-images)", True),
     "--accept": Option("LINE", TEXTS["ACCEPT_HELP"], "may be [repeated](#what-reclaimable-prints)", True),
     "--last": Option("G", TEXTS["LAST_HELP"], "[what it says](#the-last-superblock)"),
@@ -74,15 +77,16 @@ WHOLE = "the {} is whole all the same"
 COMMANDS = {
     "summary": Command("the verdict is `sound`", "else; " + WHOLE.format("text"), own=("--workers", "--last")),
     "scan": Command("`clean` is true", "it is false", own=WORKERS),
-    "shard": Command("all bytes are written, whatever else is wrong with the disk",
-        "a newer superblock or entry may be lost, or there is a tie; or nothing is written, as there is no such shard or a payload is lost",
-        own=("--workers", "--id"), required=("--id",)),
+    "shard": Command("all bytes are written, and the error stream has no line; the disk may have other faults",
+        "all bytes are written, but a newer superblock or entry may be lost, or there is a tie; or nothing is written, as there is no such "
+        "shard or a payload is lost", own=("--workers", "--id", "--run"), required=("--id",)),
     "shards": Command("the archive has each shard, and the error stream has no line",
-        "the archive is written, and the error stream has lines", own=WORKERS),
+        "the archive is written, and the error stream has lines", own=("--workers", "--partial", "--run")),
     "index": Command("clean", "findings; " + WHOLE.format("index"), True, WORKERS),
     "locators": Command("clean", "findings; " + WHOLE.format("list"), own=WORKERS),
-    "manifest": Command("there is a superblock, no run is lost or hidden, each locator is sound, and the error stream has no line",
-        "else; " + WHOLE.format("text"), True, ("--workers", "--reset")),
+    "manifest": Command("there is a superblock or `--run`, no run is lost or hidden, each locator is sound, and the error stream has no line",
+        "else; " + WHOLE.format("text"), True, ("--workers", "--reset", "--run")),
+    "runs": Command("each page of the disk can be read", "a page can't be read: a run with bytes of it isn't listed", True, WORKERS),
     "reclaimable": Command("no line begins with `doubt`; there may be nothing to reclaim, and the disk may have other faults",
         "a line begins with `doubt`", True, ("--workers", "--accept", "--last")),
     "compare": Command("the last line is `safe`", "it is `unsafe`; " + WHOLE.format("text"), True, ("--workers", "--reset"),
@@ -110,8 +114,13 @@ def arguments_of(command):
 
 
 def plain(text):
-    """A text without the marks, as the help has it."""
-    return text.replace("`", "")
+    """A text as the help has it: words of the output in single quotes, options as they are."""
+    return re.sub("`(--[^`]*)`", r"\1", text).replace("`", "'")
+
+
+def written_option(name, mark):
+    """An option with its value, if it isn't a flag."""
+    return name + f"{mark}{OPTIONS[name].value}" * (OPTIONS[name].value != "")
 
 
 def help_of(name, command):
@@ -145,9 +154,9 @@ def option_table():
     rows = ["| Option | Commands | More |", "|---|---|---|"]
     given = listed(name for name, one in COMMANDS.items() if one.sizes)
     for name, option in OPTIONS.items():
-        if option.value and name not in SIZES[1:]:
+        if name.startswith("--") and name not in SIZES[1:]:
             names = SIZES if name == SIZES[0] else (name,)
-            written = ", ".join(f"`{one} {OPTIONS[one].value}`" for one in names)
+            written = ", ".join(f"`{written_option(one, ' ')}`" for one in names)
             rows.append(f"| {written} | {takers(name)} | {option.report.format(given=given)} |")
     return rows
 

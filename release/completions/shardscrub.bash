@@ -1,14 +1,14 @@
 # Completions of shardscrub for bash. tools/options.py makes this file.
 
 _shardscrub() {
-    local commands="summary scan shard shards index locators manifest reclaimable compare superblocks sizes items demo help" word=${COMP_WORDS[COMP_CWORD]} command="" options="" repeated="--reset --accept" given=" "
+    local commands="summary scan shard shards index locators manifest runs reclaimable compare superblocks sizes items demo help" word=${COMP_WORDS[COMP_CWORD]} command="" options="" repeated="--run --reset --accept" flags="--partial" given=" "
     local -i images=0 places=0 i
     local option="" one
     for ((i = 1; i < COMP_CWORD; i++)); do
         one=${COMP_WORDS[i]}
         if [[ $option && $one = "=" ]]; then continue; fi
         if [[ $option ]]; then option=""
-        elif [[ $one = --help || $one = --version ]]; then given+="$one "
+        elif [[ $one = --help || $one = --version || " $flags " = *" $one "* ]]; then given+="$one "
         elif [[ $one = --* ]]; then option=$one given+="$one "
         elif [[ $one = -* ]]; then continue
         elif [[ ! $command ]]; then command=$one
@@ -21,11 +21,12 @@ _shardscrub() {
         help) options=$commands; if ((places > 0)); then options=""; fi ;;
         summary) options="--page --pages --extents --workers --last --map --help" images=1 ;;
         scan) options="--page --pages --extents --workers --map --help" images=1 ;;
-        shard) options="--page --pages --extents --workers --id --map --help" images=1 ;;
-        shards) options="--page --pages --extents --workers --map --help" images=1 ;;
+        shard) options="--page --pages --extents --workers --id --run --map --help" images=1 ;;
+        shards) options="--page --pages --extents --workers --partial --run --map --help" images=1 ;;
         index) options="--page --pages --extents --workers --map --help" images=1 ;;
         locators) options="--page --pages --extents --workers --map --help" images=1 ;;
-        manifest) options="--page --pages --extents --workers --reset --map --help" images=1 ;;
+        manifest) options="--page --pages --extents --workers --reset --run --map --help" images=1 ;;
+        runs) options="--page --pages --extents --workers --map --help" images=1 ;;
         reclaimable) options="--page --pages --extents --workers --accept --last --map --help" images=1 ;;
         compare) options="--page --pages --extents --workers --reset --map --help" images=2 ;;
         superblocks) options="--page --pages --extents --map --help" images=1 ;;

@@ -10,13 +10,14 @@ use Rattle.clap.specs.Words.{IsSignedIn, without_minus, Row, Rule, Text, first_o
 use Rattle.clap.specs.Kinds.{check_kinds}
 use Rattle.clap.specs.Simple.{Shape, rows_at}
 use Rattle.clap.specs.Takes.{is_given}
-use Rattle.clap.specs.Walk.{arg_by_id, finished, nothing_held, row_text, settled, walk, walk_from}
+use Rattle.clap.specs.Values.{bool_text}
+use Rattle.clap.specs.Walk.{arg_by_id, finished, is_empty, nothing_held, row_text, settled, walk, walk_from}
 use Rattle.clap.specs.Faults.{check_fault, defaults_fault, settle_fault, walk_fault}
-use Rattle.clap.specs.declared.builder.value_parser.ValueParser.TheVariants.{Signed}
+use Rattle.clap.specs.declared.builder.value_parser.ValueParser.TheVariants.{Signed, Bool as bool_parser}
 use Rattle.clap_walk.specs.Rows.{EachRow, HasNumberTo, IsSound}
 use Rattle.clap_walk.specs.Rules.{AreClean, AreUsual, IsUsual}
 use Rattle.clap_walk.proofs.Walks.{parts, settled_keeps, walk_keeps}
-use Rattle.clap_walk.proofs.Values.{given_row, no_defaults, number_there, text_there, use_keeps}
+use Rattle.clap_walk.proofs.Values.{default_there, defaults_keep, flag_there, given_row, number_there, row_there, text_there, use_keeps}
 
 -- the rows of a command's arguments without a fault
 pub rows_sound : (s : Shape) → AreUsual s.rules → (words : List Text) → AreClean s words
@@ -31,10 +32,10 @@ rows_sound s usual words clean =
     parts (defaults_fault (settled s.rules end).rows s.rules) (check_fault s (finished s.rules end) false) settles.1 in
     let keeps = use_keeps s.rules again in
     let walked =
-    walk_keeps s (EachRow (IsSound s.rules)) (IsUsual s.rules) usual.0 keeps [] (walk_from nothing_held) words tt
+    walk_keeps s (EachRow (IsSound s.rules)) (IsUsual s.rules) usual keeps [] (walk_from nothing_held) words tt
     walks.0 in
-    let rows = settled_keeps s (EachRow (IsSound s.rules)) (IsUsual s.rules) usual.0 keeps end walked settles.0 in
-    (subst (EachRow (IsSound s.rules)) (sym (no_defaults s.rules (settled s.rules end).rows usual.1)) rows, defaults.1)
+    let rows = settled_keeps s (EachRow (IsSound s.rules)) (IsUsual s.rules) usual keeps end walked settles.0 in
+    (defaults_keep s.rules s.rules (settled s.rules end).rows usual rows defaults.0, defaults.1)
 
 -- If no fault says that an argument is missing, one that is required is given.
 required_given : (s : Shape) (rows : List Row) → check_fault s rows false ≡ [] → (name : Text) (a : Rule) →
@@ -74,6 +75,11 @@ IsNumberRule c most name =
 abbrev pub IsRequiredRule : List Rule → Text → Type 0
 IsRequiredRule c name = (a : Rule) × (arg_by_id c name ≡ Some a) × (a.required ≡ true)
 
+-- The rule with this name is a flag: true or false, and by default one of these.
+abbrev pub IsFlagRule : List Rule → Text → Type 0
+IsFlagRule c name =
+    (a : Rule) × (arg_by_id c name ≡ Some a) × (a.parser ≡ Some bool_parser) × (is_empty a.defaults ≡ false)
+
 module _ (s : Shape) (usual : AreUsual s.rules) (words : List Text) (clean : AreClean s words) where
   -- An argument that is required has a first value.
   pub has_text : (name : Text) → IsRequiredRule s.rules name → (text : Text) × (first_of name (rows_at s words).1 ≡ Some text)
@@ -82,6 +88,14 @@ module _ (s : Shape) (usual : AreUsual s.rules) (words : List Text) (clean : Are
       let given = required_given s (rows_at s words).1 known.1 name r.0 r.1 r.2 in
       let row = given_row _ name (rows_at s words).1 given (text_there s.rules name r.0 (rows_at s words).1 known.0 r.1) in
       (row.2.0, ap (option_and_then (λ (r : Row). slice_get r.values 0)) row.1 ∙ row.2.1)
+
+  -- A flag is true or false.
+  pub has_flag : (name : Text) → IsFlagRule s.rules name → (b : Bool) × (one_of name (rows_at s words).1 ≡ Some (bool_text b))
+  has_flag name r =
+      let known = rows_sound s usual words clean in
+      let there = default_there name r.0 s.rules (settled s.rules (walk s.rules [] nothing_held words).held).rows r.1 r.3 in
+      let row = row_there _ name (rows_at s words).1 there (flag_there s.rules name r.0 (rows_at s words).1 known.0 r.1 r.2) in
+      (row.2.0, ap (option_and_then row_text) row.1 ∙ row.2.1)
 
   module _ (most : ℕ) (name : Text) (r : IsNumberRule s.rules most name) where
     -- An argument for a number has no value, or a whole number from 0 to `most`.

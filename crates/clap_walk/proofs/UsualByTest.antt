@@ -1,16 +1,15 @@
 -- A test of a table of rules that computes, so that `refl` proves that a table is usual.
-use Rattle.std.proofs.Common.{◌≡◌, ◌⊎◌, ◌∙◌, ◌==◌, ◌&&◌, inl, inr, Bool, true, false, List, [], ◌∷◌, Some, refl, ap, not}
-use Rattle.std.specs.Prelude.{if◌then◌else◌, ◌||◌, length}
+use Rattle.std.proofs.Common.{◌≡◌, ◌⊎◌, ◌∙◌, ◌==◌, ◌≢◌, ◌&&◌, inl, inr, Bool, true, false, List, [], ◌∷◌, Some, refl, ap, not}
+use Rattle.std.specs.Prelude.{if◌then◌else◌, ◌||◌}
 use Rattle.std.specs.List.{list_all, list_any}
 use Rattle.std.specs.Str.{bytes_eq}
 use Rattle.std.proofs.lemmas.Bool.{and_parts, eqb-true, false≢true, not-true, or_cases, or_parts}
-use Rattle.std.proofs.lemmas.List.{nil_from_length}
 use Rattle.std.proofs.lemmas.Slice.Eq.{bytes_eq-Decides}
 use Rattle.clap.specs.Facts.{unwrap_or_range}
-use Rattle.clap.specs.Walk.{Rule, Text, action_of, arg_by_id, most_values}
+use Rattle.clap.specs.Walk.{Rule, Text, action_of, arg_by_id, is_empty, most_values}
 use Rattle.clap.specs.declared.builder.action.ArgAction.{ArgAction}
-use Rattle.clap.specs.declared.builder.action.ArgAction.TheVariants.{Set, Append, Help}
-use Rattle.clap_walk.specs.Rules.{AreUsual, EachRule, IsUsual}
+use Rattle.clap.specs.declared.builder.action.ArgAction.TheVariants.{Set, Append, SetTrue, Help}
+use Rattle.clap_walk.specs.Rules.{AreUsual, EachRule, HasValueOfUse, IsUsual, KeepsValues}
 
 -- ---- each rule is found by its name
 
@@ -35,20 +34,22 @@ each_found c seen (a ∷ more) same distinct =
 
 -- ---- what a rule takes
 
--- an action that takes values
-abbrev takes_value : ArgAction → Bool
-takes_value Set = true
-takes_value Append = true
-takes_value _ = false
+-- an action that keeps values
+abbrev keeps_values : ArgAction → Bool
+keeps_values Set = true
+keeps_values SetTrue = true
+keeps_values Append = true
+keeps_values _ = false
 
 abbrev asks_help : ArgAction → Bool
 asks_help Help = true
 asks_help _ = false
 
-takes : (x : ArgAction) → takes_value x ≡ true → (x ≡ Set) ⊎ (x ≡ Append)
-takes Set is = inl refl
-takes Append is = inr refl
-takes _ is = absurd (false≢true is)
+keeps : (x : ArgAction) → keeps_values x ≡ true → KeepsValues x
+keeps Set is = inl refl
+keeps SetTrue is = inr (inl refl)
+keeps Append is = inr (inr refl)
+keeps _ is = absurd (false≢true is)
 
 asks : (x : ArgAction) → asks_help x ≡ true → x ≡ Help
 asks Help is = refl
@@ -56,29 +57,41 @@ asks _ is = absurd (false≢true is)
 
 -- the rule takes one value at each use
 abbrev takes_one : Rule → Bool
-takes_one a = takes_value (action_of a) && ((unwrap_or_range a.range).start_inclusive == 1 && most_values a == 1)
+takes_one a = (unwrap_or_range a.range).start_inclusive == 1 && most_values a == 1
 
--- the rule asks for help or takes one value at each use, and has no default
+-- there is a value of each use
+abbrev has_value : Rule → Bool
+has_value a = takes_one a || not (is_empty a.missing)
+
+some_missing : (missing : List Text) → not (is_empty missing) ≡ true → missing ≢ []
+some_missing [] is none = absurd (false≢true is)
+some_missing (v ∷ vs) is none = cc
+
+value_of_use : (a : Rule) → has_value a ≡ true → HasValueOfUse a
+value_of_use a is = elim (or_cases (takes_one a) (not (is_empty a.missing)) is) [
+  | inl one ↦
+      let both = and_parts ((unwrap_or_range a.range).start_inclusive == 1) (most_values a == 1) one in
+      inl (eqb-true (unwrap_or_range a.range).start_inclusive 1 both.0, eqb-true (most_values a) 1 both.1)
+  | inr some ↦ inr (some_missing a.missing some)
+]
+
+-- the rule asks for help, or is an option or a flag with a value of each use
 abbrev is_plain : Rule → Bool
-is_plain a = (asks_help (action_of a) || takes_one a) && length a.defaults == 0
+is_plain a = asks_help (action_of a) || (keeps_values (action_of a) && has_value a)
 
 each_plain : (c rest : List Rule) → EachRule (λ a. arg_by_id c a.id ≡ Some a) rest → list_all is_plain rest ≡ true →
-    EachRule (IsUsual c) rest × EachRule (λ a. a.defaults ≡ []) rest
-each_plain c [] found plain = (tt, tt)
+    EachRule (IsUsual c) rest
+each_plain c [] found plain = tt
 each_plain c (a ∷ more) found plain =
     let two = and_parts (is_plain a) (list_all is_plain more) plain in
-    let own = and_parts (asks_help (action_of a) || takes_one a) (length a.defaults == 0) two.0 in
-    let later = each_plain c more found.1 two.1 in
-    (((found.0, action own.0), later.0), (nil_from_length a.defaults (eqb-true (length a.defaults) 0 own.1), later.1))
+    ((found.0, action two.0), each_plain c more found.1 two.1)
   where
-    action : (asks_help (action_of a) || takes_one a) ≡ true →
-        (action_of a ≡ Help) ⊎ (((action_of a ≡ Set) ⊎ (action_of a ≡ Append)) × ((unwrap_or_range a.range).start_inclusive ≡ 1) × (most_values a ≡ 1))
-    action is = elim (or_cases (asks_help (action_of a)) (takes_one a) is) [
+    action : is_plain a ≡ true → (action_of a ≡ Help) ⊎ (KeepsValues (action_of a) × HasValueOfUse a)
+    action is = elim (or_cases (asks_help (action_of a)) (keeps_values (action_of a) && has_value a) is) [
       | inl help ↦ inl (asks (action_of a) help)
-      | inr one ↦
-          let first = and_parts (takes_value (action_of a)) ((unwrap_or_range a.range).start_inclusive == 1 && most_values a == 1) one in
-          let both = and_parts ((unwrap_or_range a.range).start_inclusive == 1) (most_values a == 1) first.1 in
-          inr (takes (action_of a) first.0, eqb-true (unwrap_or_range a.range).start_inclusive 1 both.0, eqb-true (most_values a) 1 both.1)
+      | inr takes ↦
+          let both = and_parts (keeps_values (action_of a)) (has_value a) takes in
+          inr (keeps (action_of a) both.0, value_of_use a both.1)
     ]
 
 -- ---- the test

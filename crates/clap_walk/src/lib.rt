@@ -1,5 +1,5 @@
-//! Facts about every walk of `clap` over arguments, for any table of options that each take one value and
-//! have no default: lemmas for the crates above, and a law. This crate knows nothing of disks or of the
+//! Facts about every walk of `clap` over arguments, for any table of options that take one value at a time,
+//! and of flags: lemmas for the crates above, and a law. This crate knows nothing of disks or of the
 //! program's commands.
 #![tactic(auto)]
 

@@ -10,21 +10,22 @@ use Rattle.std.specs.declared.num.ParseIntError.{ParseIntError}
 use Rattle.std.proofs.lemmas.Option.{same_Some}
 use Rattle.clap.proofs.CallerReads.{signed_reads}
 use Rattle.std.proofs.Common.{arith, codes}
-use Rattle.clap.specs.Words.{IsAmong, ReadsOne, Row, Text, without_minus, fault_of, one_of, one_text, rows_of, subcommand_of}
+use Rattle.clap.specs.Words.{IsAmong, ReadsOne, Row, Text, without_minus, all_of, fault_of, matched_of, one_of, one_text, raw_values, rows_of, subcommand_of}
 use Rattle.clap.specs.declared.parser.matches.Found.{Found}
+use Rattle.clap.specs.declared.parser.matches.MatchedArg.{MatchedArg}
 use Rattle.clap.specs.declared.error.kind.ErrorKind.{ErrorKind}
 use Rattle.clap.specs.declared.error.kind.ErrorKind.TheVariants.{DisplayVersion, OutOfMemory as no_memory}
 use Rattle.clap.proofs.OnLiterals.{clap_on_literals}
-use Rattle.clap.proofs.WalkLemmas.{one_text-rows}
+use Rattle.clap.proofs.WalkLemmas.{one_text-rows, raw_values-rows}
 use Rattle.clap_walk.specs.Rows.{HasNumberTo}
 use Rattle.scrub_args.specs.declared.args.Wanted.{Wanted}
-use Rattle.scrub_args.specs.declared.args.Wanted.TheVariants.{Report, Index, Locators, Shards, Summary, Reclaimable}
+use Rattle.scrub_args.specs.declared.args.Wanted.TheVariants.{Report, Index, Locators, Runs, Summary, Reclaimable}
 use Rattle.scrub_args.specs.declared.args.ArgsFault.{ArgsFault}
 use Rattle.scrub_args.specs.declared.args.ArgsFault.TheVariants.{Refused, Help, OutOfMemory}
 use Rattle.scrub_args.specs.CommandLine.{shardscrub_app}
 use Rattle.scrub_args.specs.steps.Parsed.{ComesOf, HasNumber, HasScan, HasNeeds, IsWholeCommand, IsWholeParse, MayHaveLongNumber, is_dated_command, is_disk_command}
 use Rattle.scrub_args.specs.Accepting.{first_unacceptable, refusal_of}
-use Rattle.scrub_args.specs.Args.{AreSizesGiven, AskForVersion, HasPartOfSizes, IsTextFault, IsNumberOf, IsPartFault, IsRefusal, IsRowsFault, IsArgsFault, IsWorkersOf, RefusesRows, accepted_of, command_of, part_text}
+use Rattle.scrub_args.specs.Args.{AreSizesGiven, AskForVersion, HasPartOfSizes, IsTextFault, IsManifestFault, IsNumberOf, IsPartFault, IsRefusal, IsRowsFault, IsArgsFault, IsWorkersOf, RefusesRows, accepted_of, both_text, command_of, has_runs_and_resets, part_text}
 use Rattle.scrub_args.specs.declared.args.GivenSizes.{GivenSizes}
 
 -- what `parse` gives for a text as a number of 32 bits
@@ -145,8 +146,29 @@ part_fault found OutOfMemory part refused = tt
 pub part_fault_of_rows : (name : Text) (found : List Row) (command : Option (Text × List Row)) (fault : ArgsFault) →
     command ≡ Some (name, found) → IsPartFault found fault → IsRowsFault command fault
 part_fault_of_rows name found command (Help text) is why = absurd why
-part_fault_of_rows name found command (Refused text) is why = inr (name, found, is, why)
+part_fault_of_rows name found command (Refused text) is why = inr (inl (name, found, is, why))
 part_fault_of_rows name found command OutOfMemory is why = tt
+
+-- the refusal of index runs beside extents to be taken as reset
+pub both_fault : (found : List Row) (fault : ArgsFault) → has_runs_and_resets found ≡ true → IsRefusal both_text fault →
+    IsManifestFault found fault
+both_fault found (Help text) both refused = absurd refused
+both_fault found (Refused text) both refused = inr (both, refused)
+both_fault found OutOfMemory both refused = tt
+
+-- a fault of the sizes is one of `manifest`
+pub part_fault_of_manifest : (found : List Row) (fault : ArgsFault) → IsPartFault found fault → IsManifestFault found fault
+part_fault_of_manifest found (Help text) why = absurd why
+part_fault_of_manifest found (Refused text) why = inl why
+part_fault_of_manifest found OutOfMemory why = tt
+
+-- a fault of `manifest` is one of its command
+pub manifest_fault_of_rows : (found : List Row) (command : Option (Text × List Row)) (fault : ArgsFault) →
+    command ≡ Some (codes "manifest", found) → IsManifestFault found fault → IsRowsFault command fault
+manifest_fault_of_rows found command (Help text) is why = absurd why
+manifest_fault_of_rows found command (Refused text) is (inl part) = inr (inl (codes "manifest", found, is, part))
+manifest_fault_of_rows found command (Refused text) is (inr both) = inr (inr (found, is, both))
+manifest_fault_of_rows found command OutOfMemory is why = tt
 
 -- texts that were found, or none
 pub texts_or_none : (o : Option (Bor (List (Bor Text)))) (r : Bor (List (Bor Text))) (found : Option (List Text)) →
@@ -154,6 +176,14 @@ pub texts_or_none : (o : Option (Bor (List (Bor Text)))) (r : Bor (List (Bor Tex
     → UnwrapsOrElse o (λ s. s.now ≡ []) r → map (λ v. v.now) r.now ≡ unwrap_or found []
 texts_or_none None r found is default = rw (← is, default) refl
 texts_or_none (Some s) r found is default = rw (← is, default) refl
+
+-- A value was found for an option if it has values.
+pub found_is : (f : Found) (name : Text) → is_some (matched_of f name) ≡ is_some (all_of name (rows_of f))
+found_is f name = mapped (matched_of f name) ∙ ap (λ (o : Option (List Text)). is_some o) (raw_values-rows f name)
+  where
+    mapped : (o : Option MatchedArg) → is_some o ≡ is_some (option_map raw_values o)
+    mapped None = refl
+    mapped (Some m) = refl
 
 -- To map an option by `g` and then by `f` is to map it by `f (g x)`.
 pub twice : {A B C : Type 0} (f : B → C) (g : A → B) (o : Option A) →
@@ -189,7 +219,7 @@ module _ (command : Option (Text × List Row)) (name : Text) (found : List Row) 
       go Report has = has
       go Index has = has
       go Locators has = has
-      go Shards has = has
+      go Runs has = has
       go (Summary last) has = has.scan
       go (Reclaimable accepted last) has = has.scan
 
@@ -198,7 +228,7 @@ module _ (command : Option (Text × List Row)) (name : Text) (found : List Row) 
   last_of_whole dated = go (is_dated_command name) dated (met_whole name refl)
     where
       go : (b : Bool) → b ≡ true →
-          HasNeeds b (is_disk_command name) (bytes_eq name (codes "manifest")) (bytes_eq name (codes "compare")) (bytes_eq name (codes "shard")) (bytes_eq name (codes "superblocks")) (bytes_eq name (codes "sizes")) (bytes_eq name (codes "items")) (bytes_eq name (codes "demo")) found
+          HasNeeds b (is_disk_command name) (bytes_eq name (codes "manifest")) (bytes_eq name (codes "compare")) (bytes_eq name (codes "shard")) (bytes_eq name (codes "shards")) (bytes_eq name (codes "superblocks")) (bytes_eq name (codes "sizes")) (bytes_eq name (codes "items")) (bytes_eq name (codes "demo")) found
           → MayHaveLongNumber found (codes "last")
       go true e needs = needs.last
       go false e needs = absurd (false≢true e)

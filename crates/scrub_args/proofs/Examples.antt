@@ -1,11 +1,11 @@
 -- What the definitions find in worked arguments: the example of the help of `items`, refusals, help and version.
-use Rattle.std.proofs.Common.{◌≡◌, List, [], ◌∷◌, ◌++◌, None, Some, refl, codes, Option, inl}
+use Rattle.std.proofs.Common.{◌≡◌, List, [], ◌∷◌, ◌++◌, None, Some, refl, codes, Option, inl, true}
 use Rattle.std.specs.Prelude.{option_map}
 use Rattle.clap.specs.Words.{Row, Text, all_of, fault_of, first_of, many_of, one_of, subcommand_of, without_minus}
 use Rattle.clap.proofs.OnLiterals.{clap_on_literals}
-use Rattle.clap.specs.declared.error.kind.ErrorKind.TheVariants.{DisplayHelp, DisplayVersion, InvalidSubcommand, MissingRequiredArgument, UnknownArgument, ValueValidation}
+use Rattle.clap.specs.declared.error.kind.ErrorKind.TheVariants.{ArgumentConflict, DisplayHelp, DisplayVersion, InvalidSubcommand, MissingRequiredArgument, TooManyValues, UnknownArgument, ValueValidation}
 use Rattle.scrub_args.specs.declared.args.Request.TheVariants.{Demo}
-use Rattle.scrub_args.specs.Args.{NameCommand}
+use Rattle.scrub_args.specs.Args.{NameCommand, has_runs_and_resets}
 use Rattle.scrub_args.specs.CommandLine.{shardscrub_app}
 
 abbrev example : List Text
@@ -112,3 +112,44 @@ resets_are_found = refl
 pub no_number_to_reset : fault_of shardscrub_app (manifest_with (codes "x")) ≡ ValueValidation ∷ []
 unfolding clap_on_literals
 no_number_to_reset = refl
+
+-- a flag that is given, and one that isn't, with places of index runs before the image and after it
+abbrev shards_with : List Text → List Text
+shards_with flags = codes "shards" ∷ codes "--run=2:41" ∷ (flags ++ codes "x" ∷ codes "--run" ∷ codes "3:0" ∷ [])
+
+pub runs_are_found :
+    option_map (λ p. all_of (codes "run") p.1) (subcommand_of shardscrub_app (shards_with []))
+    ≡ Some (Some (codes "2:41" ∷ codes "3:0" ∷ []))
+unfolding clap_on_literals
+runs_are_found = refl
+
+pub no_flag_is_found :
+    option_map (λ p. one_of (codes "partial") p.1) (subcommand_of shardscrub_app (shards_with [])) ≡ Some (Some (codes "false"))
+unfolding clap_on_literals
+no_flag_is_found = refl
+
+pub flag_is_found :
+    option_map (λ p. one_of (codes "partial") p.1) (subcommand_of shardscrub_app (shards_with (codes "--partial" ∷ [])))
+    ≡ Some (Some (codes "true"))
+unfolding clap_on_literals
+flag_is_found = refl
+
+-- no fault, a flag that is given twice, and one with a value
+pub flag_is_clean : fault_of shardscrub_app (shards_with (codes "--partial" ∷ [])) ≡ []
+unfolding clap_on_literals
+flag_is_clean = refl
+
+pub flag_twice : fault_of shardscrub_app (shards_with (codes "--partial" ∷ codes "--partial" ∷ [])) ≡ ArgumentConflict ∷ []
+unfolding clap_on_literals
+flag_twice = refl
+
+pub flag_with_value : fault_of shardscrub_app (shards_with (codes "--partial=1" ∷ [])) ≡ TooManyValues ∷ []
+unfolding clap_on_literals
+flag_with_value = refl
+
+-- index runs beside extents to be taken as reset: no fault for `clap`, but the values show both
+pub both_are_found :
+    option_map (λ p. has_runs_and_resets p.1) (subcommand_of shardscrub_app (codes "manifest" ∷ codes "--page=64" ∷ codes "--pages=4"
+    ∷ codes "--extents=3" ∷ codes "--reset=1" ∷ codes "--run=2:41" ∷ codes "x" ∷ [])) ≡ Some true
+unfolding clap_on_literals
+both_are_found = refl

@@ -13,10 +13,10 @@ use Rattle.clap.proofs.OnLiterals.{clap_on_literals}
 use Rattle.clap_walk.specs.Rows.{EachRow, IsSound}
 use Rattle.clap_walk.specs.Rules.{AreClean}
 use Rattle.clap_walk.proofs.Walks.{IsNoHelp, parts, walk_stops}
-use Rattle.clap_walk.proofs.Given.{IsRequiredRule, has_number, has_text, may_have_number, rows_sound}
+use Rattle.clap_walk.proofs.Given.{IsRequiredRule, has_flag, has_number, has_text, may_have_number, rows_sound}
 use Rattle.clap_walk.proofs.UsualByTest.{are_usual, usual_by_test}
-use Rattle.scrub_args.specs.CommandLine.{accept_rule, compare_shape, id_rule, image_rules, images_rules, items_shape, last_rule, manifest_shape, option, reclaimable_shape, required, reset_rule, shard_shape, shardscrub_app, sizes_shape, summary_shape, superblocks_shape, workers_rule}
-use Rattle.scrub_args.specs.steps.Parsed.{HasCompare, HasDated, HasImage, HasImageName, HasItems, HasManifest, HasScan, HasShard, IsWholeCommand, IsWholeParse}
+use Rattle.scrub_args.specs.CommandLine.{accept_rule, compare_shape, id_rule, image_rules, images_rules, items_shape, last_rule, manifest_shape, option, partial_rule, reclaimable_shape, required, reset_rule, run_rule, shard_shape, shards_shape, shardscrub_app, sizes_shape, summary_shape, superblocks_shape, workers_rule}
+use Rattle.scrub_args.specs.steps.Parsed.{HasCompare, HasDated, HasImage, HasImageName, HasItems, HasManifest, HasScan, HasShard, HasShards, IsWholeCommand, IsWholeParse}
 use Rattle.scrub_args.proofs.LongNumbers.{may_have_long}
 use Rattle.scrub_args.proofs.Numbers.{has_numbers}
 
@@ -81,7 +81,7 @@ plain_whole name sized = scan_whole name sized [] image_rules refl (_, refl, ref
 manifest_whole : Has HasManifest (leaf manifest_shape)
 unfolding clap_on_literals
 manifest_whole args clean = record {
-  scan = scan_whole (codes "manifest") true (reset_rule ∷ []) image_rules refl (_, refl, refl) args clean;
+  scan = scan_whole (codes "manifest") true (reset_rule ∷ run_rule ∷ []) image_rules refl (_, refl, refl) args clean;
   resets = has_numbers (leaf manifest_shape).rules _ (sound (leaf manifest_shape) refl args clean) (codes "reset") _ refl refl refl;
 }
 
@@ -112,8 +112,15 @@ reclaimable_whole args clean = record {
 shard_whole : Has HasShard (leaf shard_shape)
 unfolding clap_on_literals
 shard_whole args clean = record {
-  scan = scan_whole (codes "shard") false (id_rule ∷ []) image_rules refl (_, refl, refl) args clean;
+  scan = scan_whole (codes "shard") false (id_rule ∷ run_rule ∷ []) image_rules refl (_, refl, refl) args clean;
   id = has_text (leaf shard_shape) (usual_by_test (leaf shard_shape).rules refl) args clean (codes "id") (_, refl, refl);
+}
+
+shards_whole : Has HasShards (leaf shards_shape)
+unfolding clap_on_literals
+shards_whole args clean = record {
+  scan = scan_whole (codes "shards") false (partial_rule ∷ run_rule ∷ []) image_rules refl (_, refl, refl) args clean;
+  partial = has_flag (leaf shards_shape) (usual_by_test (leaf shards_shape).rules refl) args clean (codes "partial") (_, refl, refl, refl);
 }
 
 superblocks_whole : Has HasImage (leaf superblocks_shape)
@@ -170,7 +177,7 @@ unfolding clap_on_literals
 stop_whole None other clean = tt
 stop_whole (Some p) other clean =
     named_whole p.0 p.1 (built shardscrub_app).subs
-    ((λ is. summary_whole p.1), ((λ is. plain_whole (codes "scan") false p.1), ((λ is. shard_whole p.1), ((λ is. plain_whole (codes "shards") false p.1), ((λ is. plain_whole (codes "index") true p.1), ((λ is. plain_whole (codes "locators") false p.1), ((λ is. manifest_whole p.1), ((λ is. reclaimable_whole p.1), ((λ is. compare_whole p.1), ((λ is. superblocks_whole p.1), ((λ is. sizes_whole p.1), ((λ is. items_whole p.1), ((λ is clean. tt), ((λ is clean. absurd (no_help is)), tt))))))))))))))
+    ((λ is. summary_whole p.1), ((λ is. plain_whole (codes "scan") false p.1), ((λ is. shard_whole p.1), ((λ is. shards_whole p.1), ((λ is. plain_whole (codes "index") true p.1), ((λ is. plain_whole (codes "locators") false p.1), ((λ is. manifest_whole p.1), ((λ is. plain_whole (codes "runs") true p.1), ((λ is. reclaimable_whole p.1), ((λ is. compare_whole p.1), ((λ is. superblocks_whole p.1), ((λ is. sizes_whole p.1), ((λ is. items_whole p.1), ((λ is clean. tt), ((λ is clean. absurd (no_help is)), tt)))))))))))))))
     clean
   where
     no_help : (bytes_eq (codes "help") p.0 || false) ≡ true → ⊥

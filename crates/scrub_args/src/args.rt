@@ -404,7 +404,8 @@ fn given_texts<'a>(
 ) -> Result<Vec<&'a str>, AllocError>
     ensures { IfOk result (λ given. AreTextsOf (rows_of (found_of matches.now)) name.now given.items) }
 {
-    Vec::from_slice(alloc, matches.get_strs(name).unwrap_or_default())
+    let given = matches.get_strs(name).unwrap_or_default();
+    Vec::from_slice(alloc, given)
 }
 
 /// The extents to be taken as reset, ascending, each once.

@@ -1,4 +1,5 @@
 -- For public clauses.
+pub mod FoundRuns
 pub mod Locators
 pub mod Remarks
 pub mod Manifest

@@ -1,7 +1,8 @@
-//! A disk as lines: its named locators, its superblocks, what it holds wherever that lies, its summary, and
-//! the superblock records of a raw image of any sizes.
+//! A disk as lines: its named locators, its superblocks, what it holds wherever that lies, its summary, its
+//! index runs wherever they lie, and the superblock records of a raw image of any sizes.
 #![tactic(auto)]
 
+pub mod found_runs;
 pub mod listing;
 pub mod manifest;
 pub mod remarks;
@@ -9,6 +10,9 @@ pub mod sizes_listing;
 pub mod summary;
 pub mod superblocks;
 
+pub use found_runs::{
+    a_listed_run_can_be_given, each_image_has_a_runs_listing, list_runs, one_runs_listing,
+};
 pub use listing::{Listing, each_image_has_a_locator_listing, list_locators, one_locator_listing};
 pub use manifest::{
     Manifest, each_image_has_a_manifest, list_manifest, list_manifest_by_runs, one_manifest,

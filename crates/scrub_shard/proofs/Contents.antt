@@ -1,5 +1,5 @@
 -- The bytes of a shard have the contents that its entry asks for.
-use Rattle.std.proofs.Common.{◌≡◌, ◌==◌, ◌&&◌, ◌∷◌, [], ℕ, Bool, true, false, List, MatchBool, map, length, if◌then◌else◌, arith, refl, sym, ◌∙◌, ap, subst}
+use Rattle.std.proofs.Common.{◌≡◌, ◌==◌, ◌&&◌, ◌∷◌, [], ℕ, Bool, true, false, List, MatchBool, Option, map, length, if◌then◌else◌, arith, refl, sym, ◌∙◌, ap, subst}
 use Rattle.std.proofs.Math.Path.{ap₂}
 use Rattle.std.specs.List.{All, AllZip, filter}
 use Rattle.std.specs.Str.{bytes_eq}
@@ -22,7 +22,7 @@ use Rattle.scrub_check.specs.ChunkRun.{HasPayloadThere}
 use Rattle.scrub_check.specs.Spares.{asks_for_spares, copies_of, frames, is_copy_of, spares_of}
 use Rattle.scrub_loose.specs.Loose.{copies_for, is_gone, loose_of}
 use Rattle.scrub_shard.specs.Bytes.{BytesValue}
-use Rattle.scrub_shard.specs.Shard.{HasContentOf, HasFirstPayload, HaveContentsOfEntry, IsPayloadFor, IsShardAnswer, asks_for_nothing}
+use Rattle.scrub_shard.specs.Shard.{HasContentOf, HasFirstPayload, HaveContentsOfEntryFrom, IsPayloadFor, IsShardAnswerFrom, asks_for_nothing}
 use Rattle.scrub_shard.specs.declared.shard.ShardAnswer.TheVariants.{Found}
 
 -- ---- the contents of a payload
@@ -73,7 +73,7 @@ of_nothing l payload asks none =
       digest_is = ap (λ (p : List ℕ). sha256 p) none ∙ sym ((bytes_eq-Decides l.digest (sha256 [])).0 parts.1);
     }
 
-content : (image : Image) (all : List Scanned) (loose : List Standing) (c : Checked) (payload : List ℕ) →
+pub content : (image : Image) (all : List Scanned) (loose : List Standing) (c : Checked) (payload : List ℕ) →
     IsPayloadFor image all loose c payload → HasContentOf c.locator payload
 content image all loose c payload = asked (asks_for_nothing c.locator) refl
   where
@@ -91,10 +91,10 @@ content image all loose c payload = asked (asks_for_nothing c.locator) refl
 
 -- ---- the locators of an entry
 
-abbrev named_by : ShardId → List Locator → List Named
+abbrev pub named_by : ShardId → List Locator → List Named
 named_by id ls = map (λ l. record { owner = Shard id; locator = l }) ls
 
-contents : (image : Image) (all : List Scanned) (loose : List Standing) (id : ShardId) (own : List Checked) (ls : List Locator)
+pub contents : (image : Image) (all : List Scanned) (loose : List Standing) (id : ShardId) (own : List Checked) (ls : List Locator)
     (ps : List (List ℕ)) → map named_of own ≡ named_by id ls → AllZip (IsPayloadFor image all loose) own ps → AllZip HasContentOf ls ps
 contents image all loose id [] [] ps same each = each
 contents image all loose id [] (l ∷ ls) ps same each = absurd (nil_has_no_first _ _ same)
@@ -108,9 +108,9 @@ contents image all loose id (c ∷ cs) (l ∷ ls) (p ∷ ps) same each = (
 -- ---- the law
 
 -- The bytes of a shard have the lengths and digests that its entry in the shard map asks for.
-pub bytes_are_asked_for : (image : Image) (id : ShardId) (found : BytesValue) → IsShardAnswer image id (Found found) →
-    HaveContentsOfEntry image id found.bytes
-bytes_are_asked_for image id found x =
+pub bytes_are_asked_for : (given : Option (List Locator)) (image : Image) (id : ShardId) (found : BytesValue) →
+    IsShardAnswerFrom given image id (Found found) → HaveContentsOfEntryFrom given image id found.bytes
+bytes_are_asked_for given image id found x =
     let b = x.answer.0 in
     let of_entry = x.answer.2 in
     let bytes = of_entry.answer.1 in

@@ -31,7 +31,7 @@ use Rattle.scrub_shard.proofs.Joined.{HasItsCopies}
 -- ---- the first that passes
 
 -- no element passes if there is no first that does
-none_passes : {X : Type 0} (p : X → Bool) (xs : List X) → position p xs ≡ None → All (λ x. p x ≡ false) xs
+pub none_passes : {X : Type 0} (p : X → Bool) (xs : List X) → position p xs ≡ None → All (λ x. p x ≡ false) xs
 none_passes {X} p xs none k d below = fails_before_first p xs k d (omega (arith, below, end (nat_lt (position_or_len p xs) (length xs)) refl none))
   where
     end : (b : Bool) → nat_lt (position_or_len p xs) (length xs) ≡ b → cond b (Some (position_or_len p xs)) None ≡ None →
@@ -82,7 +82,7 @@ same_lost all loose found own same =
     (same k d below))
 
 -- a locator that doesn't dangle is sound or hidden
-not_dangling : (s : Status) → is_dangling s ≡ false → (s ≡ Sound) ⊎ (s ≡ Hidden)
+pub not_dangling : (s : Status) → is_dangling s ≡ false → (s ≡ Sound) ⊎ (s ≡ Hidden)
 not_dangling OutOfRange e = absurd (false≢true (sym e))
 not_dangling Retired e = absurd (false≢true (sym e))
 not_dangling PastPointer e = absurd (false≢true (sym e))

@@ -1,5 +1,5 @@
 -- A payload is lost exactly if it is nowhere.
-use Rattle.std.proofs.Common.{◌≡◌, ◌↔◌, ◌<◌, ◌==◌, ◌&&◌, ◌++◌, ◌∷◌, [], ℕ, Bool, true, false, not, List, None, Some, cond, length, get_or, nat_lt, slice_get, if◌then◌else◌, arith, refl, sym, ◌∙◌, ap}
+use Rattle.std.proofs.Common.{◌≡◌, ◌↔◌, ◌<◌, ◌==◌, ◌&&◌, ◌++◌, ◌∷◌, [], ℕ, Bool, true, false, not, List, Option, None, Some, IfSome, cond, length, get_or, nat_lt, slice_get, if◌then◌else◌, arith, refl, sym, ◌∙◌, ap}
 use Rattle.std.proofs.Math.Path.{ap₂}
 use Rattle.std.specs.List.{Contains, filter, position, position_or_len}
 use Rattle.std.specs.Str.{bytes_eq}
@@ -14,12 +14,10 @@ use Rattle.list_facts.proofs.Bools.{false_from_not}
 use Rattle.list_facts.proofs.Elements.{Contains-filter, both_nil}
 use Rattle.list_facts.proofs.Filters.{filter_none}
 use Rattle.list_facts.proofs.Slices.{nil_from_no_length}
-use Rattle.scrub_disk.specs.declared.geometry.Geometry.{Geometry}
 use Rattle.scrub_disk.specs.Image.{Image}
+use Rattle.scrub_frame.specs.declared.locator.Locator.{Locator}
 use Rattle.scrub_super.specs.Plan.{PlanValue}
-use Rattle.scrub_super.specs.Planned.{extents_in_use}
-use Rattle.scrub_super.proofs.PlanParts.{plan_parts}
-use Rattle.scrub_super.proofs.PlansFit.{plan_fits}
+use Rattle.scrub_super.specs.steps.Limits.{AreRunLocators}
 use Rattle.scrub_scan.specs.declared.standing.Standing.{Standing}
 use Rattle.scrub_scan.specs.Scanned.{Scanned}
 use Rattle.scrub_scan.specs.Standing.{Stands}
@@ -29,21 +27,18 @@ use Rattle.scrub_check.specs.Checked.{AreChecked, is_dangling}
 use Rattle.scrub_check.specs.Named.{named_by_shard}
 use Rattle.scrub_check.specs.Spares.{asks_for_spares, copies_of, frames, is_copy_of, spares_of}
 use Rattle.scrub_check.specs.WholeScan.{IsWholeScan}
+use Rattle.scrub_found.proofs.GivenPlans.{plan_from_fits, whole_from}
 use Rattle.scrub_loose.specs.Loose.{AreLoose, LooseValue, copies_for, is_gone, loose_of}
 use Rattle.scrub_loose.proofs.LooseThere.{some_loose}
-use Rattle.scrub_shard.specs.Shard.{HasNone, IsInUse, IsLostInEntry, IsMapped, IsNowhere, IsShardAnswer, Mapped, asks_for_nothing, first_lost, is_payload_lost}
+use Rattle.scrub_shard.specs.Shard.{HasNone, IsInUse, IsLostInEntryFrom, IsMappedFrom, IsNowhere, IsShardAnswerFrom, Mapped, asks_for_nothing, first_lost, is_payload_lost}
 use Rattle.scrub_shard.specs.declared.shard.ShardAnswer.TheVariants.{PayloadLost}
 use Rattle.scrub_shard.proofs.Contents.{copy_from, copy_has, equal}
 use Rattle.scrub_shard.proofs.Frames.{frames_stand}
 use Rattle.scrub_shard.proofs.Lost.{first_passes}
 
 -- all extents in use of an image are scanned
-whole_scan : (image : Image) (m : Mapped) → IsMapped image m → IsWholeScan image m.plan m.all
-whole_scan image m x = record {
-  geometry = (plan_parts m.choice m.plan x.plan).geometry ∙ x.choice.geometry;
-  planned = (plan_parts m.choice m.plan x.plan).all ∙ ap (λ (g : Geometry). extents_in_use g.extents m.plan.retired) x.choice.geometry;
-  findings = x.all;
-}
+pub whole_scan : (given : Option (List Locator)) (image : Image) (m : Mapped) → IsMappedFrom given image m → IsWholeScan image m.plan m.all
+whole_scan given image m x = whole_from given [] m.choice m.plan image m.all x.choice x.plan x.all
 
 -- a frame of no bytes has the digest of no bytes
 empty_frame : (image : Image) (s : Standing) → Stands image s → s.length ≡ 0 → s.digest ≡ sha256 []
@@ -58,7 +53,7 @@ empty_frame image s stands none = stands.has.frame.digest ∙ ap (λ (p : List �
 module _ (image : Image) (plan : PlanValue) (all : List Scanned) (v : LooseValue) (whole : IsWholeScan image plan all)
     (are : AreLoose [] image plan v) (c : Checked) where
   -- a lost payload is nowhere
-  nowhere : is_payload_lost all v.frames c ≡ true → IsNowhere image plan all c
+  pub nowhere : is_payload_lost all v.frames c ≡ true → IsNowhere image plan all c
   nowhere e = record {
     asks = asks;
     dangles = dangles;
@@ -126,7 +121,7 @@ module _ (image : Image) (plan : PlanValue) (all : List Scanned) (v : LooseValue
           (Contains-filter (is_copy_of c.locator) v.frames s (copy_from c.locator s same) among)
 
   -- what is nowhere is lost
-  lost : IsNowhere image plan all c → is_payload_lost all v.frames c ≡ true
+  pub lost : IsNowhere image plan all c → is_payload_lost all v.frames c ≡ true
   lost x =
       ap₂ (λ (a b : Bool). not a && b) some
       (ap₂ (λ (a : Bool) (ss : List Standing). a && length ss == 0) x.dangles (λ i. no_spares i ++ no_loose i))
@@ -200,17 +195,18 @@ module _ {X : Type 0} (p : X → Bool) (xs : List X) where
 
 -- ---- the law
 
-lost_there : (image : Image) (id : ShardId) (number : ℕ) → IsShardAnswer image id (PayloadLost number) → IsLostInEntry image id number
-lost_there image id number x = by x.answer.2.own x.answer.2.checked x.answer.2.answer
+lost_there : (given : Option (List Locator)) (image : Image) (id : ShardId) (number : ℕ) → IsShardAnswerFrom given image id (PayloadLost number) →
+    IsLostInEntryFrom given image id number
+lost_there given image id number x = by x.answer.2.own x.answer.2.checked x.answer.2.answer
   where
     by : (own : List Checked) → AreChecked image x.found.plan (named_by_shard x.answer.0) own →
-        first_lost x.found.all x.answer.2.loose.frames own ≡ Some number → IsLostInEntry image id number
+        first_lost x.found.all x.answer.2.loose.frames own ≡ Some number → IsLostInEntryFrom given image id number
     by [] checked first = absurd (none_there first)
       where
         none_there : first_lost x.found.all x.answer.2.loose.frames [] ≡ Some number → ⊥
         none_there e = cc
     by (c ∷ cs) checked first =
-        let whole = whole_scan image x.found x.mapped in
+        let whole = whole_scan given image x.found x.mapped in
         let v = x.answer.2.loose in
         let are = x.answer.2.are_loose in
         let at = first_passes (is_payload_lost x.found.all v.frames) (c ∷ cs) number c first in
@@ -231,11 +227,12 @@ lost_there image id number x = by x.answer.2.own x.answer.2.checked x.answer.2.a
               (lost image x.found.plan x.found.all v whole are d none);
         }
 
-there_lost : (image : Image) (id : ShardId) (number : ℕ) → IsLostInEntry image id number → IsShardAnswer image id (PayloadLost number)
-there_lost image id number y =
+there_lost : (given : Option (List Locator)) (image : Image) (id : ShardId) (number : ℕ) → IfSome given AreRunLocators →
+    IsLostInEntryFrom given image id number → IsShardAnswerFrom given image id (PayloadLost number)
+there_lost given image id number can y =
     let m = y.found in
-    let v = some_loose [] image m.plan (plan_fits image m.choice m.plan y.mapped.choice y.mapped.plan) in
-    let whole = whole_scan image m y.mapped in
+    let v = some_loose [] image m.plan (plan_from_fits given [] image m.choice m.plan can y.mapped.choice y.mapped.plan) in
+    let whole = whole_scan given image m y.mapped in
     record {
       found = m;
       mapped = y.mapped;
@@ -255,6 +252,6 @@ there_lost image id number y =
     }
 
 -- A payload is reported as lost exactly if it is the first of its entry that is nowhere.
-pub lost_is_nowhere : (image : Image) (id : ShardId) (number : ℕ) →
-    IsShardAnswer image id (PayloadLost number) ↔ IsLostInEntry image id number
-lost_is_nowhere image id number = (lost_there image id number, there_lost image id number)
+pub lost_is_nowhere : (given : Option (List Locator)) (image : Image) (id : ShardId) (number : ℕ) → IfSome given AreRunLocators →
+    IsShardAnswerFrom given image id (PayloadLost number) ↔ IsLostInEntryFrom given image id number
+lost_is_nowhere given image id number can = (lost_there given image id number, there_lost given image id number can)

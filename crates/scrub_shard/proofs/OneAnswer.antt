@@ -1,11 +1,12 @@
 -- There is one answer for each shard of an image, since what is found on it up to its shard map is unique.
-use Rattle.std.proofs.Common.{◌≡◌, ◌<◌, ◌∷◌, [], ℕ, Bool, true, false, List, MatchBool, length, get_or, arith, inl, inr, refl, sym, ◌∙◌, ap, subst}
+use Rattle.std.proofs.Common.{◌≡◌, ◌<◌, ◌∷◌, [], ℕ, Bool, true, false, List, MatchBool, Option, length, get_or, arith, inl, inr, refl, sym, ◌∙◌, ap, subst}
 use Rattle.std.proofs.Math.Path.{ap₂}
 use Rattle.std.specs.List.{AllZip, Contains, flat_map}
 use Rattle.std.proofs.lemmas.Bool.{cases_lt}
 use Rattle.std.proofs.lemmas.List.{get_or_default}
 use Rattle.std.proofs.lemmas.Option.{none-some, same_Some}
 use Rattle.scrub_disk.specs.Image.{Image, extent_bytes}
+use Rattle.scrub_frame.specs.declared.locator.Locator.{Locator}
 use Rattle.scrub_super.proofs.Laws.{one_choice_lem}
 use Rattle.scrub_scan.specs.declared.standing.Standing.{Standing}
 use Rattle.scrub_scan.specs.Extent.{extent_of}
@@ -25,17 +26,18 @@ use Rattle.scrub_loose.specs.Loose.{LooseValue, copies_for}
 use Rattle.scrub_loose.proofs.OneLoose.{one_loose}
 use Rattle.scrub_check.proofs.Payloads.{one_payload}
 use Rattle.scrub_found.proofs.OneIndex.{one_list_of_checked, one_list_of_runs, read_runs_are_runs}
-use Rattle.scrub_found.proofs.OneReader.{one_plan, one_reader}
+use Rattle.scrub_found.proofs.GivenPlans.{one_plan_from}
+use Rattle.scrub_found.proofs.OneReader.{one_reader}
 use Rattle.scrub_shard.specs.Bytes.{BytesValue}
-use Rattle.scrub_shard.specs.Shard.{AreBytesFor, HasFirstPayload, IsAnswerBy, IsAnswerIn, IsEntryAnswer, IsBoundBy, IsMapped, IsPayloadFor, IsShardAnswer, Mapped, asks_for_nothing}
+use Rattle.scrub_shard.specs.Shard.{AreBytesFor, HasFirstPayload, IsAnswerBy, IsAnswerIn, IsEntryAnswer, IsBoundBy, IsMappedFrom, IsPayloadFor, IsShardAnswerFrom, Mapped, asks_for_nothing}
 use Rattle.scrub_shard.specs.declared.shard.ShardAnswer.{ShardAnswer}
 use Rattle.scrub_shard.specs.declared.shard.ShardAnswer.TheVariants.{NoSuchShard, PayloadLost, Found}
 
 -- ---- what is found
 
 -- each part is determined by those before it
-pub one_mapped : (image : Image) (s t : Mapped) → IsMapped image s → IsMapped image t → s ≡ t
-one_mapped image s t x y = λ i. record {
+pub one_mapped : (given : Option (List Locator)) (image : Image) (s t : Mapped) → IsMappedFrom given image s → IsMappedFrom given image t → s ≡ t
+one_mapped given image s t x y = λ i. record {
   choice = choice i;
   plan = plan i;
   all = all i;
@@ -47,7 +49,7 @@ one_mapped image s t x y = λ i. record {
     choice = one_choice_lem image s.choice t.choice x.choice y.choice
 
     plan : s.plan ≡ t.plan
-    plan = one_plan t.choice s.plan t.plan (rw choice at x.plan) y.plan
+    plan = one_plan_from given [] t.choice s.plan t.plan (rw choice at x.plan) y.plan
 
     all : s.all ≡ t.all
     all = one_reader image t.plan s.all t.all (rw plan at x.all) y.all
@@ -93,7 +95,7 @@ one_first image (s ∷ ss) a b x y =
     (one_frame_at (extent_of image s.extent (extent_bytes image.geometry)) s.offset s.form s.uuid a s.form s.uuid b x.frame.frame y.frame.frame).2
 
 module _ (image : Image) (all : List Scanned) (loose : List Standing) where
-  one_payload_for : (c : Checked) (a b : List ℕ) → IsPayloadFor image all loose c a → IsPayloadFor image all loose c b → a ≡ b
+  pub one_payload_for : (c : Checked) (a b : List ℕ) → IsPayloadFor image all loose c a → IsPayloadFor image all loose c b → a ≡ b
   one_payload_for c a b = asked (asks_for_nothing c.locator)
     where
       by : (t : Bool) → MatchBool t (HasFirstPayload image (copies_for all loose c) a) (HasPayloadThere image c.locator a) →
@@ -139,9 +141,9 @@ one_by image all loose doubtful own (Found f) (PayloadLost n) x y = absurd (none
 one_by image all loose doubtful own (Found f) (Found g) x y =
     ap (λ (v : BytesValue). Found v) (same_found f g (one_bytes image all loose own f.bytes g.bytes x.1 y.1) (x.2 ∙ sym y.2))
 
-one_of_entry : (image : Image) (m : Mapped) (id : ShardId) (a b : ShardAnswer) (v w : BindingValue) → IsMapped image m →
+one_of_entry : (given : Option (List Locator)) (image : Image) (m : Mapped) (id : ShardId) (a b : ShardAnswer) (v w : BindingValue) → IsMappedFrom given image m →
     IsBoundBy m.bindings id v → IsEntryAnswer image m.plan m.all v a → IsBoundBy m.bindings id w → IsEntryAnswer image m.plan m.all w b → a ≡ b
-one_of_entry image m id a b v w mapped bound x also y =
+one_of_entry given image m id a b v w mapped bound x also y =
     let same : w ≡ v = one_bound m.bindings id w v mapped.bindings.bindings_of_map also bound in
     let z : IsEntryAnswer image m.plan m.all v b = subst (λ (u : BindingValue). IsEntryAnswer image m.plan m.all u b) same y in
     let own : z.own ≡ x.own = one_list_of_checked image m.plan (named_by_shard v) z.own x.own z.checked x.checked in
@@ -150,23 +152,24 @@ one_of_entry image m id a b v w mapped bound x also y =
     (subst (λ (cs : List Checked). IsAnswerBy image m.all x.loose.frames v.doubtful cs b) own
     (subst (λ (u : LooseValue). IsAnswerBy image m.all u.frames v.doubtful z.own b) loose z.answer))
 
-one_in : (image : Image) (m : Mapped) (id : ShardId) (a b : ShardAnswer) → IsMapped image m → IsAnswerIn image m id a →
+one_in : (given : Option (List Locator)) (image : Image) (m : Mapped) (id : ShardId) (a b : ShardAnswer) → IsMappedFrom given image m → IsAnswerIn image m id a →
     IsAnswerIn image m id b → a ≡ b
-one_in image m id NoSuchShard NoSuchShard mapped x y = refl
-one_in image m id NoSuchShard (PayloadLost n) mapped x y = absurd (x y.0 y.1)
-one_in image m id NoSuchShard (Found g) mapped x y = absurd (x y.0 y.1)
-one_in image m id (PayloadLost n) NoSuchShard mapped x y = absurd (y x.0 x.1)
-one_in image m id (Found f) NoSuchShard mapped x y = absurd (y x.0 x.1)
-one_in image m id (PayloadLost n) (PayloadLost k) mapped x y =
-    one_of_entry image m id (PayloadLost n) (PayloadLost k) x.0 y.0 mapped x.1 x.2 y.1 y.2
-one_in image m id (PayloadLost n) (Found g) mapped x y =
-    one_of_entry image m id (PayloadLost n) (Found g) x.0 y.0 mapped x.1 x.2 y.1 y.2
-one_in image m id (Found f) (PayloadLost k) mapped x y =
-    one_of_entry image m id (Found f) (PayloadLost k) x.0 y.0 mapped x.1 x.2 y.1 y.2
-one_in image m id (Found f) (Found g) mapped x y = one_of_entry image m id (Found f) (Found g) x.0 y.0 mapped x.1 x.2 y.1 y.2
+one_in given image m id NoSuchShard NoSuchShard mapped x y = refl
+one_in given image m id NoSuchShard (PayloadLost n) mapped x y = absurd (x y.0 y.1)
+one_in given image m id NoSuchShard (Found g) mapped x y = absurd (x y.0 y.1)
+one_in given image m id (PayloadLost n) NoSuchShard mapped x y = absurd (y x.0 x.1)
+one_in given image m id (Found f) NoSuchShard mapped x y = absurd (y x.0 x.1)
+one_in given image m id (PayloadLost n) (PayloadLost k) mapped x y =
+    one_of_entry given image m id (PayloadLost n) (PayloadLost k) x.0 y.0 mapped x.1 x.2 y.1 y.2
+one_in given image m id (PayloadLost n) (Found g) mapped x y =
+    one_of_entry given image m id (PayloadLost n) (Found g) x.0 y.0 mapped x.1 x.2 y.1 y.2
+one_in given image m id (Found f) (PayloadLost k) mapped x y =
+    one_of_entry given image m id (Found f) (PayloadLost k) x.0 y.0 mapped x.1 x.2 y.1 y.2
+one_in given image m id (Found f) (Found g) mapped x y = one_of_entry given image m id (Found f) (Found g) x.0 y.0 mapped x.1 x.2 y.1 y.2
 
 -- An image has at most one answer for a shard.
-pub one_answer : (image : Image) (id : ShardId) (a b : ShardAnswer) → IsShardAnswer image id a → IsShardAnswer image id b → a ≡ b
-one_answer image id a b x y =
-    let same : x.found ≡ y.found = one_mapped image x.found y.found x.mapped y.mapped in
-    one_in image y.found id a b y.mapped (subst (λ (m : Mapped). IsAnswerIn image m id a) same x.answer) y.answer
+pub one_answer : (given : Option (List Locator)) (image : Image) (id : ShardId) (a b : ShardAnswer) → IsShardAnswerFrom given image id a →
+    IsShardAnswerFrom given image id b → a ≡ b
+one_answer given image id a b x y =
+    let same : x.found ≡ y.found = one_mapped given image x.found y.found x.mapped y.mapped in
+    one_in given image y.found id a b y.mapped (subst (λ (m : Mapped). IsAnswerIn image m id a) same x.answer) y.answer

@@ -1,12 +1,12 @@
 -- The bytes of a shard: the payloads of the locators of its entry in the shard map, one directly after another.
-use Rattle.std.specs.Prelude.{◌≡◌, ◌<◌, ◌==◌, ◌&&◌, ℕ, Bool, true, List, [], ◌∷◌, Option, None, Some, MatchBool, Contains, length, not, slice_get}
+use Rattle.std.specs.Prelude.{◌≡◌, ◌<◌, ◌==◌, ◌&&◌, ℕ, Bool, true, List, [], ◌∷◌, Option, None, Some, MatchBool, All, Contains, length, not, slice_get}
 use Rattle.std.specs.List.{AllZip, flat_map, position}
 use Rattle.std.specs.Str.{bytes_eq}
 use Rattle.sha2.specs.Sha256.{sha256}
 use Rattle.scrub_disk.specs.Image.{Image}
 use Rattle.scrub_frame.specs.declared.locator.Locator.{Locator}
 use Rattle.scrub_super.specs.Chosen.{Choice, IsChoice}
-use Rattle.scrub_super.specs.Plan.{PlanValue, plan_of}
+use Rattle.scrub_super.specs.Plan.{PlanValue}
 use Rattle.scrub_scan.specs.declared.standing.Standing.{Standing}
 use Rattle.scrub_scan.specs.AllFindings.{AreAllFindings}
 use Rattle.scrub_scan.specs.Scanned.{Scanned}
@@ -18,10 +18,13 @@ use Rattle.scrub_check.specs.declared.statuses.checked.Checked.{Checked}
 use Rattle.scrub_check.specs.Checked.{AreChecked, is_dangling}
 use Rattle.scrub_check.specs.ChunkRun.{HasPayloadThere}
 use Rattle.scrub_check.specs.Named.{named_by_shard}
+use Rattle.scrub_check.specs.declared.runs.RunState.TheVariants.{Read}
 use Rattle.scrub_check.specs.Runs.{ReadRunsValue, AreReadRuns}
 use Rattle.scrub_check.specs.Spares.{frames}
+use Rattle.scrub_found.specs.GivenRuns.{FollowsFrom}
 use Rattle.scrub_loose.specs.Anywhere.{IsCrowded}
 use Rattle.scrub_loose.specs.Loose.{AreLoose, LooseValue, copies_for}
+use Rattle.scrub_shard.specs.Bytes.{BytesValue}
 use Rattle.scrub_shard.specs.declared.shard.ShardAnswer.{ShardAnswer}
 use Rattle.scrub_shard.specs.declared.shard.ShardAnswer.TheVariants.{NoSuchShard, PayloadLost, Found}
 
@@ -35,13 +38,17 @@ pub record Mapped : Type 0 where
   pub read : ReadRunsValue
   pub bindings : List BindingValue
 
--- each part of it is as it is in the image
-pub record IsMapped (image : Image) (m : Mapped) : Type 0 where
+-- each part of it is as it is in the image, with the plan by these index runs, if they are given, or else by the choice
+pub record IsMappedFrom (given : Option (List Locator)) (image : Image) (m : Mapped) : Type 0 where
   pub choice : IsChoice image m.choice
-  pub plan : m.plan ≡ plan_of m.choice
+  pub plan : FollowsFrom given [] m.choice m.plan
   pub all : AreAllFindings image m.plan m.all
   pub read : AreReadRuns image m.plan m.read
   pub bindings : IsShardMap m.read.runs m.bindings
+
+-- the same by the choice
+abbrev pub IsMapped : Image → Mapped → Type 0
+IsMapped image m = IsMappedFrom None image m
 
 -- the entry of a shard in the shard map
 pub record IsBoundBy (bindings : List BindingValue) (id : ShardId) (b : BindingValue) : Type 0 where
@@ -114,11 +121,15 @@ IsAnswerIn image m id (PayloadLost number) =
     (b : BindingValue) × IsBoundBy m.bindings id b × IsEntryAnswer image m.plan m.all b (PayloadLost number)
 IsAnswerIn image m id (Found found) = (b : BindingValue) × IsBoundBy m.bindings id b × IsEntryAnswer image m.plan m.all b (Found found)
 
--- the answer for a shard of an image
-pub record IsShardAnswer (image : Image) (id : ShardId) (a : ShardAnswer) : Type 0 where
+-- the answer for a shard of an image, by these index runs, if they are given, or else by the superblock that counts
+pub record IsShardAnswerFrom (given : Option (List Locator)) (image : Image) (id : ShardId) (a : ShardAnswer) : Type 0 where
   pub found : Mapped
-  pub mapped : IsMapped image found
+  pub mapped : IsMappedFrom given image found
   pub answer : IsAnswerIn image found id a
+
+-- the same by the superblock that counts
+abbrev pub IsShardAnswer : Image → ShardId → ShardAnswer → Type 0
+IsShardAnswer image id a = IsShardAnswerFrom None image id a
 
 -- ---- what the answer says of the entry
 
@@ -135,12 +146,16 @@ pub record HaveContentsOf (locators : List Locator) (bytes : List ℕ) : Type 0 
   pub joined : bytes ≡ flat_map (λ payload. payload) payloads
 
 -- the bytes have the contents that the newest entry of the shard in the readable runs asks for
-pub record HaveContentsOfEntry (image : Image) (id : ShardId) (bytes : List ℕ) : Type 0 where
+pub record HaveContentsOfEntryFrom (given : Option (List Locator)) (image : Image) (id : ShardId) (bytes : List ℕ) : Type 0 where
   pub found : Mapped
-  pub mapped : IsMapped image found
+  pub mapped : IsMappedFrom given image found
   pub entry : BindingValue
   pub bound : IsBoundBy found.bindings id entry
   pub contents : HaveContentsOf entry.locators bytes
+
+-- the same by the superblock that counts
+abbrev pub HaveContentsOfEntry : Image → ShardId → List ℕ → Type 0
+HaveContentsOfEntry image id bytes = HaveContentsOfEntryFrom None image id bytes
 
 -- no frame among these has the length and the digest that the locator asks for
 abbrev pub HasNone : (Standing → Type 0) → Locator → Type 0
@@ -162,9 +177,9 @@ pub record IsNowhere (image : Image) (plan : PlanValue) (all : List Scanned) (c 
   pub no_frame : HasNone (IsInUse image plan) c.locator
 
 -- the payload for the locator of this number in the entry of the shard is nowhere, and that for no locator before it
-pub record IsLostInEntry (image : Image) (id : ShardId) (number : ℕ) : Type 0 where
+pub record IsLostInEntryFrom (given : Option (List Locator)) (image : Image) (id : ShardId) (number : ℕ) : Type 0 where
   pub found : Mapped
-  pub mapped : IsMapped image found
+  pub mapped : IsMappedFrom given image found
   pub entry : BindingValue
   pub bound : IsBoundBy found.bindings id entry
   pub own : List Checked
@@ -173,3 +188,49 @@ pub record IsLostInEntry (image : Image) (id : ShardId) (number : ℕ) : Type 0 
   pub is : slice_get own number ≡ Some one
   pub nowhere : IsNowhere image found.plan found.all one
   pub first : (k : ℕ) (c : Checked) → k < number → slice_get own k ≡ Some c → ¬ IsNowhere image found.plan found.all c
+
+-- the same by the superblock that counts
+abbrev pub IsLostInEntry : Image → ShardId → ℕ → Type 0
+IsLostInEntry image id number = IsLostInEntryFrom None image id number
+
+-- ---- without retired extents, and by given index runs
+
+-- the frame is at any byte of an extent other than extent 0
+pub record IsBehindExtent0 (image : Image) (s : Standing) : Type 0 where
+  pub behind : 0 < s.extent
+  pub stands : Stands image s
+
+-- the locator asks for bytes, or for a digest that isn't that of no bytes, and no frame at any byte of an extent other than
+-- extent 0 has its length and digest
+pub record IsOnNoExtent (image : Image) (l : Locator) : Type 0 where
+  pub asks : (l.length ≡ 0) × (l.digest ≡ sha256 []) → ⊥
+  pub no_frame : HasNone (IsBehindExtent0 image) l
+
+-- each index run is read
+abbrev pub EachRunIsRead : Mapped → Type 0
+EachRunIsRead m = All (λ s. s ≡ Read) m.read.states
+
+-- no extent is crowded
+abbrev pub NoneIsCrowded : Image → Type 0
+NoneIsCrowded image = (e : ℕ) → ¬ IsCrowded image e
+
+-- both are bytes of the shard of one entry: what its locators ask for, one directly after another; and they may be old alike
+pub record AreAlikeBytes (m : Mapped) (id : ShardId) (found other : BytesValue) : Type 0 where
+  pub entry : BindingValue
+  pub bound : IsBoundBy m.bindings id entry
+  pub contents : HaveContentsOf entry.locators found.bytes
+  pub other_contents : HaveContentsOf entry.locators other.bytes
+  pub same_doubt : other.is_doubtful ≡ found.is_doubtful
+
+-- a shard with these bytes has such bytes, too, if the index runs of the superblock that counts are given
+pub record HasBytesByOwnList (image : Image) (m : Mapped) (id : ShardId) (found : BytesValue) : Type 0 where
+  pub other : BytesValue
+  pub answer : IsShardAnswerFrom (Some m.plan.runs) image id (Found other)
+  pub alike : AreAlikeBytes m id found other
+
+-- two answers for a shard are alike: there is no such shard, the same payload is lost, or both are such bytes
+abbrev pub AreAlike : Mapped → ShardId → ShardAnswer → ShardAnswer → Type 0
+AreAlike m id NoSuchShard NoSuchShard = Unit {0}
+AreAlike m id (PayloadLost number) (PayloadLost other) = number ≡ other
+AreAlike m id (Found found) (Found other) = AreAlikeBytes m id found other
+AreAlike m id _ _ = ⊥

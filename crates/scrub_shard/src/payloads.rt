@@ -2,7 +2,7 @@
 //! else from its first loose copy. An empty payload is read nowhere.
 
 ghost use Rattle.std.specs.Prelude.{◌≡◌, All, IfOk};
-ghost use Rattle.std.specs.List.{position};
+ghost use Rattle.std.specs.List.{list_any, position};
 ghost use Rattle.scrub_shard.specs.Shard.{asks_for_nothing};
 ghost use Rattle.scrub_shard.specs.steps.Payloads.{AreBytesBy, HasPayloadLeft, IsPayloadBy, is_lost_by};
 
@@ -21,7 +21,7 @@ fn asks_for_nothing(locator: &Locator) -> bool
 }
 
 /// Whether no payload is left for a locator: it asks for bytes, dangles, and has no copy.
-fn is_lost(copies: &Copies, one: &Checked) -> bool
+pub(crate) fn is_lost(copies: &Copies, one: &Checked) -> bool
     ensures { result ≡ is_lost_by copies.now one.now }
 {
     !asks_for_nothing(&one.locator) && one.status.is_dangling() && copies.of_one(one).is_empty()
@@ -34,9 +34,16 @@ pub(crate) fn first_lost(copies: &Copies, own: &[Checked]) -> Option<usize>
     own.iter().position(|one| is_lost(copies, one))
 }
 
+/// Whether one of these locators has no payload.
+pub(crate) fn is_broken(copies: &Copies, own: &[Checked]) -> bool
+    ensures { result ≡ list_any (is_lost_by copies.now) own.now }
+{
+    own.iter().any(|one| is_lost(copies, one))
+}
+
 /// The payload for a locator: no bytes if it asks for none; or else that of its chunk if the locator is sound
 /// or hidden, or that of its first copy.
-fn payload_for<D: PageSource>(
+pub(crate) fn payload_for<D: PageSource>(
     alloc: Global,
     disk: &D,
     copies: &Copies,

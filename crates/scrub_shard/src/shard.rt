@@ -1,15 +1,29 @@
 //! Reads one shard of a disk: its entry in the shard map, and the payloads for the locators of that entry.
 
-ghost use Rattle.std.specs.Prelude.{◌≡◌, ◌↔◌, ◌≤◌, All, IfOk, List, ℕ};
+ghost use Rattle.std.specs.Prelude.{◌≡◌, ◌↔◌, ◌<◌, ◌≤◌, ◌^◌, [], ℕ, All, Contains, IfOk, List, Option};
+ghost use Rattle.std.specs.Prelude.{Some, false, length, true};
 ghost use Rattle.scrub_disk.specs.Image.{Image};
+ghost use Rattle.scrub_frame.specs.declared.locator.Locator.{Locator};
+ghost use Rattle.scrub_frame.specs.Locator.{IsLocator};
 ghost use Rattle.scrub_run.specs.declared.shard_id.ShardId.{ShardId};
 ghost use Rattle.scrub_check.specs.Named.{named_by_shard};
 ghost use Rattle.scrub_check.specs.WholeScan.{IsWholeScan};
+ghost use Rattle.scrub_check.specs.declared.statuses.checked.Checked.{Checked};
+ghost use Rattle.scrub_check.specs.declared.statuses.status.Status.{Status};
+ghost use Rattle.scrub_check.specs.Checked.{AreChecked, is_dangling};
+ghost use Rattle.scrub_check.specs.Status.{HasStatusIn};
+ghost use Rattle.scrub_merge.specs.Binding.{BindingValue};
+ghost use Rattle.scrub_found.specs.GivenRuns.{AreTakingsFrom};
 ghost use Rattle.scrub_found.specs.Takings.{AreTakingsBy};
-ghost use Rattle.scrub_found.specs.Judged.{IsScan};
+ghost use Rattle.scrub_found.specs.Judged.{IsScanFrom};
+ghost use Rattle.scrub_loose.specs.Loose.{AreLoose, LooseValue};
 ghost use Rattle.scrub_listings.specs.Remarks.{AreSuperblockRemarks};
 ghost use Rattle.scrub_shard.specs.Bytes.{BytesValue};
-ghost use Rattle.scrub_shard.specs.Shard.{HaveContentsOfEntry, IsEntryAnswer, IsLostInEntry, IsShardAnswer};
+ghost use Rattle.scrub_shard.specs.Shard.{AreAlike, EachRunIsRead, HasBytesByOwnList, HaveContentsOfEntry};
+ghost use Rattle.scrub_shard.specs.Shard.{HaveContentsOfEntryFrom, IsEntryAnswer, IsLostInEntry};
+ghost use Rattle.scrub_shard.specs.Shard.{IsLostInEntryFrom, IsMapped};
+ghost use Rattle.scrub_shard.specs.Shard.{IsMappedFrom, IsOnNoExtent, IsShardAnswer, IsShardAnswerFrom, Mapped};
+ghost use Rattle.scrub_shard.specs.Shard.{NoneIsCrowded, is_payload_lost};
 ghost use Rattle.scrub_shard.specs.steps.Payloads.{HasPayloadUnlessLost, IsAnswerWith};
 ghost use Rattle.scrub_shard.specs.declared.shard.ShardAnswer.{ShardAnswer};
 ghost use Rattle.scrub_shard.specs.declared.shard.ShardAnswer.TheVariants.{Found, PayloadLost};
@@ -18,7 +32,8 @@ use crate::payloads::{bytes_for, first_lost};
 use crate::scanning::scan_with_remarks;
 use scrub_check::{Checked, Named, check_all, name_shard, read_all_runs};
 use scrub_disk::{OutOfMemory, PageSource};
-use scrub_found::{Scan, ScrubFault};
+use scrub_found::{Scan, ScrubFault, scan_listed};
+use scrub_frame::Locator;
 use scrub_listings::SuperblockRemark;
 use scrub_loose::Copies;
 use scrub_merge::{Binding, merge_by_threads};
@@ -144,8 +159,9 @@ fn shard_of<R: Threads + Sync, D: PageSource>(
     scan: Scan<'_, D>,
     id: ShardId,
 ) -> Result<ShardAnswer, OutOfMemory>
-    requires { IsScan (D.image scan.disk.now) scan }
-    ensures { IfOk result (IsShardAnswer (D.image scan.entry.disk.now) id) }
+    requires { IsWholeScan (D.image scan.disk.now) scan.plan scan.all.extents }
+    ensures { (given : Option (List Locator)) → IsScanFrom given [] (D.image scan.entry.disk.now) scan.entry →
+        IfOk result (IsShardAnswerFrom given (D.image scan.entry.disk.now) id) }
 {
     let Scan {
         disk,
@@ -185,28 +201,106 @@ pub fn read_shard<D: PageSource, G: Gate, R: Threads + Wait + Sync>(
     Ok((ShardReading { answer, remarks }, takings))
 }
 
-/// A law: there is at most one answer for each shard of an image.
+/// Reads a shard of a disk, as `read_shard` does, but as if one superblock counted that lists these index runs,
+/// newest first and fewer than 2^32, retires nothing, and has each write pointer at its extent's end. What is in
+/// extent 0 doesn't matter, so nothing is said of superblocks.
+pub fn read_shard_by_runs<D: PageSource, G: Gate, R: Threads + Wait + Sync>(
+    rt: &R,
+    alloc: Global,
+    disk: &D,
+    workers: u32,
+    gate: &G,
+    id: ShardId,
+    runs: &[Locator],
+) -> Result<(ShardAnswer, Takings), ScrubFault>
+    requires workers { workers ≤ 64 }
+    requires few { length runs.now < 2 ^ 32 }
+    requires located { All IsLocator runs.now }
+    ensures shard { IfOk result (λ r. IsShardAnswerFrom (Some runs.now) (D.image disk.now) id r.0) }
+    ensures takings { IfOk result (λ r. AreTakingsFrom (Some runs.now) (D.image disk.now) workers r.1) }
+{
+    let (scan, takings) = scan_listed(rt, alloc, disk, runs, workers, gate)?;
+    let answer = shard_of(rt, alloc, scan, id)?;
+    Ok((answer, takings))
+}
+
+/// A law: there is at most one answer for each shard of an image, by the superblock that counts or by given
+/// index runs.
 pub fn one_shard_answer()
-    ensures { (image : Image) (id : ShardId) (a b : ShardAnswer) → IsShardAnswer image id a →
+    ensures by_superblock { (image : Image) (id : ShardId) (a b : ShardAnswer) → IsShardAnswer image id a →
         IsShardAnswer image id b → a ≡ b }
+    ensures by_runs { (runs : List Locator) (image : Image) (id : ShardId) (a b : ShardAnswer) →
+        IsShardAnswerFrom (Some runs) image id a → IsShardAnswerFrom (Some runs) image id b → a ≡ b }
 {}
 
 /// A law: the bytes of a shard are a list of bytes for each locator of its entry, in their order, each with
 /// the locator's length and SHA-256.
 pub fn bytes_are_as_the_entry_says()
-    ensures { (image : Image) (id : ShardId) (found : BytesValue) → IsShardAnswer image id (Found found) →
-        HaveContentsOfEntry image id found.bytes }
+    ensures by_superblock { (image : Image) (id : ShardId) (found : BytesValue) →
+        IsShardAnswer image id (Found found) → HaveContentsOfEntry image id found.bytes }
+    ensures by_runs { (runs : List Locator) (image : Image) (id : ShardId) (found : BytesValue) →
+        IsShardAnswerFrom (Some runs) image id (Found found) →
+        HaveContentsOfEntryFrom (Some runs) image id found.bytes }
 {}
 
 /// A law: the payload for a locator is lost exactly if it is the first of its entry whose length and SHA-256
 /// aren't those of no bytes, which dangles, and whose length and SHA-256 no chunk in the tiling of an extent in
 /// use has, and no frame at any byte of an extent in use that isn't crowded.
 pub fn a_lost_payload_is_nowhere()
-    ensures { (image : Image) (id : ShardId) (number : ℕ) →
+    ensures by_superblock { (image : Image) (id : ShardId) (number : ℕ) →
         IsShardAnswer image id (PayloadLost number) ↔ IsLostInEntry image id number }
+    ensures by_runs { (runs : List Locator) (image : Image) (id : ShardId) (number : ℕ) →
+        length runs < 2 ^ 32 → All IsLocator runs →
+        IsShardAnswerFrom (Some runs) image id (PayloadLost number) ↔
+        IsLostInEntryFrom (Some runs) image id number }
 {}
 
-/// A law: there is an answer for each shard of an image. With `one_shard_answer`, there is exactly one.
+/// A law: if no extent is retired or crowded, a payload is lost exactly if its locator asks for bytes, or for
+/// a digest that isn't that of no bytes, and no frame at any byte of an extent other than extent 0 has its
+/// length and SHA-256. By given index runs no extent is retired.
+pub fn a_lost_payload_is_on_no_extent()
+    ensures none_retired { (given : Option (List Locator)) (image : Image) (m : Mapped) →
+        IsMappedFrom given image m → m.plan.retired ≡ [] → NoneIsCrowded image → (b : BindingValue)
+        (own : List Checked) → AreChecked image m.plan (named_by_shard b) own → (loose : LooseValue) →
+        AreLoose [] image m.plan loose → (c : Checked) → Contains own c →
+        (is_payload_lost m.all loose.frames c ≡ true) ↔ IsOnNoExtent image c.locator }
+    ensures by_runs { (runs : List Locator) (image : Image) (m : Mapped) → IsMappedFrom (Some runs) image m →
+        NoneIsCrowded image → (b : BindingValue) (own : List Checked) →
+        AreChecked image m.plan (named_by_shard b) own → (loose : LooseValue) →
+        AreLoose [] image m.plan loose → (c : Checked) → Contains own c →
+        (is_payload_lost m.all loose.frames c ≡ true) ↔ IsOnNoExtent image c.locator }
+{}
+
+/// A law: if each index run of the superblock that counts is read, then with this list of runs given the shard
+/// map is the same, and each locator that is sound or hidden is one of these; and if no extent is crowded,
+/// each shard that has bytes has bytes, with the same lengths and SHA-256.
+pub fn the_own_list_gives_each_shard()
+    ensures map { (image : Image) (m own : Mapped) → IsMapped image m → EachRunIsRead m →
+        IsMappedFrom (Some m.plan.runs) image own → own.bindings ≡ m.bindings }
+    ensures statuses { (image : Image) (m own : Mapped) → IsMapped image m →
+        IsMappedFrom (Some m.plan.runs) image own → (l : Locator) (s t : Status) →
+        HasStatusIn image m.plan l s → HasStatusIn image own.plan l t → is_dangling s ≡ false →
+        is_dangling t ≡ false }
+    ensures bytes { (image : Image) (m : Mapped) → IsMapped image m → EachRunIsRead m → NoneIsCrowded image →
+        (id : ShardId) (found : BytesValue) → IsShardAnswer image id (Found found) →
+        HasBytesByOwnList image m id found }
+{}
+
+/// A law: if each index run of the superblock that counts is read, it retires nothing, and no extent is
+/// crowded, then with this list of runs given the answer for each shard is as by the superblock, and the
+/// states of the runs are.
+pub fn the_own_list_gives_the_same_answers()
+    ensures answers { (image : Image) (m : Mapped) → IsMapped image m → EachRunIsRead m → NoneIsCrowded image →
+        m.plan.retired ≡ [] → (id : ShardId) (a b : ShardAnswer) → IsShardAnswer image id a →
+        IsShardAnswerFrom (Some m.plan.runs) image id b → AreAlike m id a b }
+    ensures runs { (image : Image) (m own : Mapped) → IsMapped image m → EachRunIsRead m →
+        IsMappedFrom (Some m.plan.runs) image own → own.read ≡ m.read }
+{}
+
+/// A law: there is an answer for each shard of an image, by the superblock that counts or by index runs that
+/// can be given. With `one_shard_answer`, there is exactly one.
 pub fn each_shard_has_an_answer()
-    ensures { (image : Image) (id : ShardId) → (a : ShardAnswer) × IsShardAnswer image id a }
+    ensures by_superblock { (image : Image) (id : ShardId) → (a : ShardAnswer) × IsShardAnswer image id a }
+    ensures by_runs { (runs : List Locator) (image : Image) (id : ShardId) → length runs < 2 ^ 32 →
+        All IsLocator runs → (a : ShardAnswer) × IsShardAnswerFrom (Some runs) image id a }
 {}
