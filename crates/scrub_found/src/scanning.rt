@@ -142,9 +142,9 @@ pub fn scan_chosen<'d, D: PageSource, G: Gate, R: Threads + Wait + Sync>(
     scan_planned(rt, alloc, disk, chosen, plan, workers, gate)
 }
 
-/// Scans a disk as `scan_by` does, but as if one superblock counted that lists these index runs, newest first and
-/// fewer than 2^32, retires nothing, and has each write pointer at its extent's end. What is in extent 0 doesn't
-/// matter, though its pages are read.
+/// Scans a disk as `scan_by` does, but as if one superblock counted that lists these index runs, newest first
+/// and fewer than 2^32, retires nothing, and has each write pointer at its extent's end. What is in extent 0
+/// doesn't matter, though its pages are read.
 pub fn scan_listed<'d, D: PageSource, G: Gate, R: Threads + Wait + Sync>(
     rt: &R,
     alloc: Global,

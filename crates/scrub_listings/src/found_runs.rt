@@ -1,4 +1,5 @@
-//! The index runs of a disk as lines, wherever they lie: for each the place, and where its locator is in extent 0.
+//! The index runs of a disk as lines, wherever they lie: for each the place, and where its locator is in
+//! extent 0.
 
 ghost use Rattle.std.specs.Prelude.{◌≡◌, ◌≤◌, ◌++◌, Bool, List, ℕ, All, IfOk, OnOk, length, string_bytes};
 ghost use Rattle.std.specs.Fmt.{decimal};
@@ -88,8 +89,8 @@ fn runs_text(alloc: Global, listed: &[ListedRun]) -> Result<Vec<u8>, OutOfMemory
 /// offset of extent 0 at which the bytes of its locator are, ascending. Offset and length are in bytes. The last
 /// line is `total N`.
 ///
-/// No superblock is looked at, and no write pointer or retired extent. Each extent is read once, by the caller and
-/// at most this many threads beside it. The only fault is `OutOfMemory`.
+/// No superblock is looked at, and no write pointer or retired extent. Each extent is read once, by the
+/// caller and at most this many threads beside it. The only fault is `OutOfMemory`.
 pub fn list_runs<R: Threads + Sync, D: PageSource>(
     rt: &R,
     alloc: Global,

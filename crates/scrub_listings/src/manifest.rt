@@ -1,8 +1,8 @@
 //! The manifest of a disk: its retired extents, its index runs that aren't read as usual, and what the
 //! locators of each shard name, wherever that lies; and what is said of the superblocks beside it.
 
-ghost use Rattle.std.specs.Prelude.{◌≡◌, ◌++◌, ◌<◌, ◌≤◌, ◌&&◌, ◌==◌, ◌^◌, [], Bool, List, ℕ, All, AllPairs, IfOk};
-ghost use Rattle.std.specs.Prelude.{OnOk, Option, Some, is_none, length, map, string_bytes};
+ghost use Rattle.std.specs.Prelude.{◌≡◌, ◌++◌, ◌<◌, ◌≤◌, ◌&&◌, ◌==◌, ◌^◌, [], Bool, List, ℕ, All, AllPairs};
+ghost use Rattle.std.specs.Prelude.{IfOk, OnOk, Option, Some, is_none, length, map, string_bytes};
 ghost use Rattle.std.specs.Fmt.{decimal};
 ghost use Rattle.std.specs.List.{count_by, flat_map};
 ghost use Rattle.std.specs.List.Sorted.{IsStrictlyIncreasing};
@@ -397,9 +397,9 @@ pub fn list_manifest<D: PageSource, G: Gate, R: Threads + Wait + Sync>(
     ))
 }
 
-/// Lists what a disk holds, as `list_manifest` does, but as if one superblock counted that lists these index runs,
-/// newest first and fewer than 2^32, retires nothing, and has each write pointer at its extent's end. What is in
-/// extent 0 doesn't matter, so there are no remarks.
+/// Lists what a disk holds, as `list_manifest` does, but as if one superblock counted that lists these index
+/// runs, newest first and fewer than 2^32, retires nothing, and has each write pointer at its extent's end.
+/// What is in extent 0 doesn't matter, so there are no remarks.
 pub fn list_manifest_by_runs<D: PageSource, G: Gate, R: Threads + Wait + Sync>(
     rt: &R,
     alloc: Global,
@@ -450,9 +450,9 @@ pub fn one_manifest_holds_the_same()
         all_traits x.found x.loose.frames ≡ all_traits y.found y.loose.frames }
 {}
 
-/// A law: each image has a manifest, for each list of extents to be reset and for each list of index runs that can
-/// be given, and a verdict whether anything is missing; and with the first remarks on its superblocks. With
-/// `one_manifest`, it has exactly one.
+/// A law: each image has a manifest, for each list of extents to be reset and for each list of index runs
+/// that can be given, and a verdict whether anything is missing; and with the first remarks on its
+/// superblocks. With `one_manifest`, it has exactly one.
 pub fn each_image_has_a_manifest()
     ensures text { (resets : List ℕ) (image : Image) →
         (text : List ℕ) × (whole : Bool) × IsManifestBut resets image text whole }

@@ -1,7 +1,8 @@
-//! Where in extent 0 the locators of found runs are, as in the superblocks that list them. The superblocks may be
-//! damaged, older, or of other sizes: only the sixty bytes of a locator are looked for.
+//! Where in extent 0 the locators of found runs are, as in the superblocks that list them. The superblocks
+//! may be damaged, older, or of other sizes: only the sixty bytes of a locator are looked for.
 
-ghost use Rattle.std.specs.Prelude.{◌≡◌, ◌<◌, ◌++◌, ◌∷◌, ◌↔◌, [], ℕ, All, HoldsAt, IsTrue, List, IfOk, IfNone, IfSome, OnOk, length, map};
+ghost use Rattle.std.specs.Prelude.{◌≡◌, ◌<◌, ◌++◌, ◌∷◌, ◌↔◌, [], ℕ, All, HoldsAt, IsTrue, List, IfOk, IfNone};
+ghost use Rattle.std.specs.Prelude.{IfSome, OnOk, length, map};
 ghost use Rattle.scrub_disk.specs.Image.{AreBytesAt, Image};
 ghost use Rattle.scrub_frame.specs.declared.locator.Locator.{Locator};
 ghost use Rattle.scrub_frame.specs.Locator.{IsLocator, locator_bytes};

@@ -1,8 +1,8 @@
 //! Outer frames of extents, found without their write pointers, and the index runs among them. A run that only
 //! bytes within another frame spell isn't found: whoever stores a shard could put it there.
 
-ghost use Rattle.std.specs.Prelude.{◌≡◌, ◌≤◌, ◌<◌, ◌∷◌, ◌++◌, [], ℕ, Bool, false, All, List, IfOk, IfNone, IfSome};
-ghost use Rattle.std.specs.Prelude.{OnOk, length, take};
+ghost use Rattle.std.specs.Prelude.{◌≡◌, ◌≤◌, ◌<◌, ◌∷◌, ◌++◌, [], ℕ, Bool, false, All, List, IfOk, IfNone};
+ghost use Rattle.std.specs.Prelude.{IfSome, OnOk, length, take};
 ghost use Rattle.std.specs.List.{list_all};
 ghost use Rattle.std.specs.List.Sorted.{IsStrictlyIncreasing};
 ghost use Rattle.scrub_disk.specs.Image.{Image};
@@ -214,7 +214,8 @@ fn extents_but_first(alloc: Global, extents: u32) -> Result<Vec<u32>, OutOfMemor
     Ok(all)
 }
 
-/// What is found in each of these extents, in their order, by the caller and at most this many threads beside it.
+/// What is found in each of these extents, in their order, by the caller and at most this many threads beside
+/// it.
 fn walk_each<R: Threads + Sync, D: PageSource>(
     rt: &R,
     alloc: Global,

@@ -1,5 +1,5 @@
 -- If no extent is retired, a payload is lost exactly if no frame of the disk has what its locator asks for.
-use Rattle.std.proofs.Common.{◌≡◌, ◌↔◌, ◌<◌, ◌≤◌, ◌+◌, ◌-◌, ◌==◌, ◌∷◌, [], ℕ, zero, suc, Bool, true, false, List, MatchBool, MatchOption, Option, None, Some, length, arith, refl, sym, ◌∙◌, ap, subst}
+use Rattle.std.proofs.Common.{◌≡◌, ◌↔◌, ◌<◌, ◌≤◌, ◌+◌, ◌-◌, ◌∷◌, [], ℕ, zero, suc, Bool, true, false, List, MatchBool, MatchOption, Option, None, Some, length, arith, refl, sym, ◌∙◌, ap, subst}
 use Rattle.std.specs.List.{All, Contains, cons_option, filter_map, range_with_len}
 use Rattle.std.proofs.lemmas.Bool.{false≢true}
 use Rattle.std.proofs.lemmas.List.Elements.{All-append, All-cons, All-contains, All-head, All-nil, All-tail}
@@ -29,7 +29,7 @@ use Rattle.scrub_check.specs.WholeScan.{IsWholeScan}
 use Rattle.scrub_check.proofs.Payloads.{stands_there}
 use Rattle.scrub_loose.specs.Anywhere.{IsCrowded}
 use Rattle.scrub_loose.specs.Loose.{AreLoose, LooseValue}
-use Rattle.scrub_shard.specs.Shard.{IsBehindExtent0, IsMappedFrom, IsNowhere, IsOnNoExtent, Mapped, is_payload_lost}
+use Rattle.scrub_shard.specs.Shard.{IsMappedFrom, IsNowhere, IsOnNoExtent, Mapped, is_payload_lost}
 use Rattle.scrub_shard.proofs.Frames.{frames_stand}
 use Rattle.scrub_shard.proofs.Lost.{not_dangling}
 use Rattle.scrub_shard.proofs.Nowhere.{lost, nowhere, whole_scan}

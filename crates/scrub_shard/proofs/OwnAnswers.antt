@@ -1,5 +1,5 @@
 -- If no extent is retired, the answers by the superblock's own list of index runs are as those by the superblock.
-use Rattle.std.proofs.Common.{◌≡◌, ◌<◌, ◌+◌, ◌∷◌, [], ℕ, zero, suc, Bool, true, false, not, cond, nat_lt, List, Option, None, Some, length, map, get_or, arith, refl, sym, ◌∙◌, ap, subst}
+use Rattle.std.proofs.Common.{◌≡◌, ◌<◌, ◌+◌, ◌∷◌, [], ℕ, suc, Bool, true, false, not, cond, nat_lt, List, None, Some, length, map, get_or, arith, refl, sym, ◌∙◌, ap, subst}
 use Rattle.std.specs.List.{All, position, position_or_len}
 use Rattle.std.proofs.lemmas.Bool.{false≢true}
 use Rattle.std.proofs.lemmas.List.{length-map}

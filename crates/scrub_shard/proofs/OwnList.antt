@@ -1,11 +1,10 @@
 -- The index runs of the superblock that counts, given as its own list: the shard map is the same, and each shard that has bytes has bytes.
-use Rattle.std.proofs.Common.{◌≡◌, ◌⊎◌, ◌<◌, ◌≤◌, ◌+◌, ◌-◌, ◌*◌, ◌==◌, ◌∷◌, [], ℕ, zero, suc, Bool, true, false, cond, List, Option, None, Some, length, map, get_or, replicate, slice_get, if◌then◌else◌, arith, inl, inr, refl, sym, ◌∙◌, ap, subst}
-use Rattle.std.specs.List.{All, AllZip, Contains, list_any, zip}
+use Rattle.std.proofs.Common.{◌≡◌, ◌<◌, ◌≤◌, ◌-◌, ◌*◌, ◌==◌, ◌∷◌, [], ℕ, Bool, true, false, List, Option, None, Some, length, map, get_or, replicate, slice_get, if◌then◌else◌, arith, refl, sym, ◌∙◌, ap, subst}
+use Rattle.std.specs.List.{All, AllZip, Contains, zip}
 use Rattle.std.proofs.lemmas.Bool.{false≢true}
 use Rattle.std.proofs.lemmas.Bool.Decides.{nat_tests}
 use Rattle.std.proofs.lemmas.List.{get_or-map, get_or-replicate, length-map, length-replicate}
 use Rattle.std.proofs.lemmas.List.Elements.{All-contains, All-contains_itself, All-head, All-tail}
-use Rattle.std.proofs.lemmas.List.Sums.{fails_before_first}
 use Rattle.std.proofs.lemmas.Option.{none-some, slice_get-get_or}
 use Rattle.scrub_disk.specs.declared.geometry.Geometry.{Geometry}
 use Rattle.scrub_disk.specs.Image.{Image, extent_bytes}
@@ -23,12 +22,10 @@ use Rattle.scrub_check.specs.declared.runs.RunState.{RunState}
 use Rattle.scrub_check.specs.declared.runs.RunState.TheVariants.{Read, NotARun}
 use Rattle.scrub_check.specs.declared.statuses.checked.Checked.{Checked}
 use Rattle.scrub_check.specs.declared.statuses.status.Status.{Status}
-use Rattle.scrub_check.specs.declared.statuses.status.Status.TheVariants.{Hidden, Sound}
 use Rattle.scrub_check.specs.Checked.{AreChecked, is_dangling, named_of}
-use Rattle.scrub_check.specs.ChunkRun.{HoldsRun}
 use Rattle.scrub_check.specs.Named.{named_by_shard}
-use Rattle.scrub_check.specs.Runs.{AreReadRuns, HasRunIn, NamesChunkIn, ReadRunsValue}
-use Rattle.scrub_check.specs.Status.{HasStatusIn, NamesChunk, is_retired}
+use Rattle.scrub_check.specs.Runs.{HasRunIn, NamesChunkIn}
+use Rattle.scrub_check.specs.Status.{HasStatusIn, is_retired}
 use Rattle.scrub_check.proofs.Payloads.{lost_in, read_in, within}
 use Rattle.scrub_found.proofs.OneIndex.{one_list_of_runs, read_runs_are_runs}
 use Rattle.scrub_loose.specs.Anywhere.{IsCrowded}
