@@ -1,5 +1,5 @@
 -- Each line is of a run that is found, and so is at its place.
-use Rattle.std.proofs.Common.{List, get_or}
+use Rattle.std.proofs.Common.{get_or}
 use Rattle.std.proofs.lemmas.List.Elements.{Contains-get_or}
 use Rattle.list_facts.proofs.Elements.{Contains-map}
 use Rattle.scrub_loose.specs.Listed.{ListedValue}
