@@ -136,7 +136,8 @@ REFUSALS = Group("After `error:`", "The command line is refused. The message beg
     Message("unexpected value 'VALUE' for 'OPTION' found; no more were expected", "The option takes no value.", "Leave the value out.",
             "--version", REPORT),
     Message("the following required arguments were not provided:", "The next lines say what is missing.",
-            "`reclaimable`, `compare`, `manifest` and `index` need all three sizes, `items` an extent, `shard` an identifier, `compare` two images.",
+            "`reclaimable`, `compare`, `manifest`, `runs` and `index` need all three sizes, `items` an extent, `shard` an identifier, `compare` two "
+            "images.",
             f"reclaimable {SIZED}", REPORT),
     Message("the following arguments are given together or not at all:", "One or two of the three sizes are missing.",
             "Give all three, or none.", f"summary {SIZED}", ("REPORT.md", "Sizes that are left out")),
@@ -155,7 +156,10 @@ REFUSALS = Group("After `error:`", "The command line is refused. The message beg
     Message("a value is required for 'OPTION' but none was supplied", "The option is the last word, or another option follows it.",
             "Write its value after it.", "summary --workers 2 examples/one-shard.img", REPORT),
     Message("the argument 'OPTION' cannot be used multiple times", "The option is given twice.",
-            "Give it once. Only `--reset` and `--accept` may be repeated.", SEVERAL.format("--reset 1 --reset 2 "), REPORT, 1),
+            "Give it once. Only `--run`, `--reset` and `--accept` may be repeated.", SEVERAL.format("--reset 1 --reset 2 "), REPORT, 1),
+    Message("the argument '--run <EXTENT:OFFSET>' cannot be used with '--reset <EXTENT>'",
+            "With `--run` the superblocks don't count, and nothing may be reset.", "Leave one of them out.",
+            f"manifest --run 2:0 {SIZED}", GIVEN_RUNS),
 ])
 
 REMARKS_BESIDE = Group("Beside an answer, after `shardscrub:`",

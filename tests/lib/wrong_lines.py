@@ -19,7 +19,7 @@ WRONG = {
         f"shardscrub {SIZES} summary {ONE}", f"shardscrub demo {ONE}", f"shardscrub summary -p 64 {ONE}", f"shardscrub sizes {SIZES} {ONE}",
         f"shardscrub sizes {ONE} 1:2", f"shardscrub superblocks --workers 2 {ONE}", f"shardscrub scan --last 1 {ONE}",
         f"shardscrub summary --workers -1 {ONE}", f"shardscrub locators --id {ID}1 {ONE}"],
-    "unexpected value 'VALUE' for 'OPTION' found; no more were expected": ["shardscrub --version=4"],
+    "unexpected value 'VALUE' for 'OPTION' found; no more were expected": ["shardscrub --version=4", f"shardscrub shards --partial=1 {ONE}"],
     "the following required arguments were not provided:": [
         f"shardscrub summary <{ONE}", f"shardscrub reclaimable {ONE}", f"shardscrub compare {SIZES} {ONE}", f"shardscrub index {ONE}",
         f"shardscrub shard {ONE}", f"shardscrub items {ONE}"],
@@ -28,7 +28,10 @@ WRONG = {
     "a value is required for 'OPTION' but none was supplied": [
         f"shardscrub summary --page --pages 4 --extents 3 {ONE}", f"shardscrub summary {ONE} --map"],
     "the argument 'OPTION' cannot be used multiple times": [
-        f"shardscrub items --extent 1 --extent 2 {ONE}", f"shardscrub summary {SIZES} --page 64 {ONE}"],
+        f"shardscrub items --extent 1 --extent 2 {ONE}", f"shardscrub summary {SIZES} --page 64 {ONE}",
+        f"shardscrub shards --partial --partial {ONE}"],
+    "the argument '--run <EXTENT:OFFSET>' cannot be used with '--reset <EXTENT>'": [
+        f"shardscrub manifest {SIZES} --run 2:0 --reset 1 {ONE}"],
     INVALID + "VALUE is not in 0..=MOST": [f"shardscrub summary --workers 65 {ONE}", f"shardscrub items --extent 4294967296 {ONE}"],
     INVALID + "number too large to fit in target type": [f"shardscrub summary --last 18446744073709551616 {ONE}"],
     INVALID + "invalid digit found in string": [

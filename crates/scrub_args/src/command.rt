@@ -191,11 +191,17 @@ fn manifest_command<'a>(alloc: Global) -> Result<Command<'a>, AllocError>
     let command = Command::new(alloc, MANIFEST)
         .about(MANIFEST_ABOUT)
         .after_help(MANIFEST_AFTER_HELP);
-    let command = with_geometry(alloc, command)?
-        .arg(workers(alloc))?
-        .arg(reset(alloc))?
-        .arg(run(alloc))?;
+    let command = with_geometry(alloc, command)?.arg(workers(alloc))?;
+    let command = with_resets_and_runs(alloc, command)?;
     with_image(alloc, command)
+}
+
+/// Adds the options for what a manifest goes by: extents to be taken as reset, and index runs.
+fn with_resets_and_runs<'a>(alloc: Global, command: Command<'a>) -> Result<Command<'a>, AllocError>
+    ensures { IfOk result (λ r. app_of r ≡ with_rules (app_of command.entry)
+        (reset_rule ∷ run_rule ∷ [])) }
+{
+    command.arg(reset(alloc))?.arg(run(alloc))
 }
 
 /// The option for an extent to be taken as reset. It may be repeated.
@@ -225,11 +231,16 @@ fn shard_command<'a>(alloc: Global) -> Result<Command<'a>, AllocError>
     let command = Command::new(alloc, SHARD)
         .about(SHARD_ABOUT)
         .after_help(SHARD_AFTER_HELP);
-    let command = with_free_geometry(alloc, command)?
-        .arg(workers(alloc))?
-        .arg(id(alloc))?
-        .arg(run(alloc))?;
+    let command = with_free_geometry(alloc, command)?.arg(workers(alloc))?;
+    let command = with_id_and_runs(alloc, command)?;
     with_image(alloc, command)
+}
+
+/// Adds the options for the identifier of a shard, and for index runs.
+fn with_id_and_runs<'a>(alloc: Global, command: Command<'a>) -> Result<Command<'a>, AllocError>
+    ensures { IfOk result (λ r. app_of r ≡ with_rules (app_of command.entry) (id_rule ∷ run_rule ∷ [])) }
+{
+    command.arg(id(alloc))?.arg(run(alloc))
 }
 
 /// The option for the identifier of a shard.
@@ -251,11 +262,17 @@ fn shards_command<'a>(alloc: Global) -> Result<Command<'a>, AllocError>
     let command = Command::new(alloc, SHARDS)
         .about(SHARDS_ABOUT)
         .after_help(SHARDS_AFTER_HELP);
-    let command = with_free_geometry(alloc, command)?
-        .arg(workers(alloc))?
-        .arg(partial(alloc))?
-        .arg(run(alloc))?;
+    let command = with_free_geometry(alloc, command)?.arg(workers(alloc))?;
+    let command = with_parts_and_runs(alloc, command)?;
     with_image(alloc, command)
+}
+
+/// Adds the flag for the payloads of broken shards, and the option for index runs.
+fn with_parts_and_runs<'a>(alloc: Global, command: Command<'a>) -> Result<Command<'a>, AllocError>
+    ensures { IfOk result (λ r. app_of r ≡ with_rules (app_of command.entry)
+        (partial_rule ∷ run_rule ∷ [])) }
+{
+    command.arg(partial(alloc))?.arg(run(alloc))
 }
 
 /// The flag for the payloads that are there of a broken shard.
