@@ -1,8 +1,9 @@
 -- The index runs that arguments give, from what the parts find, and why there are none.
-use Rattle.std.proofs.Common.{◌≡◌, ◌<◌, ◌≤◌, ◌+◌, ◌∙◌, ◌++◌, ◌∷◌, [], ℕ, Bool, true, false, List, Option, None, Some, Result, Ok, Err, MatchResult, All, length, take, get_or, arith, ap, refl, sym, subst}
+use Rattle.std.proofs.Common.{◌≡◌, ◌==◌, ◌<◌, ◌≤◌, ◌+◌, ◌∙◌, ◌++◌, ◌∷◌, [], ℕ, zero, suc, Bool, true, false, List, Option, None, Some, Result, Ok, Err, MatchResult, All, length, take, get_or, arith, ap, refl, sym, subst}
 use Rattle.std.specs.Prelude.{fold, if◌then◌else◌, slice_index_or}
 use Rattle.std.specs.Borrow.{Bor}
 use Rattle.std.specs.List.{AllZip, list_any}
+use Rattle.std.proofs.lemmas.Bool.{false≢true}
 use Rattle.std.proofs.lemmas.List.{take_all}
 use Rattle.std.proofs.lemmas.List.Elements.{All-nil}
 use Rattle.std.proofs.lemmas.List.Sums.{fold-append}
@@ -43,6 +44,11 @@ one_place_each g (arg ∷ args) (at ∷ places) named = omega (arith, one_place_
 pub place_of : (g : Sizes) (args : List (Bor (List ℕ))) (places : List (ℕ × ℕ)) (i : ℕ) (d : Bor (List ℕ)) (at : ℕ × ℕ) →
     NameRuns g args places → i < length args → NamesRun g (get_or args i d).now (get_or places i at)
 place_of g args places i d at named below = AllZip-at (λ arg at. NamesRun g arg.now at) args places i d at below named
+
+-- there is an argument, if the list isn't empty
+pub some_given : (n : ℕ) → (n == 0) ≡ false → 0 < n
+some_given zero is = absurd (false≢true (sym is))
+some_given (suc n) is = omega arith
 
 -- ---- runs
 

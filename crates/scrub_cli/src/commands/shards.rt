@@ -78,9 +78,7 @@ fn archive_by<R: Threads + Wait + Sync, D: PageSource>(
         AreTakingsFrom (option_map (λ runs. runs.items) given.now) (D.image disk.now) workers r.1) }
 {
     match given {
-        Some(runs) => {
-            read_shards_by_runs(rt, alloc, disk, workers, &NoGate, runs, is_partial)
-        }
+        Some(runs) => { read_shards_by_runs(rt, alloc, disk, workers, &NoGate, runs, is_partial) }
         None => read_shards(rt, alloc, disk, workers, &NoGate, is_partial),
     }
 }

@@ -48,6 +48,6 @@ returns-in_ok-listing-in-Reclaimable-clause-answer g c =
     let image = g.D.PageSource.image c.args.disk.now in
     subst (λ (w : Wanted). IsDiskAnswer w image c.new-in-Reclaimable.result.text.items c.new-in-Reclaimable.result.outcome) (sym c.in-Reclaimable.is) (
       c.in_ok-listing-in-Reclaimable.listing.is_clean,
-      rw (c.new-in-Reclaimable.ensures.text, ← c.acceptance.ensures) c.in_ok-listing-in-Reclaimable.ensures.listing,
+      rw (c.new-in-Reclaimable.ensures.text, ← c.acceptance-acceptance.ensures) c.in_ok-listing-in-Reclaimable.ensures.listing,
       c.new-in-Reclaimable.ensures.outcome,
     )

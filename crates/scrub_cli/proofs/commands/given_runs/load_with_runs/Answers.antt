@@ -26,12 +26,12 @@ returns-in_err-disk-clause-disk g c =
     c.args.geometry c.in_err-disk.field-0.0 (c.in_ok-places.places.items, c.in_ok-places.ensures) c.in_err-disk.ensures)
 
 -- the disk has the sizes for which the places were named
-pub given_runs-requires : goal.given_runs-requires
-given_runs-requires g c =
+pub given_runs-requires-after_bounds : goal.given_runs-requires-after_bounds
+given_runs-requires-after_bounds g c κs =
     let args = c.args.args.now in
     let known = g.I.Images.known c.args.images.now args.name.now in
     let maps = g.I.Images.known_map c.args.images.now in
-    λ κs h. rw c.deref.ensures.value
+    rw c.deref.ensures.value
     (subst (λ (s : Sizes). NameRuns s c.args.words.now c.in_ok-places.places.items)
     (sym (loaded_geometry known maps args c.args.geometry (image_of c.in_ok-disk.disk) c.in_ok-disk.ensures)) c.in_ok-places.ensures)
 
