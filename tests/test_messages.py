@@ -12,7 +12,7 @@ import sys
 
 from lib.cases import Case, RoomCase, add_tests
 from lib.program import TOP
-from lib.wrong_lines import LATER, REMARKS, WRONG, make_files
+from lib.wrong_lines import REMARKS, WRONG, make_files
 
 sys.path.insert(0, str(TOP / "tools"))
 from messages import FAULTS, GROUPS, REMARKS_BESIDE, SCRIPT, explained, status_of  # noqa: E402
@@ -128,7 +128,7 @@ class Lines(RoomCase):
     def check(self, text):
         """Each of these command lines has this row's message and status, and no row but this one explains it."""
         group, message = ROWS[text]
-        for line in (WRONG | LATER)[text]:
+        for line in WRONG[text]:
             if line.endswith(" locked") and self.printed("test -r locked")[0] == 0:
                 continue
             status, out, error = self.printed(line)
@@ -143,11 +143,6 @@ class Lines(RoomCase):
                 self.same(f"{line}: the error stream", error, "")
                 self.true(f"{line}: the output", set(said) <= set(out.decode().splitlines()) if said else out == b"", out)
 
-    def check_later(self, text):
-        """The same of a text that a program of these sources may not have yet."""
-        if text in beginnings():
-            self.check(text)
-
     def check_remarks(self, line):
         """The rows that explain the lines beside this answer."""
         status, out, error = self.printed(line)
@@ -158,7 +153,7 @@ class Lines(RoomCase):
 
     def test_each_row_is_shown(self):
         """By a line of these tables; that of a program that can't start by `start`."""
-        shown = {*WRONG, *LATER, *(text for texts in REMARKS.values() for text in texts)}
+        shown = {*WRONG, *(text for texts in REMARKS.values() for text in texts)}
         self.same("rows without a line", [text for text, (group, _) in ROWS.items() if text not in shown and group != SCRIPT], [])
         self.same("lines without a row", shown - set(ROWS), set())
 
@@ -170,6 +165,5 @@ class Lines(RoomCase):
 
 
 add_tests(Lines, Lines.check, ((f"wrong_{number:02}_{text[:40]}", text) for number, text in enumerate(WRONG)))
-add_tests(Lines, Lines.check_later, ((f"later_{text[:40]}", text) for text in LATER))
 add_tests(Lines, Lines.check_example, ((f"example_{number:02}_{text[:40]}", text) for number, text in enumerate(ROWS)))
 add_tests(Lines, Lines.check_remarks, ((f"remarks_{number}", line) for number, line in enumerate(REMARKS)))

@@ -78,13 +78,6 @@ WRONG = {
     "SHARDSCRUB_CPU is neither x86-64-v2 nor x86-64-v3: VALUE": [f"SHARDSCRUB_CPU=x86-64 script/shardscrub summary {ONE}"],
 }
 
-# What a later program prints.
-LATER = {
-    "sizes not certain: records were found, but bytes of the first 64 MiB can't be read; give --page, --pages and --extents (shardscrub sizes "
-    "lists them)": ["shardscrub summary --map examples/rescued.map examples/rescued.img"],
-    "no superblock record in the first 64 MiB": ["shardscrub sizes text", "shardscrub sizes empty"],
-}
-
 # Runs with remarks, in the order of the lines.
 REMARKS = {
     "shardscrub shards examples/tie.img": ["tie"],
