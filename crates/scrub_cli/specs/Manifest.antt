@@ -5,7 +5,7 @@ use Rattle.scrub_disk.specs.declared.geometry.Geometry.{Geometry as Sizes}
 use Rattle.scrub_disk.specs.Image.{Image}
 use Rattle.scrub_frame.specs.declared.locator.Locator.{Locator}
 use Rattle.scrub_pool.specs.Takings.{TakingsValue}
-use Rattle.scrub_found.specs.Takings.{AreTakingsFrom}
+use Rattle.scrub_found.specs.GivenRuns.{AreTakingsFrom}
 use Rattle.scrub_listings.specs.declared.remarks.SuperblockRemark.{SuperblockRemark}
 use Rattle.scrub_listings.specs.Manifest.{IsManifestFrom, IsRemarkedManifest}
 use Rattle.scrub_cli.specs.declared.process.fault.Fault.{Fault}

@@ -4,7 +4,7 @@ use Rattle.scrub_disk.specs.declared.geometry.Geometry.{Geometry as Sizes}
 use Rattle.scrub_disk.specs.Image.{Image}
 use Rattle.scrub_frame.specs.declared.locator.Locator.{Locator}
 use Rattle.scrub_pool.specs.Takings.{TakingsValue}
-use Rattle.scrub_found.specs.Takings.{AreTakingsFrom}
+use Rattle.scrub_found.specs.GivenRuns.{AreTakingsFrom}
 use Rattle.scrub_shard.specs.PartialArchive.{IsArchiveFrom}
 use Rattle.scrub_shard.specs.declared.archiving.Remark.{Remark}
 use Rattle.scrub_args.specs.declared.args.ShardsArgs.{ShardsArgs}

@@ -4,7 +4,7 @@
 ghost use Rattle.std.specs.Prelude.{◌≡◌, ◌≤◌, IfOk, IfSome, MatchResult, option_map};
 ghost use Rattle.std.specs.List.Sorted.{IsStrictlyIncreasing};
 ghost use Rattle.scrub_super.specs.steps.Limits.{AreRunLocators};
-ghost use Rattle.scrub_found.specs.Takings.{AreTakingsFrom};
+ghost use Rattle.scrub_found.specs.GivenRuns.{AreTakingsFrom};
 ghost use Rattle.scrub_cli.specs.Manifest.{AreManifestTakings, IsManifestAnswer, IsManifestFault};
 ghost use Rattle.scrub_cli.specs.Manifest.{IsManifestOf, may_all_be_reset};
 

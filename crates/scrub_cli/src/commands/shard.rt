@@ -2,7 +2,7 @@
 
 ghost use Rattle.std.specs.Prelude.{◌≤◌, IfOk, IfSome, MatchResult, option_map};
 ghost use Rattle.scrub_super.specs.steps.Limits.{AreRunLocators};
-ghost use Rattle.scrub_found.specs.Takings.{AreTakingsFrom};
+ghost use Rattle.scrub_found.specs.GivenRuns.{AreTakingsFrom};
 ghost use Rattle.scrub_shard.specs.Archive.{AreSaidFrom};
 ghost use Rattle.scrub_shard.specs.Shard.{IsShardAnswerFrom};
 ghost use Rattle.scrub_cli.specs.Shard.{AreShardTakings, IsFaultFor, IsShardFault, IsShardWritten};

@@ -2,7 +2,7 @@
 
 ghost use Rattle.std.specs.Prelude.{◌≡◌, ◌≤◌, ◌++◌, IfOk, IfSome, MatchResult, OnOk, option_map, string_bytes};
 ghost use Rattle.scrub_super.specs.steps.Limits.{AreRunLocators};
-ghost use Rattle.scrub_found.specs.Takings.{AreTakingsFrom};
+ghost use Rattle.scrub_found.specs.GivenRuns.{AreTakingsFrom};
 ghost use Rattle.scrub_shard.specs.PartialArchive.{IsArchiveFrom};
 ghost use Rattle.scrub_cli.specs.Remarks.{remark_line, remark_lines};
 ghost use Rattle.scrub_cli.specs.Shards.{AreShardsTakings, IsArchived, IsShardsAnswer, IsShardsFault};
