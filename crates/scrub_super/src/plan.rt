@@ -90,9 +90,9 @@ impl Plan {
         }
     }
 
-    /// The plan by index runs that are given, newest first, and fewer than 2^32, whatever is in extent 0: that of
-    /// a disk on which one superblock counts that lists these runs, retires nothing, and has each write pointer
-    /// at its extent's end.
+    /// The plan by index runs that are given, newest first, and fewer than 2^32, whatever is in extent 0: that
+    /// of a disk on which one superblock counts that lists these runs, retires nothing, and has each write
+    /// pointer at its extent's end.
     pub fn listing(
         alloc: Global,
         geometry: Geometry,
