@@ -1,8 +1,8 @@
 -- The index runs that arguments give, from what the parts find, and why there are none.
-use Rattle.std.proofs.Common.{◌≡◌, ◌==◌, ◌<◌, ◌≤◌, ◌+◌, ◌∙◌, ◌++◌, ◌∷◌, [], ℕ, zero, suc, Bool, true, false, List, Option, None, Some, Result, Ok, Err, MatchResult, All, length, take, get_or, arith, ap, refl, sym, subst}
-use Rattle.std.specs.Prelude.{fold, if◌then◌else◌, slice_index_or}
+use Rattle.std.proofs.Common.{◌≡◌, ◌==◌, ◌<◌, ◌≤◌, ◌+◌, ◌∙◌, ◌++◌, ◌∷◌, [], ℕ, zero, suc, Bool, true, false, List, All, length, take, get_or, arith, ap, refl, sym, subst}
+use Rattle.std.specs.Prelude.{if◌then◌else◌, slice_index_or}
 use Rattle.std.specs.Borrow.{Bor}
-use Rattle.std.specs.List.{AllZip, list_any}
+use Rattle.std.specs.List.{list_any}
 use Rattle.std.proofs.lemmas.Bool.{false≢true}
 use Rattle.std.proofs.lemmas.List.{take_all}
 use Rattle.std.proofs.lemmas.List.Elements.{All-nil}
@@ -18,7 +18,7 @@ use Rattle.scrub_args.specs.declared.args.ImageArgs.{ImageArgs}
 use Rattle.scrub_cli.specs.declared.process.fault.Fault.{Fault}
 use Rattle.scrub_cli.specs.declared.process.fault.Fault.TheVariants.{NotUtf8, Help, Args, Geometry, NoSizes, UncertainSizes, Extent, BadShard, Pointer, BadRun, BadPage, NoMap, MapLine, NoImage, TooLong, NoRun, NoShard, PayloadLost, Output, OutOfMemory}
 use Rattle.scrub_cli.specs.DiskImage.{IsDiskFault, IsLoadedDisk}
-use Rattle.scrub_cli.specs.GivenRuns.{AreRunsAt, EachNamesRun, GiveRuns, IsBadRunFault, IsFirstNoRun, IsLoadedWithRuns, IsNoRunFault, IsRunsFault, NameRuns, NamesRunPlace, is_of_place, once, with_one}
+use Rattle.scrub_cli.specs.GivenRuns.{AreRunsAt, EachNamesRun, GiveRuns, IsBadRunFault, IsFirstNoRun, IsNoRunFault, IsRunsFault, NameRuns, NamesRunPlace, is_of_place, once, with_one}
 use Rattle.scrub_cli.specs.KnownFiles.{KnownMaps, KnownRaw}
 use Rattle.scrub_cli.proofs.DiskAnswers.{of_disk_fault}
 use Rattle.scrub_cli.proofs.Rescues.{lost_geometry}
