@@ -555,7 +555,7 @@ class Put(WorkedCase):
         for line in ("", "copy", "copy 1 0 2 195", "copy 1 0 2 195 41 7", "copy 1 0  2 195 41", " copy 1 0 2 195 41", "copy 1 0 2 195 41 ",
                      "copy 1 0 2 195 40", "copy 1 0 2 195 42", "copy 1 1 2 195 41", "copy 1 0 2 472 41", "copy 1 0 4 0 41", "copy 4 0 2 195 41",
                      "copy 0 192 2 195 41", "copy 1 0 0 0 41", "copy 1 00 2 195 41", "copy 1 0 2 195 041", "copy 1 0 2 -1 41", "copy 1 0 2 1e2 41",
-                     "copy 1 0 2 99999999999 41", "Copy 1 0 2 195 41", "copy 1 0 2 195 41\r", "copy\t1 0 2 195 41", "#", "move 1 0 2 195 41", "safe 2 3", "doubt last 3 2", "unlisted 1",
+                     "copy 1 0 2 99999999999 41", "Copy 1 0 2 195 41", "copy 1 0 2 195 41\r", "copy\t1 0 2 195 41", "#", "copy 1 0 2 195 41\0", "move 1 0 2 195 41", "safe 2 3", "doubt last 3 2", "unlisted 1",
                      "no-room 155", run_line[:-1], run_line[:-2], run_line + "00", run_line + "0", run_line.upper(), run_line.replace("c55e", "c55f"),
                      run_line.replace("write 2 40", "write 0 64"), run_line.replace("write 2 40", "write 2 400"),
                      run_line.replace("write 2", "write 4"), run_line.replace("c55eb3", "c55eb4"), "write 2 40", "write 2 40 ", "write 2 40 c55",
@@ -563,9 +563,8 @@ class Put(WorkedCase):
                      superblock.replace("write 0 0", "write 1 0"), superblock.replace("53534231", "53534233"), "write 0 0 " + "01" * 64):
             self.refused(line, f"{line}\n", why="line 1 isn't a plan's")
         self.refused("a second line", "copy 1 0 2 195 41\nunsafe\n", why="line 2 isn't a plan's")
-        self.refused("two superblocks", WRITE_SUPERBLOCK * 2, why="line 2 isn't a plan's")
+        self.refused("two superblocks", WRITE_SUPERBLOCK * 2, why="line 1 isn't a plan's")
         self.refused("a superblock with a piece", WRITE_SUPERBLOCK + "copy 1 0 2 195 41\n", why="line 1 isn't a plan's")
-        self.refused("a zero byte", "copy 1 0 2 195 41\0\n", why="the plan has a zero byte")
 
     def test_a_plan_that_is_cut(self):
         """At no byte is a part of a line taken."""
