@@ -441,6 +441,7 @@ SLIPS = {
     "a run in the wrong order": ("runs.insert(0, locator_of(", "runs.append(locator_of("),
     "the generation of before": ("record.generation + 1", "record.generation"),
     "an entry without its new place": ("return Locator(places.get(self.place, self.place), self.rest)", "return self"),
+    "a copy that isn't there": ("return disk.read(place, len(text)) == text", "return True"),
     "the pointer of another extent": ("enumerate(record.pointers, 1)]", "enumerate(record.pointers)]"),
 }
 
