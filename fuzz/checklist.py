@@ -34,9 +34,9 @@ BETWEEN = 15
 
 def print_rows(engine, one, seed, found, tries):
     print(row(one.name, found), flush=True)
-    if any(box in (4, 5) for boxes, _ in found for box in boxes):
-        print(row("    without looking at the place", trials(engine, one, seed, tries, ("look",))), flush=True)
-    if rule := RULES.get(one.name):
+    if any(box in (5, 6) for boxes, _ in found for box in boxes):
+        print(row("    without the comparison of act/put", trials(engine, one, seed, tries, ("comparison of put",))), flush=True)
+    if (rule := RULES.get(one.name)) not in (None, "comparison of put"):
         print(row(f"    without {rule}", trials(engine, one, seed, tries, (rule,))), flush=True)
 
 

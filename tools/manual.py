@@ -19,7 +19,11 @@ PAGE, REPORT = TOP / "docs/shardscrub.1", TOP / "docs/REPORT.md"
 ORDER = "Only the first fault is reported."
 
 DESCRIPTION = r"""
-It writes nothing to an image or a disk: make copies, new index runs, superblocks and resets with the node's own tools.
+It writes nothing to an image or a disk: the script
+.I act/plan
+prints the copies, the index run and the superblock of a reset, and
+.I act/put
+writes them.
 Take the node off the disk before the image is made, and leave it off until you are done.
 Before any reset go through the checklist in docs/RECLAIMING.md, box by box.
 The same image, sizes and unreadable pages (for

@@ -162,8 +162,10 @@ def torn_at_random(walk, value):
 
 def taken_as_written(walk, value):
     """The generation of a superblock that was written in part is taken for the last one."""
+    x, at, text = value
     walk.known = walk.begun
-    torn(walk, value)
+    walk.drive.write(x, at, text[:walk.choice.randrange(1, 26)])
+    fail(walk)
 
 
 def written_unseen(walk, value):

@@ -166,10 +166,10 @@ def with_a_digit(walk, lines):
     return [*lines[:some[0]], " ".join([*words, text]), *lines[some[0] + 1:]]
 
 
+mistake("box 6: an older image is given to act/put", "put of box 6")(
+    other_put(lambda walk, image, disk, lines: (walk.first, disk, lines) if walk.first.raw != image.raw else None))
 for number in (5, 6):
     point = f"put of box {number}"
-    mistake(f"box {number}: an older image is given to act/put", point)(
-        other_put(lambda walk, image, disk, lines: (walk.first, disk, lines) if walk.first.raw != image.raw else None))
     mistake(f"box {number}: act/put writes on another disk", point)(
         other_put(lambda walk, image, disk, lines: (image, image.copy(walk.choice.randbytes(len(image.raw))), lines)))
     mistake(f"box {number}: act/put writes on a clone of the disk", point)(

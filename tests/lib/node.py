@@ -109,8 +109,7 @@ class Engine:
         given = SimpleNamespace(page=drive.page, pages=drive.pages, extents=drive.extents, last=last, map=None, accept=accepted, reset=resets,
                                 image=self.name, unreadable=[f"{e}:{g}" for e, g in sorted(drive.unreadable)])
         try:
-            with open(self.name, "rb") as file:
-                return script.plan(script.Disk(given, file)), True
+            return script.plan(script.Disk(given)), True
         except script.Refused as why:
             return list(why.lines), False
 

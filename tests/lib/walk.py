@@ -141,7 +141,7 @@ class Walk(OwnTools):
         known = self.drive.known or self.engine.manifest(self.first)[0]
         self.check(1, not any(line.startswith("last ") for line in doubts), text, then=None)
         self.check(1, self.engine.manifest(trial)[0] == known, "the node knows something else", then=None)
-        self.drive.raw[:] = trial.raw
+        self.drive.raw[:], self.drive.left = trial.raw, None
         raise Again
 
     def settle_copy(self, words, way):
