@@ -1,0 +1,285 @@
+"""Reclamations by act/plan on made-up disks. The script runs in this process, the drive is in memory, and a writer of the tests makes the
+writes. What becomes of a disk is judged by `compare` of the program, and by the payloads that the slow reference reads."""
+import argparse
+import random
+import types
+from pathlib import Path
+from typing import NamedTuple
+
+from lib.drives import (moved, with_a_last_generation, with_broken_shard_in_tail, with_copies_in_listed, with_later_run,
+                        with_newest_damaged, with_older_format, worn)
+from lib.made_up import made_disk
+from lib.node import Drive, Full, Node, acceptable, lines_with, open_doubts_in, require, run_of
+from lib.program import TOP
+from lib.walk import erased
+from reference import shardscrub as reference
+
+SCRIPT = (TOP / "act/plan").read_text(encoding="utf-8")
+# No plan needs more calls than this, even if each of its writes is interrupted several times.
+CALLS = 200
+MOST_RUNS = 32
+
+
+class Words(NamedTuple):
+    """What is the same in all calls of a reclamation: the generation of --last, the lines of --accept, and the extents of --reset."""
+    last: int
+    accepted: list
+    resets: list
+
+
+class Planner:
+    """Calls act/plan, or a script that differs from it, in this process."""
+
+    def __init__(self, room, script=SCRIPT):
+        self.image, self.calls = Path(room) / "planned", 0
+        self.script = types.ModuleType("plan")
+        self.script.__file__ = str(TOP / "act/plan")
+        exec(compile(script, self.script.__file__, "exec"), self.script.__dict__)
+
+    def ask(self, drive, words):
+        """The status and the lines of an answer on an image of the drive."""
+        self.calls += 1
+        self.image.write_bytes(drive.raw)
+        given = argparse.Namespace(page=drive.page, pages=drive.pages, extents=drive.extents, last=words.last, map=None,
+                                   accept=words.accepted, reset=words.resets, image=str(self.image),
+                                   unreadable=[f"{e}:{g}" for e, g in sorted(drive.unreadable)])
+        try:
+            return 0, self.script.plan(self.script.Disk(given))
+        except self.script.Refused as why:
+            return 1, list(why.lines)
+
+
+# The writer
+
+def write_of(drive, line):
+    """Where a line of a plan writes, an extent and an offset, and what."""
+    word, *words = line.split(" ")
+    if word == "copy":
+        source, at, extent, offset, count = map(int, words)
+        return extent, offset, drive.read(source, at, count)
+    require(word == "write", "no line of a plan:", line)
+    extent, offset, digits = words
+    return int(extent), int(offset), bytes.fromhex(digits)
+
+
+def put(drive, lines):
+    """Makes the writes of these lines."""
+    for extent, offset, text in [write_of(drive, line) for line in lines]:
+        require(offset + len(text) <= drive.size, "past the end of extent", extent)
+        drive.write(extent, offset, text)
+
+
+def put_sectors(drive, lines, sector, choice):
+    """An interruption: of what these lines write only some sectors are on the disk, in any order."""
+    chance = choice.random()
+    for extent, offset, text in [write_of(drive, line) for line in lines]:
+        begin = 0
+        while begin < len(text):
+            stop = min(len(text), begin + sector - (extent * drive.size + offset + begin) % sector)
+            if choice.random() < chance:
+                drive.write(extent, offset + begin, text[begin:stop])
+            begin = stop
+
+
+def is_superblock(lines):
+    return len(lines) == 1 and lines[0].startswith("write 0 ")
+
+
+def reclaim(planner, drive, words, choice, sector=None):
+    """Does what act/plan says until it says no more, and returns the last status and lines, and the answers before. Some answers are made in
+    part only, and the next one has to have the rest. With a sector, writes are interrupted."""
+    answers, interrupted = [], False
+    for _ in range(CALLS):
+        status, lines = planner.ask(drive, words)
+        if status or answers and is_superblock(answers[-1]) and not interrupted:
+            return status, lines, answers
+        if interrupted and is_superblock(answers[-1]):
+            # The zeros after it may be fewer, as an older record that it goes over isn't one any more.
+            require(lines[0].rstrip("0") == answers[-1][0].rstrip("0"), "another superblock after an interruption")
+        answers.append(lines)
+        interrupted = sector is not None and choice.random() < .6
+        if interrupted:
+            put_sectors(drive, lines, sector, choice)
+        elif is_superblock(lines) or choice.random() < .6:
+            put(drive, lines)
+        else:
+            put(drive, choice.sample(lines, choice.randint(1, len(lines))))
+    require(False, "no end after", CALLS, "calls")
+
+
+# What a plan needs, by the reference
+
+def bytes_needed(drive, words, listing):
+    """The bytes of all pieces. Those of a run are 78, 17 for each shard and 60 for each of its locators."""
+    found, record = reference.scrub(drive.image()), counting_record(drive)
+    moves = [one for one in lines_with(listing, "move") if int(one[1]) in words.resets]
+    copies = [one[1:] for one in lines_with(listing, "accepted") if one[1] in ("spare", "loose") and int(one[2]) in words.resets]
+    shards = {bytes.fromhex(one[6]) for one in moves if one[5] == "shard"}
+    count = len(record.runs) + bool(shards)
+    is_merged = count > MOST_RUNS or page_beside(drive, record.length + 60 * (count - len(record.runs))) is None
+    frames = {(one[1], one[2]): int(one[-1]) for one in moves + copies if one[5] == "shard" or not is_merged}
+    entries = [locators for one, (locators, _) in found.shard_map.items() if is_merged or one in shards]
+    return sum(frames.values()) + (78 + sum(17 + 60 * len(one) for one in entries)) * (is_merged or bool(shards))
+
+
+def counting_record(drive):
+    image = drive.image()
+    return reference.records_of(image)[reference.choose(image)["page"]]
+
+
+def page_beside(drive, length):
+    """The page at which a superblock of so many bytes begins, or None."""
+    first, pages = reference.choose(drive.image())["page"], -(-length // drive.page)
+    stop = first - (-counting_record(drive).length // drive.page)
+    return 0 if pages <= first else stop if stop + pages <= drive.pages else None
+
+
+def largest_room(words, listing):
+    rooms = lines_with(listing, "room") + lines_with(listing, "last-room")
+    return max((int(one[3]) for one in rooms if int(one[1]) not in words.resets), default=0)
+
+
+# What becomes of a disk
+
+def payloads(drive):
+    """The payloads of each shard, None for one that is lost."""
+    found = reference.scrub(drive.image())
+    return {identifier: reference.payloads_of(found, identifier) for identifier in found.shard_map}
+
+
+def are_kept(before, after):
+    """Whether each payload that there was is still there, and no other one."""
+    return before.keys() == after.keys() and all(
+        len(old) == len(after[one]) and all(a is None or a == b for a, b in zip(old, after[one])) for one, old in before.items())
+
+
+def judge(engine, before, after, words, choice):
+    """What has to be true after a reclamation."""
+    text, _ = engine.compare(before, after, words.resets)
+    require(text == f"safe {words.last} {words.last + 1}\n", "with --reset:", text)
+    pointers = reference.choose(before.image())["pointers"]
+    wanted = "".join(f"pointer {e} {pointers[e - 1]} 0\n" for e in sorted(set(words.resets)))
+    text, _ = engine.compare(before, after)
+    require(text == wanted + "unsafe\n", "without --reset:", text)
+    held = payloads(before)
+    for drive in after, erased(after, words.resets, choice):
+        require(are_kept(held, payloads(drive)), "a payload is lost or another one")
+
+
+# Disks
+
+class Busy(Node):
+    """A node that writes a run in each round, until there are 32. It never merges them."""
+
+    def flush(self):
+        if self.changed and len(self.runs) < MOST_RUNS:
+            self.runs.insert(0, self.append(run_of(sorted(self.changed.items()))))
+            self.changed = {}
+
+
+def with_many_runs(choice):
+    """A drive whose superblock lists 28 to 32 runs."""
+    drive = Drive(choice.choice([256, 512]), 24, choice.choice([5, 6, 8]))
+    node, count = Busy(drive, choice), choice.choice([28, 30, 31, 31, 32, 32, 32])
+    node.live_on(2)
+    while len(node.runs) < count:
+        one = choice.choice([*node.shards, choice.randbytes(16), choice.randbytes(16)])
+        node.bind(one, [] if choice.random() < .2 else [node.append(choice.randbytes(choice.randrange(60))) for _ in range(choice.choice([1, 1, 2]))])
+        node.append(choice.randbytes(choice.randrange(200)))
+        node.flush()
+    if not node.superblock():
+        raise Full
+    return drive, node.generation
+
+
+def narrow(choice):
+    """A drive whose extent 0 has few pages."""
+    drive = Drive(64, choice.choice([5, 6, 7, 8, 9, 10]), choice.choice([4, 5, 6]))
+    node = Node(drive, choice)
+    node.live_on(choice.randint(1, 4))
+    node.resume()
+    return drive, node.generation
+
+
+def hostile(choice):
+    """A made-up disk of any kind. Its last generation is the one that counts."""
+    drive = made_disk(choice)
+    return drive, reference.choose(drive.image())["generation"]
+
+
+KINDS = [worn, moved, moved, with_copies_in_listed, with_copies_in_listed, with_many_runs, narrow, hostile, hostile]
+# These have a doubt, or the plan goes over what was written after the last superblock.
+OTHERS = [with_a_last_generation, with_broken_shard_in_tail, with_later_run, with_newest_damaged, with_older_format]
+
+
+def any_drive(choice):
+    """A drive, and the last generation that its node wrote."""
+    while True:
+        try:
+            drive, last = choice.choice(OTHERS if choice.random() < .1 else KINDS)(choice)
+            return drive, last or 0
+        except Full:
+            pass
+
+
+def words_for(engine, drive, last, choice):
+    """Words for a reclamation, and what `reclaimable` prints with them. Each line is accepted that can be, and one listed extent or several
+    are reset. Sometimes one isn't listed."""
+    text, _ = engine.ask(drive, "reclaimable", last=last)
+    accepted = acceptable(open_doubts_in(text))
+    listing, _ = engine.ask(drive, "reclaimable", accepted, last=last)
+    listed = [int(words[1]) for words in lines_with(listing, "reclaim")]
+    if not listed or choice.random() < .03:
+        return Words(last, accepted, [choice.randrange(1, drive.extents)]), listing
+    count = choice.choice([1, 1, 1, 2, len(listed)])
+    return Words(last, accepted, choice.sample(listed, min(count, len(listed)))), listing
+
+
+# One disk
+
+def refused_rightly(drive, words, listing, lines):
+    """Whether these lines are the right refusal, as far as the reference can say."""
+    listed = {int(one[1]) for one in lines_with(listing, "reclaim")}
+    doubts = [line for line in listing.splitlines() if line.startswith("doubt ")]
+    unlisted = [f"unlisted {e}" for e in sorted(set(words.resets) - listed)]
+    if doubts or unlisted:
+        return lines == (doubts or unlisted)
+    if words.last == 2 ** 64 - 1:
+        return lines == ["no-generation"]
+    word = lines[0].split(" ")[0]
+    if word == "no-room":
+        return len(lines) == 1 and bytes_needed(drive, words, listing) > largest_room(words, listing)
+    return word == "no-page" and len(lines) == 1
+
+
+def plan_on(engine, planner, seed, seen, interrupts=False):
+    """Plans a reclamation on one disk, makes it, and judges what becomes of it. Counts what came up."""
+    choice = random.Random(f"plan {seed}")
+    drive, last = any_drive(choice)
+    words, listing = words_for(engine, drive, last, choice)
+    before = drive.copy()
+    status, lines, answers = reclaim(planner, drive, words, choice, choice.choice([16, 64, 512]) if interrupts else None)
+    if not answers:
+        require(status == 1 and refused_rightly(drive, words, listing, lines), f"disk {seed}: refused:", *lines)
+        seen[f"refused: {lines[0].split(' ')[0]}"] += 1
+        return
+    require(status == 1 and f"doubt last {last + 1} {last}" in lines, f"disk {seed}: after {len(answers)} answers:", *lines)
+    try:
+        judge(engine, before, drive, words, choice)
+    except AssertionError as why:
+        require(False, f"disk {seed}: {why}")
+    count_seen(drive, words, listing, answers, seen)
+
+
+def count_seen(drive, words, listing, answers, seen):
+    """Counts what a plan had that was made."""
+    first = answers[0]
+    seen["done"] += 1
+    seen["answers"] += len(answers)
+    seen["with pieces"] += not is_superblock(first)
+    seen["with a run"] += first[0].startswith("write ") and not is_superblock(first)
+    seen["copies"] += sum(line.startswith("copy ") for line in first)
+    seen["several extents"] += len(words.resets) > 1
+    seen["one run in place of all"] += len(counting_record(drive).runs) == 1 and listing.count(" run ") > 1
+    for kind in ("spare", "loose"):
+        seen[f"with a {kind} copied"] += any(words_[1] == kind and int(words_[2]) in words.resets for words_ in lines_with(listing, "accepted"))
