@@ -68,6 +68,8 @@ and
 in
 .IR share/doc/shardscrub ,
 and
+.I act
+and
 .I view
 in
 .IR share/shardscrub .
@@ -83,6 +85,9 @@ The report and the listings, key by key and line by line.
 .TP
 .I docs/FORMAT.md
 The format of the disk, byte by byte.
+.TP
+.I act
+Scripts: what is to be written for a reset, what writes it, and an order for index runs.
 .TP
 .I view
 A page that draws a report, and what runs every night.

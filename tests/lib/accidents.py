@@ -95,7 +95,7 @@ BETWEEN = {"after box 3": "before box 4", "copying": "between box 4 and the copi
 for point, when in BETWEEN.items():
     for what in ("chunk", "run", "superblock"):
         mistake(f"the node writes a {what} {when}", point)(node_writes(what))
-    mistake(f"the superblock that counts goes {when}", point)(lose_superblock)
+    mistake(f"the superblock that counts goes {when}", point, begins_again=True)(lose_superblock)
     mistake(f"the extent is erased {when}", point)(erase)
     mistake(f"a page becomes unreadable {when}", point, begins_again=True)(lose_page)
     mistake(f"the power fails {when}", point, begins_again=True)(fail)
@@ -103,11 +103,6 @@ for point in list(BETWEEN)[2:]:
     mistake(f"a copy rots {BETWEEN[point]}", point)(rot_copy)
     mistake(f"the run rots {BETWEEN[point]}", point)(rot_run)
     mistake(f"a chunk rots at its old place {BETWEEN[point]}", point, begins_again=True)(rot_source)
-
-
-@mistake("the superblock that counts goes, and the walk begins again", "after box 6", begins_again=True)
-def _(walk, value):
-    return lose_superblock(walk, value)
 
 
 @mistake("a superblock of the same generation without the reset is written over that of box 6", "after box 6")

@@ -60,7 +60,7 @@ HARMLESS = {
     "a superblock of an older format has a greater generation", "the generation is one of the greatest",
     "a chunk that was moved has rotted",
     # Its copy is named by then.
-    *(f"a chunk rots at its old place before {when}" for when in ("box 8", "box 9", "the erase")),
+    "a chunk rots at its old place before the erase",
     # Nothing is wrong that they could stop.
     "box 4 isn't asked", "box 7 isn't asked", "box 8 isn't asked", "boxes 7 and 8 aren't asked", "act/put compares nothing",
 }
@@ -69,8 +69,7 @@ HARMLESS = {
 # Boxes and rules without which bytes are lost and no box stops it, and what shows it.
 NEEDED = {
     **{f"a page becomes unreadable {when}": "restore" for when in accidents.BETWEEN.values() if when != "before the erase"},
-    **{f"the node writes a {what} between box 4 and the copies": "comparison of put" for what in ("chunk", "run")},
-    "the node writes a superblock before box 6": "comparison of put",
+    "the node writes a chunk between box 4 and the copies": "comparison of put",
     "another extent is erased": 9, "the extents of three reclamations are erased at the end": 9,
     "the node is back before the extent is erased": 9,
     "a superblock of an older format has a greater generation": "older format",
@@ -78,7 +77,7 @@ NEEDED = {
     "a chunk that was moved has rotted": "loose copies",
 }
 # A rule without which the walk can't begin again.
-DEAD_END = "the superblock that counts goes, and the walk begins again", "way back"
+DEAD_END = "the superblock that counts goes before box 7", "way back"
 
 
 def is_expected(one, outcome):

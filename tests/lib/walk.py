@@ -386,13 +386,15 @@ class Walk(OwnTools):
         self.drive.raw[:], self.drive.unreadable, self.known = self.first.raw, self.first.unreadable, self.generation
 
     def go_back(self):
-        """The superblock that was written becomes zeros, on a copy of the disk first: the manifest has to be that of the first image then. If
-        it isn't, the first image goes to another drive; but the disk of a walk that ends here is left as it is, to be looked at."""
+        """The superblock that was written becomes zeros, on a copy of the disk first: that of before has to count then, with the manifest of
+        the first image. Else the first image goes to another drive, unless the walk ends here: then what its disk has lost is looked at."""
         trial = self.drive.copy()
         if self.written:
             at, count = self.written
             trial.write(0, at, bytes(count))
-        if self.engine.manifest(trial)[0] == self.engine.manifest(self.first)[0]:
+        doubts = open_doubts_in(self.engine.ask(trial, "reclaimable", last=self.generation)[0])
+        counts = not any(line.startswith(("last ", "no-superblock")) for line in doubts)
+        if counts and self.engine.manifest(trial)[0] == self.engine.manifest(self.first)[0]:
             self.drive.raw[:], self.known = trial.raw, self.generation
         elif self.mistake is None or self.mistake.begins_again:
             self.restore()
