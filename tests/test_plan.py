@@ -410,7 +410,7 @@ SLIPS = {
     "an old entry": ("newest.setdefault(identifier, locators)", "newest[identifier] = locators"),
     "a digest": ("payload = text + digest(text)", "payload = text + digest(text[:-1])"),
     "the superblock that counts is overwritten": ("        return 0\n    return record.stop", "        return record.first\n    return record.stop"),
-    "an older superblock is taken for the one that counts": ('if words[4] == "counts")', 'if words[4] == "older")'),
+    "an older superblock is taken for the one that counts": ('if word == "counts"]', 'if word == "older"]'),
     "a copy of the wrong chunk": ('return f"copy {source.extent} {source.offset} ', 'return f"copy {source.extent} 0 '),
     "a run in the wrong order": ("runs.insert(0, locator_of(", "runs.append(locator_of("),
     "the generation of before": ("record.generation + 1", "record.generation"),
