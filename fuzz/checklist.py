@@ -27,7 +27,7 @@ from lib.walk import walk_honestly
 RULES = NEEDED | dict([DEAD_END])
 # About how many seconds of one processor each of these takes: the laws on a disk or a pair, a walk, a mistake on a disk, and what
 # `--table` tries beside a mistake.
-LAW, WALK, MISTAKE, BESIDE = .1, .12, .1, .02
+LAW, WALK, MISTAKE, BESIDE = .12, .15, .25, .05
 # So many seconds are between two lines on what is left.
 BETWEEN = 15
 

@@ -183,15 +183,22 @@ mistake("box 5: act/put gets a plan that lacks a line", "put of box 5")(
 mistake("box 5: act/put is called twice", "after the copies")(lambda walk, value: walk.put_again() or ())
 
 
-# The extents
+# The extents of box 7
 
-for number, *what in ((7, "no extent is given", "another extent is given", "one more extent is given", "one of several extents is given"),):
-    point = f"resets of box {number}"
-    for one, make in zip(what, (lambda walk, extents: [],
-                                lambda walk, extents: [e for e in range(1, walk.drive.extents) if e not in extents][:1] or None,
-                                lambda walk, extents: [*extents, *[e for e in range(1, walk.drive.extents) if e not in extents][:1]],
-                                lambda walk, extents: extents[:1] if len(extents) > 1 else None)):
-        mistake(f"box {number}: {one}", point)(make)
+def other_extents(walk, extents):
+    """The first extent that isn't among these."""
+    return [e for e in range(1, walk.drive.extents) if e not in extents][:1]
+
+
+for what, make in (("no extent is given", lambda walk, extents: []),
+                   ("another extent is given", lambda walk, extents: other_extents(walk, extents) or None),
+                   ("one more extent is given", lambda walk, extents: [*extents, *other_extents(walk, extents)]),
+                   ("one of several extents is given", lambda walk, extents: extents[:1] if len(extents) > 1 else None)):
+    mistake(f"box 7: {what}", "resets of box 7")(make)
+
+
+# What isn't asked
+
 for name, *without in (("box 4 isn't asked", "compare of box 4"), ("box 7 isn't asked", 7), ("box 8 isn't asked", 8),
                        ("boxes 7 and 8 aren't asked", 7, 8), ("act/put compares nothing", "comparison of put")):
     MISTAKES.append(Mistake(name, "never", None, without=without))
