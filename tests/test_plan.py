@@ -6,20 +6,19 @@ import shutil
 import signal
 import subprocess
 import sys
-import tempfile
 import time
 from collections import Counter
 from hashlib import sha256
 from pathlib import Path
 from unittest import mock
 
-from lib.cases import Case, RoomCase, add_tests
+from lib.cases import RoomCase, add_tests
 from lib.disks import frame, geometry, locator, record, run, shard, uuid
 from lib.node import Drive, Engine, require
-from lib.planning import SCRIPT, Planner, Words, is_superblock, judge, plan_on, put, reclaim, write_of
+from lib.planning import CALLS, SCRIPT, Planner, Words, is_right, judge, plan_on, planned_drive, put, reclaim, write_of
 from lib.program import TOP, need
 
-SEED, DISKS, INTERRUPTED = 1, 400, 200
+SEED, DISKS, INTERRUPTED, BY_BOTH = 1, 400, 200, 24
 PLAN, PUT = TOP / "act/plan", TOP / "act/put"
 SECONDS = 120
 SHELLS = ("dash", "bash")
@@ -390,6 +389,33 @@ class EachByte(PlanCase):
         self.check(WRITE_SUPERBLOCK.strip(), WRITE_RUN.strip(), "copy 1 0 2 195 41")
 
 
+class BothScripts(PlanCase):
+    """The same by processes: act/plan and act/put on files."""
+
+    def check(self, turn):
+        need("basenc")
+        drive, words, listing, choice = planned_drive(self.engine, seed_of(turn))
+        sizes, image, disk = geometry(drive.page, drive.pages, drive.extents), self.room / "image", self.room / "disk"
+        options = [f"--last={words.last}", *(f"--accept={line}" for line in words.accepted), *(f"--reset={e}" for e in words.resets)]
+        before = drive.copy()
+        disk.write_bytes(drive.raw)
+        for number in range(CALLS):
+            image.write_bytes(disk.read_bytes())
+            planned = subprocess.run([PLAN, *sizes, *options, image, *(f"{e}:{g}" for e, g in sorted(drive.unreadable))], timeout=SECONDS,
+                                     stdin=subprocess.DEVNULL, capture_output=True, text=True, check=False)
+            lines = planned.stdout.splitlines()
+            if number == 0:
+                self.true("the first answer", planned.stderr == "" and is_right(drive, words, listing, planned.returncode, lines), planned)
+            if planned.returncode:
+                break
+            done = subprocess.run([PUT, *sizes, image, disk], input=planned.stdout, capture_output=True, text=True, timeout=SECONDS, check=False)
+            self.same("put", (done.returncode, done.stdout, done.stderr), (0, "", ""))
+        drive.raw[:] = disk.read_bytes()
+        if number > 0:
+            self.true("the last answer", f"doubt last {words.last + 1} {words.last}" in lines, lines)
+            judge(self.engine, before, drive, words, choice)
+
+
 # Slips
 
 def with_two_owners():
@@ -555,7 +581,7 @@ class Put(WorkedCase):
         for line in ("", "copy", "copy 1 0 2 195", "copy 1 0 2 195 41 7", "copy 1 0  2 195 41", " copy 1 0 2 195 41", "copy 1 0 2 195 41 ",
                      "copy 1 0 2 195 40", "copy 1 0 2 195 42", "copy 1 1 2 195 41", "copy 1 0 2 472 41", "copy 1 0 4 0 41", "copy 4 0 2 195 41",
                      "copy 0 192 2 195 41", "copy 1 0 0 0 41", "copy 1 00 2 195 41", "copy 1 0 2 195 041", "copy 1 0 2 -1 41", "copy 1 0 2 1e2 41",
-                     "copy 1 0 2 99999999999 41", "Copy 1 0 2 195 41", "copy 1 0 2 195 41\r", "copy\t1 0 2 195 41", "#", "move 1 0 2 195 41", "safe 2 3", "doubt last 3 2", "unlisted 1",
+                     "copy 1 0 2 99999999999 41", "Copy 1 0 2 195 41", "copy 1 0 2 195 41\r", "copy\t1 0 2 195 41", "#", "copy 1 0 2 195 41\0", "move 1 0 2 195 41", "safe 2 3", "doubt last 3 2", "unlisted 1",
                      "no-room 155", run_line[:-1], run_line[:-2], run_line + "00", run_line + "0", run_line.upper(), run_line.replace("c55e", "c55f"),
                      run_line.replace("write 2 40", "write 0 64"), run_line.replace("write 2 40", "write 2 400"),
                      run_line.replace("write 2", "write 4"), run_line.replace("c55eb3", "c55eb4"), "write 2 40", "write 2 40 ", "write 2 40 c55",
@@ -563,9 +589,8 @@ class Put(WorkedCase):
                      superblock.replace("write 0 0", "write 1 0"), superblock.replace("53534231", "53534233"), "write 0 0 " + "01" * 64):
             self.refused(line, f"{line}\n", why="line 1 isn't a plan's")
         self.refused("a second line", "copy 1 0 2 195 41\nunsafe\n", why="line 2 isn't a plan's")
-        self.refused("two superblocks", WRITE_SUPERBLOCK * 2, why="line 2 isn't a plan's")
+        self.refused("two superblocks", WRITE_SUPERBLOCK * 2, why="line 1 isn't a plan's")
         self.refused("a superblock with a piece", WRITE_SUPERBLOCK + "copy 1 0 2 195 41\n", why="line 1 isn't a plan's")
-        self.refused("a zero byte", "copy 1 0 2 195 41\0\n", why="the plan has a zero byte")
 
     def test_a_plan_that_is_cut(self):
         """At no byte is a part of a line taken."""
@@ -634,4 +659,5 @@ def load_tests(loader, tests, _):
 
 add_tests(Disks, Disks.check, [(f"disk {turn:03}", turn) for turn in range(DISKS)])
 add_tests(Interrupted, Interrupted.check, [(f"disk {turn:03}", turn) for turn in range(INTERRUPTED)])
+add_tests(BothScripts, BothScripts.check, [(f"disk {turn:03}", turn) for turn in range(BY_BOTH)])
 add_tests(Slips, Slips.check, list(SLIPS.items()))

@@ -6,6 +6,7 @@ import types
 from pathlib import Path
 from typing import NamedTuple
 
+from lib.disks import digest, frame, locator, record as superblock, run
 from lib.drives import (moved, with_a_last_generation, with_broken_shard_in_tail, with_copies_in_listed, with_later_run,
                         with_newest_damaged, with_older_format, worn)
 from lib.made_up import made_disk
@@ -81,6 +82,11 @@ def put_sectors(drive, lines, sector, choice):
             begin = stop
 
 
+def is_there(drive, line):
+    extent, offset, text = write_of(drive, line)
+    return drive.read(extent, offset, len(text)) == text
+
+
 def is_superblock(lines):
     return len(lines) == 1 and lines[0].startswith("write 0 ")
 
@@ -107,19 +113,31 @@ def reclaim(planner, drive, words, choice, sector=None):
     require(False, "no end after", CALLS, "calls")
 
 
-# What a plan needs, by the reference
+# What a plan has to be, by the reference and lib/disks.py
 
-def bytes_needed(drive, words, listing):
-    """The bytes of all pieces. Those of a run are 78, 17 for each shard and 60 for each of its locators."""
+class Needed(NamedTuple):
+    """What has to be written: the frames to copy, each a place with its bytes; the entries of the new run, or None; the runs of before that
+    are kept."""
+    frames: dict
+    entries: list | None
+    runs: list
+
+    def counts(self):
+        """The bytes of each piece. Those of a run are 78, 17 for each shard and 60 for each of its locators."""
+        of_run = {} if self.entries is None else {None: 78 + sum(17 + 60 * len(locators) for _, locators in self.entries)}
+        return {**self.frames, **of_run}
+
+
+def needed(drive, words, listing):
     found, record = reference.scrub(drive.image()), counting_record(drive)
     moves = [one for one in lines_with(listing, "move") if int(one[1]) in words.resets]
     copies = [one[1:] for one in lines_with(listing, "accepted") if one[1] in ("spare", "loose") and int(one[2]) in words.resets]
     shards = {bytes.fromhex(one[6]) for one in moves if one[5] == "shard"}
     count = len(record.runs) + bool(shards)
-    is_merged = count > MOST_RUNS or page_beside(drive, record.length + 60 * (count - len(record.runs))) is None
-    frames = {(one[1], one[2]): int(one[-1]) for one in moves + copies if one[5] == "shard" or not is_merged}
-    entries = [locators for one, (locators, _) in found.shard_map.items() if is_merged or one in shards]
-    return sum(frames.values()) + (78 + sum(17 + 60 * len(one) for one in entries)) * (is_merged or bool(shards))
+    is_merged = count > MOST_RUNS or page_beside(drive, record.length + 60 * bool(shards)) is None
+    frames = {(int(one[1]), int(one[2])): int(one[-1]) for one in moves + copies if one[5] == "shard" or not is_merged}
+    entries = [(one, locators) for one, (locators, _) in sorted(found.shard_map.items()) if is_merged or one in shards]
+    return Needed(frames, entries if is_merged or shards else None, [] if is_merged else record.runs)
 
 
 def counting_record(drive):
@@ -134,9 +152,54 @@ def page_beside(drive, length):
     return 0 if pages <= first else stop if stop + pages <= drive.pages else None
 
 
-def largest_room(words, listing):
+def rooms_in(words, listing):
+    """The rooms in their order, each its extent, its place and its end."""
     rooms = lines_with(listing, "room") + lines_with(listing, "last-room")
-    return max((int(one[3]) for one in rooms if int(one[1]) not in words.resets), default=0)
+    return [(int(e), int(at), int(at) + int(count)) for _, e, at, count in rooms if int(e) not in words.resets]
+
+
+def wanted_plan(drive, words, listing):
+    """The lines of the pieces, and a list of that of the superblock. If one of them has no place, the lines of the refusal, and none."""
+    what, record = needed(drive, words, listing), counting_record(drive)
+    counts, at, targets = what.counts(), {e: place for e, place, _ in rooms_in(words, listing)}, {}
+    for piece in sorted(counts, key=lambda one: (-counts[one], one or (drive.extents, 0))):
+        x = next((e for e, _, end in rooms_in(words, listing) if at[e] + counts[piece] <= end), None)
+        if x is None:
+            return [f"no-room {counts[piece]}"], []
+        targets[piece] = x, at[x]
+        at[x] += counts[piece]
+
+    def at_new_place(c):
+        e, o = targets.get((c["extent"], c["offset"]), (c["extent"], c["offset"]))
+        return reference.write_locator({**c, "extent": e, "offset": o})
+
+    lines, runs = [], [at_new_place(c) for c in what.runs]
+    for piece, (x, o) in targets.items():
+        if piece:
+            lines.append(f"copy {piece[0]} {piece[1]} {x} {o} {counts[piece]}")
+        else:
+            payload = run(*((one, [at_new_place(c) for c in locators]) for one, locators in what.entries))
+            name = digest(payload)[:16]
+            lines.append(f"write {x} {o} {frame(name, payload).hex()}")
+            runs.insert(0, locator(x, o, name, payload))
+    written = {x for x, _ in targets.values()}
+    pointers = [0 if e in words.resets else at[e] if e in written else w for e, w in enumerate(record.pointers, 1)]
+    text = superblock(drive.page, drive.pages, drive.extents, pointers, runs, words.last + 1, record.retired if record.kind == b"SSB2" else None)
+    page = page_beside(drive, len(text))
+    if page is None:
+        return [f"no-page {len(text)}"], []
+    return lines, [f"write 0 {page * drive.page} {with_zeros(drive, page, text).hex()}"]
+
+
+def with_zeros(drive, page, text):
+    """A superblock in whole pages, and zeros up to the end of each valid record that begins on one of them, but not up to the one that
+    counts."""
+    stop, counts = page - (-len(text) // drive.page), reference.choose(drive.image())["page"]
+    for g, one in sorted(reference.records_of(drive.image()).items()):
+        if page <= g < stop:
+            stop = max(stop, g - (-one.length // drive.page))
+    stop = min(stop, counts) if page < counts else stop
+    return text.ljust((stop - page) * drive.page, bytes(1))
 
 
 # What becomes of a disk
@@ -237,30 +300,37 @@ def words_for(engine, drive, last, choice):
 
 # One disk
 
-def refused_rightly(drive, words, listing, lines):
-    """Whether these lines are the right refusal, as far as the reference can say."""
+def is_right(drive, words, listing, status, lines):
+    """Whether this is the right first answer. Nothing is refused for want of room if one room has enough for all pieces."""
     listed = {int(one[1]) for one in lines_with(listing, "reclaim")}
     doubts = [line for line in listing.splitlines() if line.startswith("doubt ")]
     unlisted = [f"unlisted {e}" for e in sorted(set(words.resets) - listed)]
-    if doubts or unlisted:
-        return lines == (doubts or unlisted)
-    if words.last == 2 ** 64 - 1:
-        return lines == ["no-generation"]
-    word = lines[0].split(" ")[0]
-    if word == "no-room":
-        return len(lines) == 1 and bytes_needed(drive, words, listing) > largest_room(words, listing)
-    return word == "no-page" and len(lines) == 1
+    refused = doubts or unlisted or ["no-generation"] * (words.last == 2 ** 64 - 1)
+    if refused:
+        return (status, lines) == (1, refused)
+    pieces, record = wanted_plan(drive, words, listing)
+    if record:
+        return (status, lines) == (0, [line for line in pieces if not is_there(drive, line)] or record)
+    largest = max((end - at for _, at, end in rooms_in(words, listing)), default=0)
+    is_full = sum(needed(drive, words, listing).counts().values()) > largest
+    return (status, lines) == (1, pieces) and (is_full or lines[0].startswith("no-page "))
+
+
+def planned_drive(engine, seed):
+    """A drive, words for a reclamation, what `reclaimable` prints with them, and what makes choices from there on."""
+    choice = random.Random(f"plan {seed}")
+    drive, last = any_drive(choice)
+    return drive, *words_for(engine, drive, last, choice), choice
 
 
 def plan_on(engine, planner, seed, seen, interrupts=False):
     """Plans a reclamation on one disk, makes it, and judges what becomes of it. Counts what came up."""
-    choice = random.Random(f"plan {seed}")
-    drive, last = any_drive(choice)
-    words, listing = words_for(engine, drive, last, choice)
-    before = drive.copy()
+    drive, words, listing, choice = planned_drive(engine, seed)
+    before, last = drive.copy(), words.last
     status, lines, answers = reclaim(planner, drive, words, choice, choice.choice([16, 64, 512]) if interrupts else None)
+    first = (0, answers[0]) if answers else (status, lines)
+    require(is_right(before, words, listing, *first), f"disk {seed}: the first answer: {first[0]}", *first[1])
     if not answers:
-        require(status == 1 and refused_rightly(drive, words, listing, lines), f"disk {seed}: refused:", *lines)
         seen[f"refused: {lines[0].split(' ')[0]}"] += 1
         return
     require(status == 1 and f"doubt last {last + 1} {last}" in lines, f"disk {seed}: after {len(answers)} answers:", *lines)
