@@ -1,15 +1,11 @@
 """A disk in memory, the answers of a program or of the reference on it, and a storage node at work on it. lib/drives.py has drives on
 which a node has worked."""
-import functools
 import os
 import re
 import subprocess
-import sys
-from importlib.machinery import SourceFileLoader
-from importlib.util import module_from_spec, spec_from_loader
-from types import SimpleNamespace
 
 from lib.disks import frame, geometry, record, run, sealed_frame
+from lib.planner import Planner, Words, write_over
 from lib.program import TOP
 from reference import shardscrub as reference
 from reference.shardscrub import BEST, FORMS, Image, choose, frame_at, manifest, records_of, refusal, scrub, sha, tile, write_locator
@@ -51,24 +47,11 @@ class Drive:
         return record(self.page, self.pages, self.extents, pointers, [write_locator(c) for c in runs], generation, retired or None)
 
 
-@functools.cache
-def planner():
-    """The script act/plan, as a module."""
-    loader = SourceFileLoader("plan", str(TOP / "act/plan"))
-    script = module_from_spec(spec_from_loader("plan", loader))
-    kept, sys.dont_write_bytecode = sys.dont_write_bytecode, True
-    try:
-        loader.exec_module(script)
-    finally:
-        sys.dont_write_bytecode = kept
-    return script
-
-
 class Engine:
     """Prints the answers: a program, or the reference by itself."""
 
     def __init__(self, program, room):
-        self.program, self.calls, self.file, self.written = program, 0, None, b""
+        self.program, self.calls, self.file, self.written, self.planner = program, 0, None, b"", None
         self.name = os.path.join(room, "image") if room else None
 
     def ask(self, drive, command, accepted=(), last=None):
@@ -91,8 +74,7 @@ class Engine:
             return reference.compare(before.image(), after.image(), resets)
         names = [os.path.join(os.path.dirname(self.name), name) for name in ("before", "after")]
         for name, drive in zip(names, (before, after)):
-            with open(name, "wb") as file:
-                file.write(drive.raw)
+            write_over(name, drive.raw)
         pairs = [f"{e}:{g}" for e, g in sorted(after.unreadable)]
         words = ["compare", *geometry(before.page, before.pages, before.extents), *(f"--reset={e}" for e in resets), *names, *pairs]
         done = subprocess.run([self.program, *words], stdin=subprocess.DEVNULL, capture_output=True)
@@ -103,22 +85,16 @@ class Engine:
     def plan(self, drive, last, accepted, resets):
         """The lines of act/plan, and whether its status is 0."""
         self.calls += 1
-        self.write(drive.raw)
-        script = planner()
-        script.program = lambda: str(self.program or TOP / "reference/shardscrub.py")
-        given = SimpleNamespace(page=drive.page, pages=drive.pages, extents=drive.extents, last=last, map=None, accept=accepted, reset=resets,
-                                image=self.name, unreadable=[f"{e}:{g}" for e, g in sorted(drive.unreadable)])
-        try:
-            return script.plan(script.Disk(given)), True
-        except script.Refused as why:
-            return list(why.lines), False
+        if self.planner is None:
+            self.planner = Planner(os.path.dirname(self.name), program=self.program or TOP / "reference/shardscrub.py")
+        status, lines = self.planner.ask(drive, Words(last, accepted, resets))
+        return lines, status == 0
 
     def put(self, image, disk, lines):
         """The bytes of the disk after act/put has made these writes."""
         names = [os.path.join(os.path.dirname(self.name), name) for name in ("image of the plan", "disk")]
         for name, drive in zip(names, (image, disk)):
-            with open(name, "wb") as file:
-                file.write(drive.raw)
+            write_over(name, drive.raw)
         words = [TOP / "act/put", *geometry(disk.page, disk.pages, disk.extents), *names]
         done = subprocess.run(words, input="".join(line + "\n" for line in lines).encode(), capture_output=True)
         if done.returncode or done.stdout or done.stderr:
