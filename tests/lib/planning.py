@@ -1,9 +1,6 @@
 """Reclamations by act/plan on made-up disks. The script runs in this process, the drive is in memory, and a writer of the tests makes the
 writes. What becomes of a disk is judged by `compare` of the program, and by the payloads that the slow reference reads."""
-import argparse
 import random
-import types
-from pathlib import Path
 from typing import NamedTuple
 
 from lib.disks import digest, frame, locator, record as superblock, run
@@ -11,43 +8,13 @@ from lib.drives import (moved, with_a_last_generation, with_broken_shard_in_tail
                         with_newest_damaged, with_older_format, worn)
 from lib.made_up import made_disk
 from lib.node import Drive, Full, Node, acceptable, lines_with, open_doubts_in, require, run_of
-from lib.program import TOP
+from lib.planner import SCRIPT, Planner, Words
 from lib.walk import erased
 from reference import shardscrub as reference
 
-SCRIPT = (TOP / "act/plan").read_text(encoding="utf-8")
 # No plan needs more calls than this, even if each of its writes is interrupted several times.
 CALLS = 200
 MOST_RUNS = 32
-
-
-class Words(NamedTuple):
-    """What is the same in all calls of a reclamation: the generation of --last, the lines of --accept, and the extents of --reset."""
-    last: int
-    accepted: list
-    resets: list
-
-
-class Planner:
-    """Calls act/plan, or a script that differs from it, in this process."""
-
-    def __init__(self, room, script=SCRIPT):
-        self.image, self.calls = Path(room) / "planned", 0
-        self.script = types.ModuleType("plan")
-        self.script.__file__ = str(TOP / "act/plan")
-        exec(compile(script, self.script.__file__, "exec"), self.script.__dict__)
-
-    def ask(self, drive, words):
-        """The status and the lines of an answer on an image of the drive."""
-        self.calls += 1
-        self.image.write_bytes(drive.raw)
-        given = argparse.Namespace(page=drive.page, pages=drive.pages, extents=drive.extents, last=words.last, map=None,
-                                   accept=words.accepted, reset=words.resets, image=str(self.image),
-                                   unreadable=[f"{e}:{g}" for e, g in sorted(drive.unreadable)])
-        try:
-            return 0, self.script.plan(self.script.Disk(given))
-        except self.script.Refused as why:
-            return 1, list(why.lines)
 
 
 # The writer
