@@ -8,6 +8,7 @@ import subprocess
 import sys
 import time
 from collections import Counter
+from functools import partial
 from hashlib import sha256
 from pathlib import Path
 from unittest import mock
@@ -309,8 +310,10 @@ class Calls(WorkedCase):
         for number in (signal.SIGHUP, signal.SIGINT, signal.SIGTERM):
             (self.room / "waits").unlink(missing_ok=True)
             with mock.patch.dict(self.given, SHARDSCRUB=str(waiting), TMPDIR=str(folder)):
+                # Whoever started the tests may have had the signal ignored.
                 begun = subprocess.Popen([sys.executable, PLAN, *self.WORDS], cwd=self.room, env=self.given, stdin=subprocess.DEVNULL,
-                                         stdout=subprocess.PIPE, stderr=subprocess.PIPE, text=True)
+                                         stdout=subprocess.PIPE, stderr=subprocess.PIPE, text=True,
+                                         preexec_fn=partial(signal.signal, number, signal.SIG_DFL))
             until = time.monotonic() + SECONDS
             while not (self.room / "waits").exists() and time.monotonic() < until:
                 time.sleep(.01)
