@@ -2,9 +2,9 @@
 """Plans reclamations by act/plan on made-up disks, makes them, and judges what becomes of the disks, as tests/test_plan.py does, on more
 disks and others. On some of them what is written is interrupted, and of its sectors only some are on the disk.
 
-Prints a line for each failure, how often each case came up, and how many plans were refused, by the first word of the answer. The last line
-is 'N passed, M failed'. Exit status: 0 if all passed, 1 if something failed, 2 if the arguments are wrong, 70 if there is no program of these
-sources.
+Prints a line for each failure, how often each case came up, and how many plans were refused, by the first word of the answer. The last
+line is 'N passed, M failed'. Exit status: 0 if all passed, 1 if something failed, 2 if the arguments are wrong, 70 if there is no program
+of these sources.
 """
 import argparse
 import os

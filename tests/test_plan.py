@@ -8,6 +8,7 @@ import subprocess
 import sys
 import time
 from collections import Counter
+from functools import partial
 from hashlib import sha256
 from pathlib import Path
 from unittest import mock
@@ -303,13 +304,16 @@ class Calls(WorkedCase):
         folder = self.room / "interrupted"
         folder.mkdir()
         waiting = self.room / "waiting"
-        waiting.write_text(f"#!/bin/sh\nif [ \"$1\" = compare ]; then touch '{self.room}/waits'; exec sleep 100; fi\nexec '{self.program}' \"$@\"\n")
+        waits = f"touch '{self.room}/waits'; exec sleep 100"
+        waiting.write_text(f"#!/bin/sh\nif [ \"$1\" = compare ]; then {waits}; fi\nexec '{self.program}' \"$@\"\n")
         waiting.chmod(0o755)
         for number in (signal.SIGHUP, signal.SIGINT, signal.SIGTERM):
             (self.room / "waits").unlink(missing_ok=True)
             with mock.patch.dict(self.given, SHARDSCRUB=str(waiting), TMPDIR=str(folder)):
+                # Whoever started the tests may have had the signal ignored.
                 begun = subprocess.Popen([sys.executable, PLAN, *self.WORDS], cwd=self.room, env=self.given, stdin=subprocess.DEVNULL,
-                                         stdout=subprocess.PIPE, stderr=subprocess.PIPE, text=True)
+                                         stdout=subprocess.PIPE, stderr=subprocess.PIPE, text=True,
+                                         preexec_fn=partial(signal.signal, number, signal.SIG_DFL))
             until = time.monotonic() + SECONDS
             while not (self.room / "waits").exists() and time.monotonic() < until:
                 time.sleep(.01)
@@ -441,6 +445,7 @@ SLIPS = {
     "a run in the wrong order": ("runs.insert(0, locator_of(", "runs.append(locator_of("),
     "the generation of before": ("record.generation + 1", "record.generation"),
     "an entry without its new place": ("return Locator(places.get(self.place, self.place), self.rest)", "return self"),
+    "a copy that isn't there": ("return disk.read(place, len(text)) == text", "return True"),
     "the pointer of another extent": ("enumerate(record.pointers, 1)]", "enumerate(record.pointers)]"),
 }
 
@@ -511,7 +516,7 @@ class Put(WorkedCase):
     def test_zeros_for_the_superblock(self):
         """The way back."""
         self.disk("done")
-        zeros = subprocess.run(["awk", '{ gsub(/./, "0", $4) } 1'], input=WRITE_SUPERBLOCK, capture_output=True, text=True, check=True).stdout
+        _, zeros, _ = self.run_in_room("awk", '{ gsub(/./, "0", $4) } 1', input=WRITE_SUPERBLOCK)
         self.same("put", self.put(zeros, "done", "disk"), (0, "", ""))
         self.true("the superblock is gone", self.file("disk") == self.file("copied"))
 
@@ -581,7 +586,8 @@ class Put(WorkedCase):
         for line in ("", "copy", "copy 1 0 2 195", "copy 1 0 2 195 41 7", "copy 1 0  2 195 41", " copy 1 0 2 195 41", "copy 1 0 2 195 41 ",
                      "copy 1 0 2 195 40", "copy 1 0 2 195 42", "copy 1 1 2 195 41", "copy 1 0 2 472 41", "copy 1 0 4 0 41", "copy 4 0 2 195 41",
                      "copy 0 192 2 195 41", "copy 1 0 0 0 41", "copy 1 00 2 195 41", "copy 1 0 2 195 041", "copy 1 0 2 -1 41", "copy 1 0 2 1e2 41",
-                     "copy 1 0 2 99999999999 41", "Copy 1 0 2 195 41", "copy 1 0 2 195 41\r", "copy\t1 0 2 195 41", "#", "copy 1 0 2 195 41\0", "move 1 0 2 195 41", "safe 2 3", "doubt last 3 2", "unlisted 1",
+                     "copy 1 0 2 99999999999 41", "Copy 1 0 2 195 41", "copy 1 0 2 195 41\r", "copy\t1 0 2 195 41", "#",
+                     "copy 1 0 2 195 41\0", "move 1 0 2 195 41", "safe 2 3", "doubt last 3 2", "unlisted 1",
                      "no-room 155", run_line[:-1], run_line[:-2], run_line + "00", run_line + "0", run_line.upper(), run_line.replace("c55e", "c55f"),
                      run_line.replace("write 2 40", "write 0 64"), run_line.replace("write 2 40", "write 2 400"),
                      run_line.replace("write 2", "write 4"), run_line.replace("c55eb3", "c55eb4"), "write 2 40", "write 2 40 ", "write 2 40 c55",

@@ -59,8 +59,8 @@ def is_superblock(lines):
 
 
 def reclaim(planner, drive, words, choice, sector=None):
-    """Does what act/plan says until it says no more, and returns the last status and lines, and the answers before. Some answers are made in
-    part only, and the next one has to have the rest. With a sector, writes are interrupted."""
+    """Does what act/plan says until it says no more, and returns the last status and lines, and the answers before. Some answers are made
+    in part only, and the next one has to have the rest. With a sector, writes are interrupted."""
     answers, interrupted = [], False
     for _ in range(CALLS):
         status, lines = planner.ask(drive, words)
@@ -151,7 +151,8 @@ def wanted_plan(drive, words, listing):
             runs.insert(0, locator(x, o, name, payload))
     written = {x for x, _ in targets.values()}
     pointers = [0 if e in words.resets else at[e] if e in written else w for e, w in enumerate(record.pointers, 1)]
-    text = superblock(drive.page, drive.pages, drive.extents, pointers, runs, words.last + 1, record.retired if record.kind == b"SSB2" else None)
+    retired = record.retired if record.kind == b"SSB2" else None
+    text = superblock(drive.page, drive.pages, drive.extents, pointers, runs, words.last + 1, retired)
     page = page_beside(drive, len(text))
     if page is None:
         return [f"no-page {len(text)}"], []
@@ -214,7 +215,8 @@ def with_many_runs(choice):
     node.live_on(2)
     while len(node.runs) < count:
         one = choice.choice([*node.shards, choice.randbytes(16), choice.randbytes(16)])
-        node.bind(one, [] if choice.random() < .2 else [node.append(choice.randbytes(choice.randrange(60))) for _ in range(choice.choice([1, 1, 2]))])
+        parts = 0 if choice.random() < .2 else choice.choice([1, 1, 2])
+        node.bind(one, [node.append(choice.randbytes(choice.randrange(60))) for _ in range(parts)])
         node.append(choice.randbytes(choice.randrange(200)))
         node.flush()
     if not node.superblock():
@@ -318,5 +320,6 @@ def count_seen(drive, words, listing, answers, seen):
     seen["copies"] += sum(line.startswith("copy ") for line in first)
     seen["several extents"] += len(words.resets) > 1
     seen["one run in place of all"] += len(counting_record(drive).runs) == 1 and listing.count(" run ") > 1
+    accepted = lines_with(listing, "accepted")
     for kind in ("spare", "loose"):
-        seen[f"with a {kind} copied"] += any(words_[1] == kind and int(words_[2]) in words.resets for words_ in lines_with(listing, "accepted"))
+        seen[f"with a {kind} copied"] += any(one[1] == kind and int(one[2]) in words.resets for one in accepted)
