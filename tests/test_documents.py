@@ -92,8 +92,7 @@ class Shell(RoomCase):
 
     def test_plan_and_put(self):
         """The copies and their run, then the superblock, with the unreadable page of each setting."""
-        for tool in "awk", "cmp":
-            need(tool)
+        need("cmp")
         for settings in self.BY_PAGE, self.BY_MAP:
             self.write(settings)
             for shell in filter(shutil.which, ("sh", "bash")):
