@@ -41,6 +41,7 @@ IN_RUNS = {
     "Plan::with_resets": "manifest with resets",
     "find_superblocks": "sizes",
     "scan_extents_in": "scan",
+    "push_item_line": "scan",
     "claimed_frame": "scan",
     "RunWriter::new": "index of several findings",
     "RunWriter::append": "index of several findings",

@@ -108,7 +108,7 @@ fn is_above_all(entries: &[Entry], id: ShardId) -> bool
 }
 
 /// Reads `count` entries in strictly ascending order that fill these bytes; `None` if the bytes are anything
-/// else. The list grows with the entries found, whatever number was claimed.
+/// else. The list has room from the start for as many of the entries as these bytes can hold.
 fn read_entries(alloc: Global, bytes: &[u8], count: u32) -> Result<Option<Vec<Entry>>, OutOfMemory>
     ensures found { IfOk result (λ found. IfSome found (λ v. bytes.now ≡ flat_map entry_bytes v.items)) }
     ensures count { IfOk result (λ found. IfSome found (λ v. length v.items ≡ count)) }
@@ -118,7 +118,10 @@ fn read_entries(alloc: Global, bytes: &[u8], count: u32) -> Result<Option<Vec<En
         length entries ≡ count → All IsEntry entries → RisesById entries →
         ¬ (bytes.now ≡ flat_map entry_bytes entries))) }
 {
-    let mut entries = Vec::new(alloc);
+    let mut entries = Vec::with_capacity(
+        alloc,
+        (count as usize).min(bytes.len() / BARE_ENTRY_BYTES),
+    )?;
     let mut rest = bytes;
     for _ in 0..count {
         let Some((first, others)) = split_entry(rest) else {

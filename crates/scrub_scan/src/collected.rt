@@ -19,19 +19,35 @@ use sha_lanes::Batch;
 use std::alloc::Global;
 use std::mem;
 
-/// The most bytes that are gathered before they are hashed: as many as eight longest payloads.
-const MOST_GATHERED: usize = 8 * LONGEST_GATHERED as usize;
-
-/// The most bytes that are gathered of many payloads: so few that they stay near the processor.
-const MOST_OF_MANY: usize = 1 << 19;
+/// How many payloads are few: so few that some lanes have none.
+const FEW: usize = 8;
 
 /// How many payloads are many: so many that all lanes end at about the same time.
 const MANY: usize = 128;
 
+/// The most bytes that are gathered of few payloads, before one more: five of the longest ones.
+const MOST_OF_FEW: usize = 5 * LONGEST_GATHERED as usize;
+
+/// The most bytes that are gathered of others.
+const MOST_GATHERED: usize = 8 << 20;
+
+/// The most bytes that are gathered of many payloads: so few that they stay near the processor.
+const MOST_OF_MANY: usize = 1 << 19;
+
+/// The most bytes that so many payloads have together before they are hashed.
+fn most_of(count: usize) -> usize {
+    if count < FEW {
+        MOST_OF_FEW
+    } else if count < MANY {
+        MOST_GATHERED
+    } else {
+        MOST_OF_MANY
+    }
+}
+
 /// Whether a batch is hashed before more is added.
 fn is_full(batch: &Batch) -> bool {
-    let size = batch.size();
-    size >= MOST_GATHERED || (size >= MOST_OF_MANY && batch.count() >= MANY)
+    batch.size() >= most_of(batch.count())
 }
 
 /// The items of an extent so far, some of which have payloads that are hashed together later. The digests of

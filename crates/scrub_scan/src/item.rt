@@ -208,21 +208,21 @@ fn push_places(line: &mut String, start: u32, stop: u32) -> Result<(), OutOfMemo
     push_number(line, stop)
 }
 
-/// A line with room for the longest one: a word, and where an item begins and stops.
-fn placed_line(alloc: Global, word: &str, start: u32, stop: u32) -> Result<String, OutOfMemory>
-    ensures { IfOk result (λ line. string_bytes line ≡ word.now ++ places start stop) }
+/// Appends a word, and where an item begins and stops.
+fn push_placed(line: &mut String, word: &str, start: u32, stop: u32) -> Result<(), OutOfMemory>
+    ensures { OnOk result (string_bytes line.new ≡
+        string_bytes line.old ++ (word.now ++ places start stop)) }
 {
-    let mut line = String::with_capacity(alloc, LINE_BYTES)?;
     line.push_str(word)?;
-    push_places(&mut line, start, stop)?;
-    Ok(line)
+    push_places(line, start, stop)
 }
 
-/// The line of an item, without a line feed: the word for its kind (`chunk` or `sealed` for a chunk, by its
-/// form), its start and stop in decimal, and for a chunk also its UUID (RFC 9562, lower case) and the length
-/// of its payload. It is put together piece by piece, since a report has one for each item.
-pub fn item_line(alloc: Global, item: &Item) -> Result<String, OutOfMemory>
-    ensures { IfOk result (λ line. string_bytes line ≡ line_of item.now) }
+/// Appends the line of an item, without a line feed: the word for its kind (`chunk` or `sealed` for a chunk,
+/// by its form), its start and stop in decimal, and for a chunk also its UUID (RFC 9562, lower case) and the
+/// length of its payload. It is put together piece by piece, since a report has one for each item. On an
+/// error a part of the line may have been appended.
+pub fn push_item_line(line: &mut String, item: &Item) -> Result<(), OutOfMemory>
+    ensures { OnOk result (string_bytes line.new ≡ string_bytes line.old ++ line_of item.now) }
 {
     match item {
         Item::Chunk {
@@ -233,16 +233,24 @@ pub fn item_line(alloc: Global, item: &Item) -> Result<String, OutOfMemory>
             length,
             ..
         } => {
-            let mut line = placed_line(alloc, chunk_word(*form), *start, *stop)?;
-            push_uuid(&mut line, *uuid)?;
-            push_number(&mut line, *length)?;
-            Ok(line)
+            push_placed(line, chunk_word(*form), *start, *stop)?;
+            push_uuid(line, *uuid)?;
+            push_number(line, *length)
         }
-        Item::Pad { start, stop } => placed_line(alloc, "pad", *start, *stop),
-        Item::Torn { start, stop } => placed_line(alloc, "torn", *start, *stop),
-        Item::Noise { start, stop } => placed_line(alloc, "noise", *start, *stop),
-        Item::Lost { start, stop } => placed_line(alloc, "lost", *start, *stop),
+        Item::Pad { start, stop } => push_placed(line, "pad", *start, *stop),
+        Item::Torn { start, stop } => push_placed(line, "torn", *start, *stop),
+        Item::Noise { start, stop } => push_placed(line, "noise", *start, *stop),
+        Item::Lost { start, stop } => push_placed(line, "lost", *start, *stop),
     }
+}
+
+/// The line of an item, as `push_item_line` appends it.
+pub fn item_line(alloc: Global, item: &Item) -> Result<String, OutOfMemory>
+    ensures { IfOk result (λ line. string_bytes line ≡ line_of item.now) }
+{
+    let mut line = String::with_capacity(alloc, LINE_BYTES)?;
+    push_item_line(&mut line, item)?;
+    Ok(line)
 }
 
 impl Items {

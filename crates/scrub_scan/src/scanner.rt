@@ -34,7 +34,7 @@ use sha_lanes::Batch;
 
 /// The longest payload that is gathered in a batch, to be hashed beside others; a longer one is hashed at
 /// once.
-pub(crate) const LONGEST_GATHERED: u32 = 1_048_576;
+pub(crate) const LONGEST_GATHERED: u32 = 4_194_304;
 
 /// An item that was found, and whether its payload is in the batch: then it has no digest yet, or its seal
 /// for one.
