@@ -8,7 +8,8 @@ pub mod Indexable
 pub mod KeptEntries
 -- the texts of the report, from values to tokens to pieces
 pub mod Tokens
-pub mod ExtentTexts
+pub mod PieceTexts
+pub mod ReportText
 pub mod LocatorValues
 pub mod RunRows
 pub mod ScannedLive

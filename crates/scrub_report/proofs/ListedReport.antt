@@ -1,13 +1,11 @@
 -- The lists give the report of what was found, and its verdict.
 use Rattle.std.proofs.Common.{◌≡◌, ◌&&◌, ◌++◌, ◌∷◌, [], ℕ, List, Bool, codes, length, map, refl, sym, ap, ◌∙◌}
 use Rattle.std.specs.Prelude.{◌==◌}
-use Rattle.std.specs.List.{zip}
 use Rattle.std.proofs.lemmas.List.{length-map}
 use Rattle.serde_json.specs.Data.{boolean}
 use Rattle.serde_json.specs.Written.{compact_text}
 use Rattle.scrub_disk.specs.Image.{Image}
 use Rattle.scrub_run.specs.declared.shard_id.ShardId.{ShardId}
-use Rattle.scrub_scan.specs.Scanned.{Scanned}
 use Rattle.scrub_check.specs.declared.statuses.checked.Checked.{Checked}
 use Rattle.scrub_check.specs.Checked.{AreBrokenShards, dangling, hidden}
 use Rattle.scrub_check.specs.Live.{live_bytes}
@@ -21,7 +19,7 @@ use Rattle.scrub_found.specs.Judged.{AreJudgedBut, Beside, found_in, is_clean_by
 use Rattle.scrub_found.specs.Scrubbed.{entry_counts}
 use Rattle.scrub_report.specs.Report.{candidate_data, dangling_data, extent_data, ids_data, numbers_data, place_data, report_text, runs_data, shared_data, super_data}
 use Rattle.scrub_found.specs.Scrubbed.{IsScrubbed, Scrubbed, is_clean_disk}
-use Rattle.scrub_report.specs.steps.Tokens.{extent_pairs, listed_text}
+use Rattle.scrub_report.specs.steps.Tokens.{extent_values, listed_extents, listed_text}
 use Rattle.scrub_report.specs.steps.Values.{geometry_data, hidden_data, locator_data, row_data}
 use Rattle.scrub_found.proofs.FoundBeside.{beside, with_lists}
 use Rattle.scrub_found.proofs.Verdicts.{clean_by_lists}
@@ -55,9 +53,9 @@ module _ {D : Type 0} (image : Image) (broken : List ShardId) (j : Judged D) (s 
       ap (λ (rows : List RunRow). list (map row_data rows)) lists.runs_are
       ∙ rw (judged.rows.locators_are, judged.rows.entries_are, judged.rows.states_are) at (rows_shown j.runs.items)
 
-  extents_are : list (map (λ (q : Scanned × ℕ). extent_data q.1 q.0) (extent_pairs l)) ≡ list (map (λ f. extent_data (live_bytes j.checked.items f) f) j.scan.all.extents)
+  extents_are : list (listed_extents l) ≡ list (map (λ f. extent_data (live_bytes j.checked.items f) f) j.scan.all.extents)
   extents_are =
-      (λ i. list (map (λ (q : Scanned × ℕ). extent_data q.1 q.0) (zip ((lists.scan_is i).all.extents) l.liveness.live.items)))
+      (λ i. list (extent_values ((lists.scan_is i).all.extents) l.liveness.live.items))
       ∙ ap list (beside_scanned j.checked.items j.scan.all.extents l.liveness.live.items lists.liveness_is.live)
 
   dangling_are : list (map locator_data l.dangling.items) ≡ list (map dangling_data (dangling j.checked.items))

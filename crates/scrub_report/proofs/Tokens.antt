@@ -4,50 +4,49 @@ use Rattle.std.specs.List.{flat_map}
 use Rattle.std.proofs.lemmas.List.{take_all}
 use Rattle.std.proofs.lemmas.List.Concat.{flat_map-append}
 use Rattle.std.proofs.lemmas.List.Folds.{flat_map-map}
-use Rattle.json.specs.Token.{Token, begin_array, end_array, begin_object, end_object}
+use Rattle.json.specs.Token.{Token, begin_array, end_array, begin_object, end_object, key}
 use Rattle.json.specs.Tree.{items_tokens, members_tokens as closed_members}
 use Rattle.serde_json.specs.Data.{Data}
 use Rattle.serde_json.specs.View.{items_of}
 use Rattle.serde_json.specs.Written.{items_outline, members_outline}
 use Rattle.scrub_report.specs.Json.{list, object_members, with_keys}
-use Rattle.scrub_run.specs.declared.shard_id.ShardId.{ShardId}
-use Rattle.scrub_report.specs.declared.listed.Listed.{Listed}
-use Rattle.scrub_report.specs.steps.Tokens.{all_keys, extent_keys, first_keys, list_begun, member_tokens, members_tokens, value_tokens}
+use Rattle.scrub_report.specs.steps.Tokens.{member_tokens, members_tokens, shown_tokens, value_tokens, values_tokens}
 
 -- two steps of writing are one
-pub chain : (a b c xs ys : List Token) → b ≡ a ++ xs → c ≡ b ++ ys → c ≡ a ++ (xs ++ ys)
-chain a b c xs ys first later = later ∙ ap (λ ts. ts ++ ys) first ∙ append_assoc a xs ys
+pub chain : {X : Type 0} (a b c xs ys : List X) → b ≡ a ++ xs → c ≡ b ++ ys → c ≡ a ++ (xs ++ ys)
+chain a b c xs ys first later = later ∙ ap (λ zs. zs ++ ys) first ∙ append_assoc a xs ys
 
 -- ---- lists
 
-items_are : (ds : List Data) → items_tokens (items_outline (items_of ds)) ≡ flat_map value_tokens ds ++ end_array ∷ []
+items_are : (ds : List Data) → items_tokens (items_outline (items_of ds)) ≡ values_tokens ds ++ end_array ∷ []
 items_are [] = refl
 items_are (d ∷ ds) =
     ap (λ ts. value_tokens d ++ ts) (items_are ds)
-    ∙ sym (append_assoc (value_tokens d) (flat_map value_tokens ds) (end_array ∷ []))
+    ∙ sym (append_assoc (value_tokens d) (values_tokens ds) (end_array ∷ []))
 
--- a list is written element by element, between its brackets
-pub list_tokens : {X : Type 0} (show : X → Data) (xs : List X) →
-    value_tokens (list (map show xs)) ≡ begin_array ∷ (flat_map (λ x. value_tokens (show x)) xs ++ end_array ∷ [])
-list_tokens show xs =
-    ap (λ ts. begin_array ∷ ts)
-    (items_are (map show xs) ∙ ap (λ ts. ts ++ end_array ∷ []) (flat_map-map value_tokens show xs))
+-- The tokens of a list are those of its values, between brackets.
+pub list_tokens : (ds : List Data) → value_tokens (list ds) ≡ begin_array ∷ (values_tokens ds ++ end_array ∷ [])
+list_tokens ds = ap (λ ts. begin_array ∷ ts) (items_are ds)
 
-module _ {X : Type 0} (show : X → Data) (xs : List X) (old mid new : List Token) (i : ℕ) where
-  -- all are written, and the list is closed
-  closed_list : length xs ≤ i → mid ≡ old ++ list_begun show (take i xs) → new ≡ mid ++ end_array ∷ [] →
-      new ≡ old ++ value_tokens (list (map show xs))
-  closed_list end so_far closed =
-      closed ∙ ap (λ ts. ts ++ end_array ∷ []) (so_far ∙ ap (λ ys. old ++ list_begun show ys) (take_all i xs end))
-      ∙ append_assoc old (list_begun show xs) (end_array ∷ [])
-      ∙ ap (λ ts. old ++ ts) (sym (list_tokens show xs))
+module _ {X : Type 0} (show : X → Data) (xs : List X) where
+  shown_list : value_tokens (list (map show xs)) ≡ begin_array ∷ (shown_tokens show xs ++ end_array ∷ [])
+  shown_list =
+      list_tokens (map show xs) ∙ ap (λ ts. begin_array ∷ (ts ++ end_array ∷ [])) (flat_map-map value_tokens show xs)
+
+  -- a list is begun, its elements are written, and it is closed
+  list_written : (a b c d : List Token) → b ≡ a ++ begin_array ∷ [] → c ≡ b ++ shown_tokens show xs → d ≡ c ++ end_array ∷ [] →
+      d ≡ a ++ value_tokens (list (map show xs))
+  list_written a b c d begun all closed =
+      chain a b d (begin_array ∷ []) (shown_tokens show xs ++ end_array ∷ []) begun
+      (chain b c d (shown_tokens show xs) (end_array ∷ []) all closed)
+      ∙ ap (λ ts. a ++ ts) (sym shown_list)
 
   -- Once all elements are written, a closing bracket that is written completes the list's tokens.
-  pub list_closed : {E : Type 0} (r : Result (Unit {0}) E) → length xs ≤ i → mid ≡ old ++ list_begun show (take i xs) →
-      OnOk r (new ≡ mid ++ end_array ∷ []) →
-      OnOk r (new ≡ old ++ value_tokens (list (map show xs)))
-  list_closed (Ok u) end so_far closed = closed_list end so_far closed
-  list_closed (Err e) end so_far closed = tt
+  pub list_closed : {E : Type 0} (a b c d : List Token) (r : Result (Unit {0}) E) → b ≡ a ++ begin_array ∷ [] →
+      c ≡ b ++ shown_tokens show xs → OnOk r (d ≡ c ++ end_array ∷ []) →
+      OnOk r (d ≡ a ++ value_tokens (list (map show xs)))
+  list_closed a b c d (Ok u) begun all closed = list_written a b c d begun all closed
+  list_closed a b c d (Err e) begun all closed = tt
 
 -- ---- objects
 
@@ -97,12 +96,25 @@ pub object_closed : {E : Type 0} (ms : List (List ℕ × Data)) (a b c d : List 
 object_closed ms a b c d (Ok u) begun all closed = object_written ms a b c d begun all closed
 object_closed ms a b c d (Err e) begun all closed = tt
 
--- ---- the report, whose keys are written before and after its extents
+-- ---- a list among the members of an object
 
-module _ {D : Type 0} (l : Listed D) (broken : List ShardId) (clean : Bool) where
-  -- The keys before `extents` and those from it on, in braces, have the tokens of the whole report.
-  pub keys_joined : begin_object ∷ (members_tokens (first_keys l broken clean) ++ (members_tokens (extent_keys l) ++ end_object ∷ []))
-      ≡ value_tokens (with_keys (all_keys l broken clean))
-  keys_joined =
-      ap (λ ts. begin_object ∷ ts) (sym (members_joined (first_keys l broken clean) (extent_keys l) (end_object ∷ [])))
-      ∙ sym (object_tokens (first_keys l broken clean ++ extent_keys l))
+-- A list among members: what is written before its first value, its values, and what is written after its last one.
+pub list_within : (before after : List (List ℕ × Data)) (name : List ℕ) (ds : List Data) (ts : List Token) →
+    members_tokens (before ++ (name, list ds) ∷ after) ++ ts
+    ≡ (members_tokens before ++ (key name ∷ begin_array ∷ [])) ++ (values_tokens ds ++ end_array ∷ (members_tokens after ++ ts))
+list_within before after name ds ts =
+    members_joined before ((name, list ds) ∷ after) ts
+    ∙ ap (λ us. members_tokens before ++ us) from_key
+    ∙ sym (append_assoc (members_tokens before) opens (values_tokens ds ++ end_array ∷ rest))
+  where
+    opens : List Token
+    opens = key name ∷ begin_array ∷ []
+
+    rest : List Token
+    rest = members_tokens after ++ ts
+
+    from_key : members_tokens ((name, list ds) ∷ after) ++ ts ≡ opens ++ (values_tokens ds ++ end_array ∷ rest)
+    from_key =
+        append_assoc (key name ∷ value_tokens (list ds)) (members_tokens after) ts
+        ∙ ap (λ us. key name ∷ (us ++ rest)) (list_tokens ds)
+        ∙ ap (λ us. opens ++ us) (append_assoc (values_tokens ds) (end_array ∷ []) rest)

@@ -9,6 +9,9 @@ use scrub_check::{Candidate, Place, SharedPlace};
 use scrub_disk::OutOfMemory;
 use std::alloc::Global;
 
+/// Room for a chunk at its place: 107 bytes at most, and a comma.
+pub(crate) const PLACE_ROOM: usize = 108;
+
 /// One of `orphans`, or of `twins`.
 impl WriteJson for Place {
     ghost shown = { place_data };

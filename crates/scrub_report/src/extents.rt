@@ -1,16 +1,14 @@
 //! The scanned extents, as the report has them.
 
-ghost use Rattle.std.specs.Prelude.{◌≡◌, ◌*◌, ◌<◌, ◌≤◌, ◌++◌, ℕ, IfOk, IfSome, List, OnOk, length, slice_get};
+ghost use Rattle.std.specs.Prelude.{◌≡◌, ◌*◌, ◌<◌, ◌≤◌, ◌++◌, ℕ, IfOk, IfSome, OnOk, length, slice_get};
 ghost use Rattle.std.specs.Int.{div_ceil};
-ghost use Rattle.std.specs.List.{zip};
-ghost use Rattle.json.specs.Print.{print};
-ghost use Rattle.serde_json.specs.Written.{comma_if};
-ghost use Rattle.scrub_scan.specs.Scanned.{Scanned, scanned};
+ghost use Rattle.scrub_scan.specs.Scanned.{scanned};
 ghost use Rattle.scrub_report.specs.Report.{extent_data};
-ghost use Rattle.scrub_report.specs.steps.Tokens.{ArePieces, extents_tokens, piece_text, value_tokens};
+ghost use Rattle.scrub_report.specs.steps.Tokens.{ArePieces, extent_values, piece_text, value_tokens};
 
 use crate::json_values::WriteJson;
 use crate::object::{Value, write_object};
+use crate::pieces::comma_if;
 use json::Writer;
 use scrub_disk::{OutOfMemory, PageSource};
 use scrub_scan::{AllFindings, ExtentResult, Item, item_line};
@@ -19,6 +17,12 @@ use std::thread::{Threads, available_parallelism, map_indices};
 
 /// With fewer items than this, one thread writes them all.
 const WORTH_THREADS: usize = 4_096;
+
+/// Room for an item: its line has 76 bytes at most, and two quotes and a comma beside it.
+const ITEM_ROOM: usize = 80;
+
+/// Room for an extent without its items, as most need it.
+const EXTENT_ROOM: usize = 160;
 
 /// The line of an item.
 impl WriteJson for Item {
@@ -60,15 +64,20 @@ fn write_extent<D: PageSource>(
     )
 }
 
-/// A text that is a comma if something comes before it, or else empty.
-fn comma_if(alloc: Global, later: bool) -> Result<Vec<u8>, OutOfMemory>
-    ensures { IfOk result (λ text. text.items ≡ comma_if later) }
-{
-    if later {
-        Vec::from_slice(alloc, b",")
-    } else {
-        Ok(Vec::new(alloc))
-    }
+/// How many items are in up to `size` extents, from number `from` of the scanned ones on.
+fn item_count<D: PageSource>(all: &AllFindings<'_, D>, from: usize, size: usize) -> usize {
+    all.results()
+        .skip(from)
+        .take(size)
+        .map(|found| found.findings().items().len())
+        .fold(0, usize::saturating_add)
+}
+
+/// Room for the text of these extents, as most need it: a hint, so that the text isn't moved while it grows.
+fn text_room<D: PageSource>(all: &AllFindings<'_, D>, from: usize, size: usize) -> usize {
+    let items = item_count(all, from, size).saturating_mul(ITEM_ROOM);
+    let extents = all.len().saturating_sub(from).min(size);
+    extents.saturating_mul(EXTENT_ROOM).saturating_add(items)
 }
 
 /// The text of up to `size` extents, from number `from` of the scanned ones on.
@@ -81,9 +90,10 @@ fn extents_text<D: PageSource>(
 ) -> Result<Vec<u8>, OutOfMemory>
     requires count { length live.now ≡ length all.now.extents }
     requires within { from ≤ length all.now.extents }
-    ensures { IfOk result (λ text. text.items ≡ piece_text (zip all.now.extents live.now) from size) }
+    ensures { IfOk result (λ text. text.items ≡ piece_text (extent_values all.now.extents live.now) from size) }
 {
-    let mut out = Writer::new(comma_if(alloc, from > 0)?);
+    let room = text_room(all, from, size);
+    let mut out = Writer::new(comma_if(alloc, from > 0, room)?);
     for (found, live) in all.results().zip(live).skip(from).take(size) {
         write_extent(alloc, &mut out, found, *live)?;
     }
@@ -101,7 +111,8 @@ fn nth_text<D: PageSource>(
     requires count { length live.now ≡ length all.now.extents }
     requires size { 0 < size }
     requires number { n < div_ceil (length all.now.extents) size }
-    ensures { IfOk result (λ text. text.items ≡ piece_text (zip all.now.extents live.now) (n * size) size) }
+    ensures { IfOk result (λ text.
+        text.items ≡ piece_text (extent_values all.now.extents live.now) (n * size) size) }
 {
     extents_text(alloc, all, live, n * size, size)
 }
@@ -118,7 +129,8 @@ fn nth_texts<R: Threads + Sync, D: PageSource>(
     requires size { 0 < size }
     ensures count { IfOk result (λ v. length v.items ≡ div_ceil (length all.now.extents) size) }
     ensures each { IfOk result (λ v. (n : ℕ) → IfSome (slice_get v.items n) (λ text.
-        IfOk text (λ bytes. bytes.items ≡ piece_text (zip all.now.extents live.now) (n * size) size))) }
+        IfOk text (λ bytes. bytes.items ≡
+            piece_text (extent_values all.now.extents live.now) (n * size) size))) }
 {
     map_indices(
         rt,
@@ -129,7 +141,7 @@ fn nth_texts<R: Threads + Sync, D: PageSource>(
             requires size { 0 < size }
             requires number { n < div_ceil (length all.now.extents) size }
             ensures { IfOk result (λ text. text.items ≡
-                piece_text (zip all.entry.now.extents live.entry.now) (n * size) size) }
+                piece_text (extent_values all.entry.now.extents live.entry.now) (n * size) size) }
         { nth_text(alloc, all, live, size, n) },
     )
 }
@@ -144,16 +156,9 @@ pub(crate) fn extents_texts<R: Threads + Sync, D: PageSource>(
 ) -> Result<Vec<Result<Vec<u8>, OutOfMemory>>, OutOfMemory>
     requires count { length live.now ≡ length all.now.extents }
     requires size { 0 < size }
-    ensures { IfOk result (λ v. ArePieces (zip all.now.extents live.now) size v.items) }
+    ensures { IfOk result (λ v. ArePieces (extent_values all.now.extents live.now) size v.items) }
 {
     nth_texts(rt, alloc, all, live, size)
-}
-
-/// How many items are in all extents.
-fn item_count<D: PageSource>(all: &AllFindings<'_, D>) -> usize {
-    all.results()
-        .map(|found| found.findings().items().len())
-        .fold(0, usize::saturating_add)
 }
 
 /// How many extents a piece has: enough for at most two pieces a processor, or all of them if there are few
@@ -162,7 +167,7 @@ pub(crate) fn piece_size<R: Threads, D: PageSource>(rt: &R, all: &AllFindings<'_
     ensures { 0 < result }
 {
     let count = all.len().max(1);
-    if item_count(all) < WORTH_THREADS {
+    if item_count(all, 0, count) < WORTH_THREADS {
         return count;
     }
     let processors = match available_parallelism(rt) {
@@ -170,18 +175,4 @@ pub(crate) fn piece_size<R: Threads, D: PageSource>(rt: &R, all: &AllFindings<'_
         Err(_) => 1,
     };
     count.div_ceil(processors.saturating_mul(2)).max(1)
-}
-
-/// Appends the texts of all pieces.
-pub(crate) fn append_pieces(
-    text: &mut Vec<u8>,
-    pieces: Vec<Result<Vec<u8>, OutOfMemory>>,
-) -> Result<(), OutOfMemory>
-    ensures { (pairs : List (Scanned × ℕ)) (size : ℕ) → 0 < size → ArePieces pairs size pieces.items →
-        OnOk result (text.new.items ≡ text.old.items ++ print (extents_tokens pairs)) }
-{
-    for piece in pieces {
-        text.extend_from_slice(&piece?)?;
-    }
-    Ok(())
 }

@@ -3,7 +3,7 @@
 ghost use Rattle.std.specs.Prelude.{◌≡◌, ◌++◌, OnOk, map};
 ghost use Rattle.serde_json.specs.Data.{Data};
 ghost use Rattle.scrub_report.specs.Json.{list};
-ghost use Rattle.scrub_report.specs.steps.Tokens.{value_tokens};
+ghost use Rattle.scrub_report.specs.steps.Tokens.{shown_tokens, value_tokens};
 
 use json::Writer;
 use scrub_disk::OutOfMemory;
@@ -22,6 +22,21 @@ pub(crate) trait WriteJson {
         ensures before { out.new.before ≡ out.old.before };
 }
 
+/// Writes these elements one after another, without the brackets of a list.
+pub(crate) fn write_elements<T: WriteJson>(
+    alloc: Global,
+    out: &mut Writer,
+    items: &[T],
+) -> Result<(), OutOfMemory>
+    ensures tokens { OnOk result (out.new.tokens ≡ out.old.tokens ++ shown_tokens T.shown items.now) }
+    ensures before { out.new.before ≡ out.old.before }
+{
+    for item in items {
+        item.write_json(alloc, out)?;
+    }
+    Ok(())
+}
+
 /// Writes these elements as a list.
 pub(crate) fn write_list<T: WriteJson>(
     alloc: Global,
@@ -33,9 +48,7 @@ pub(crate) fn write_list<T: WriteJson>(
     ensures before { out.new.before ≡ out.old.before }
 {
     out.begin_array()?;
-    for item in items {
-        item.write_json(alloc, out)?;
-    }
+    write_elements(alloc, out, items)?;
     out.end_array()
 }
 

@@ -1,7 +1,7 @@
 //! The report's keys and their values, in the order of the keys.
 
 ghost use Rattle.std.specs.Prelude.{◌≡◌, ◌++◌, OnOk};
-ghost use Rattle.scrub_report.specs.steps.Tokens.{first_keys, last_keys, members_tokens};
+ghost use Rattle.scrub_report.specs.steps.Tokens.{first_keys, last_keys, members_tokens, middle_keys};
 
 use crate::json_values::{WriteJson, write_list};
 use crate::listed::Listed;
@@ -92,7 +92,27 @@ pub(crate) fn write_first<'a, D: PageSource>(
     )
 }
 
-/// Writes the keys after `extents`.
+/// Writes the keys between `extents` and `orphans`.
+pub(crate) fn write_middle<D: PageSource>(
+    alloc: Global,
+    out: &mut Writer,
+    listed: &Listed<'_, D>,
+) -> Result<(), OutOfMemory>
+    ensures tokens { OnOk result (out.new.tokens ≡ out.old.tokens ++
+        members_tokens (middle_keys listed.now)) }
+    ensures before { out.new.before ≡ out.old.before }
+{
+    write_members(
+        alloc,
+        out,
+        &[
+            ("geometry", KeyValue::Geometry(listed.scan.plan.geometry())),
+            ("hidden", KeyValue::Locators(&listed.hidden)),
+        ],
+    )
+}
+
+/// Writes the keys after `orphans`.
 pub(crate) fn write_last<D: PageSource>(
     alloc: Global,
     out: &mut Writer,
@@ -106,9 +126,6 @@ pub(crate) fn write_last<D: PageSource>(
         alloc,
         out,
         &[
-            ("geometry", KeyValue::Geometry(plan.geometry())),
-            ("hidden", KeyValue::Locators(&listed.hidden)),
-            ("orphans", KeyValue::Places(&listed.liveness.orphans)),
             ("retired", KeyValue::Numbers(plan.retired())),
             ("runs", KeyValue::Runs(&listed.runs)),
             ("shards", KeyValue::Count(listed.shards.count)),

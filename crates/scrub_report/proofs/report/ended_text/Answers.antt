@@ -12,7 +12,7 @@ returns g c =
   where
     before : c.end_object.new.self.before ≡ []
     before =
-        c.end_object.ensures.room.0 ∙ c.in_ok-write_last.ensures.before ∙ c.end_array.ensures.room.0 ∙ c.new-out.ensures.before ∙ c.new.ensures.items
+        c.end_object.ensures.room.0 ∙ c.in_ok-write_last.ensures.before ∙ c.end_array.ensures.room.0 ∙ c.new-out.ensures.before ∙ c.in_ok-text.ensures.items
 
     tokens : c.end_object.new.self.tokens ≡ ended_tokens c.args.listed.now
     tokens =
