@@ -27,16 +27,16 @@ from lib.walk import walk_honestly
 RULES = NEEDED | dict([DEAD_END])
 # About how many seconds of one processor each of these takes: the laws on a disk or a pair, a walk, a mistake on a disk, and what
 # `--table` tries beside a mistake.
-LAW, WALK, MISTAKE, BESIDE = .1, .12, .1, .02
+LAW, WALK, MISTAKE, BESIDE = .12, .15, .25, .05
 # So many seconds are between two lines on what is left.
 BETWEEN = 15
 
 
 def print_rows(engine, one, seed, found, tries):
     print(row(one.name, found), flush=True)
-    if any(box in (4, 5) for boxes, _ in found for box in boxes):
-        print(row("    without looking at the place", trials(engine, one, seed, tries, ("look",))), flush=True)
-    if rule := RULES.get(one.name):
+    if any(box in (5, 6) for boxes, _ in found for box in boxes):
+        print(row("    without the comparison of act/put", trials(engine, one, seed, tries, ("comparison of put",))), flush=True)
+    if (rule := RULES.get(one.name)) not in (None, "comparison of put"):
         print(row(f"    without {rule}", trials(engine, one, seed, tries, (rule,))), flush=True)
 
 

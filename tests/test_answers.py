@@ -481,7 +481,7 @@ HELP = {
                      "2 to 65536", "4294967296 bytes", "--pointer <BYTES>", "--map <FILE>", "[EXTENT:PAGE]...", "\n  sealed ",
                      "Exit status", "--extent 1 --pointer 41 examples/one-shard.img"],
     "scan --help": ["Usage: shardscrub scan", "--extents <COUNT>", "[EXTENT:PAGE]...", "\n  candidates ", "\n  orphans ",
-                    "\n  doubtful ", "not clean", "\n  super ", "\n  dangling ", "torn, noise or lost", "Exit status",
+                    "\n  doubtful ", "not clean", "\n  super ", "\n  dangling ", "'torn', 'noise' or 'lost'", "Exit status",
                     "\n  shardscrub scan examples/one-shard.img"],
     "index --help": ["Usage: shardscrub index", "--extents <COUNT>", "[EXTENT:PAGE]...", "hidden", "a repair", "Exit status",
                      "\n  shardscrub index --page 64 --pages 4 --extents 3 examples/one-shard.img"],

@@ -64,7 +64,7 @@ class Links(Case):
 
 
 class Shell(RoomCase):
-    """`ask` and `look` of docs/RECLAIMING.md, as a file that a shell reads. In no language but C `cmp` says `char`."""
+    """`ask`, `plan` and `put` of docs/RECLAIMING.md, as a file that a shell reads."""
 
     # The settings of `ask.sh` that make page 1 of extent 3 unreadable, as a page and by a map whose path has a blank.
     BY_PAGE = {"map": '""', "lost": '"3:1"'}
@@ -90,24 +90,32 @@ class Shell(RoomCase):
                     self.same(f"{shell}: {settings}: ask manifest {image}", self.printed(shell, f"ask manifest {image}"),
                               (self.right.stdout, f"status {self.right.returncode}\n"))
 
-    def test_look(self):
+    def test_plan_and_put(self):
+        """The copies and their run, then the superblock, with the unreadable page of each setting."""
         need("cmp")
-        self.write(self.BY_PAGE)
-        for shell in filter(shutil.which, ("sh", "bash")):
-            self.same(f"{shell}: look at zeros", self.printed(shell, "look 1.img 4 678 268"), ("", ""))
-            out, error = self.printed(shell, "look 1.img 1 124 53")
-            self.true(f"{shell}: look at a chunk", "differ: char 1," in out and not error, (out, error))
+        for settings in self.BY_PAGE, self.BY_MAP:
+            self.write(settings)
+            for shell in filter(shutil.which, ("sh", "bash")):
+                shutil.copyfile(self.room / "1.img", self.room / "disk.img")
+                for image, words in ("1.img", [["write", "4", "678"], ["copy", "1", "124"]]), ("5.img", [["write", "0", "0"]]):
+                    shutil.copyfile(self.room / "disk.img", self.room / image)
+                    out, error = self.printed(shell, f"plan --last 7 --reset 1 {image} >next; put {image} disk.img <next")
+                    lines = (self.room / "next").read_text(encoding="ascii").splitlines()
+                    self.same(f"{shell}: {settings}: plan {image}", [line.split()[:3] for line in lines], words)
+                    self.same(f"{shell}: {settings}: statuses", (out, error), ("", "status 0\nstatus 0\n"))
+                out, error = self.printed(shell, "ask compare 1.img disk.img --reset 1")
+                self.same(f"{shell}: {settings}: compare", (out, error), ("safe 7 8\n", "status 0\n"))
 
     def write(self, settings):
         """Makes `ask.sh` from the page, with these settings."""
         text = re.search(r"^```sh\n(.*?)^```$", (TOP / "docs/RECLAIMING.md").read_text(encoding="utf-8"), re.M | re.S)[1]
-        for name, value in {"page": "64 pages=16 extents=5", **settings}.items():
-            text, count = re.subn(rf"^{name}=.*? {{2,}}#", f"{name}={value}  #", text, flags=re.M)
+        for name, value in {"sizes": '"--page 64 --pages 16 --extents 5"', "act": shlex.quote(str(TOP / "act")), **settings}.items():
+            text, count = re.subn(rf"^{name}=.*? {{2,}}#", lambda _: f"{name}={value}  #", text, flags=re.M)
             self.same(f"lines of {name}", count, 1)
         (self.room / "ask.sh").write_text(text)
 
     def printed(self, shell, command):
-        environment = os.environ | {"PATH": f"{self.room}:{os.environ['PATH']}", "LC_ALL": "C.UTF-8"}
+        environment = os.environ | {"PATH": f"{self.room}:{os.environ['PATH']}", "LC_ALL": "C.UTF-8", "SHARDSCRUB": ""}
         done = subprocess.run([shell, "-c", f". ./ask.sh; {command}"], cwd=self.room, env=environment, capture_output=True, text=True,
                               stdin=subprocess.DEVNULL)
         return done.stdout, done.stderr

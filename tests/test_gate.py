@@ -281,7 +281,7 @@ class Elsewhere(TreeCase):
     def test_a_path_with_blanks_quotes_and_letters_beyond_ascii(self):
         """Tests that give a path to a shell or to a tool with words of its own."""
         top = self.top / "Füße und 'mehr' für $HOME"
-        for name in ("docs", "examples", "reference", "tests", "view"):
+        for name in ("act", "docs", "examples", "reference", "tests", "view"):
             shutil.copytree(TOP / name, top / name, ignore=shutil.ignore_patterns("__pycache__"))
         for path in TOP.glob("*.md"):
             shutil.copy(path, top)

@@ -43,7 +43,7 @@ INSTALLED = {
     **{f"share/doc/shardscrub/examples/{path.name}": (0o644, f"examples/{path.name}") for path in (TOP / "examples").iterdir()},
     "share/fish/vendor_completions.d/shardscrub.fish": (0o644, "release/completions/shardscrub.fish"),
     "share/man/man1/shardscrub.1": (0o644, "docs/shardscrub.1"),
-    "share/shardscrub/act/order": (0o755, "act/order"),
+    **{f"share/shardscrub/act/{name}": (0o755, f"act/{name}") for name in ("order", "plan", "put")},
     "share/shardscrub/reference/shardscrub.py": (0o755, "reference/shardscrub.py"),
     "share/shardscrub/view/metrics": (0o755, "view/metrics"),
     "share/shardscrub/view/monitoring/cron": (0o644, "view/monitoring/cron"),

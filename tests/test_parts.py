@@ -78,6 +78,11 @@ REFUSED_LINES = [
 ]
 
 
+def said_beside(listed):
+    """What the error stream says beside the lines of `sizes`: if nothing is listed, that there is no record."""
+    return b"" if listed else b"shardscrub: no superblock record in the first 64 MiB\n"
+
+
 def lost_ranges(blocks):
     """The lines of `sizes` for these lost blocks, of which there are three at most. Neighbours share a line."""
     ends = {(0, 1): [(0, 2)], (1, 2): [(1, 3)], (0, 1, 2): [(0, 3)]}.get(tuple(blocks), [(block, block + 1) for block in blocks])
@@ -108,7 +113,7 @@ class Maps(AnswerCase):
             for size in sorted({min(place + more, 1536) for place in at for more in (0, 1)}):
                 self.given(bytes(size), (STATE + blocks).encode())
                 lost = [block for block, place in enumerate(places) if place < 512 and at[block] < size]
-                self.check("sizes --map disk.map disk.img", 1, lost_ranges(lost))
+                self.check("sizes --map disk.map disk.img", 1, lost_ranges(lost), said_beside(lost))
 
     def test_a_text_that_is_not_a_map_is_refused_at_its_line(self):
         for text, line in REFUSED_LINES:
@@ -136,7 +141,7 @@ class Sizes(AnswerCase):
 
     def found(self, offsets, *lost):
         lines = {offset: LINES[offset] for offset in offsets} | {first: f"lost {first} {end}\n" for first, end in lost}
-        return 0 if len(offsets) == 1 and not lost else 1, "".join(lines[at] for at in sorted(lines))
+        return 0 if len(offsets) == 1 and not lost else 1, "".join(lines[at] for at in sorted(lines)), said_beside(lines)
 
     def check_map(self, size, blocks, offsets, *lost):
         self.given(FORMATTED_TWICE[:size], f"0 +\n{blocks}".encode())
@@ -161,12 +166,12 @@ class Sizes(AnswerCase):
         for size, offsets in ((0, []), (125, []), (126, [64]), (575, [64]), (576, [64, 512]), (1024, [64, 512])):
             self.given(FORMATTED_TWICE[:size])
             self.check("sizes disk.img", *self.found(offsets))
-            self.same(f"{size} bytes by reads of 100", self.run_with([], most=100), (*self.found(offsets), b""))
+            self.same(f"{size} bytes by reads of 100", self.run_with([], most=100), self.found(offsets))
 
     def test_a_failed_read_loses_its_block(self):
         self.given(FORMATTED_TWICE)
         for lost, offsets in (((0, 512), [512]), ((512, 1024), [64]), ((512, 1536), [64]), ((1536, 2048), [64, 512])):
-            self.same(f"reads of {lost} fail", self.run_with([lost]), (*self.found(offsets, lost), b""))
+            self.same(f"reads of {lost} fail", self.run_with([lost]), self.found(offsets, lost))
 
     def test_a_block_is_lost_if_it_lacks_a_byte_before_the_end(self):
         self.check_map(2048, "512 1536 +", [512], (0, 512))

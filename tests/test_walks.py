@@ -13,7 +13,7 @@ from lib.cases import RoomCase, add_tests
 from lib.disks import Disk, locator, run, shard
 from lib.system import ALLOCATIONS, run_counted
 from lib.worked import ONES, TWOS, abc, finish, one_shard
-from reference.shardscrub import Image, index, locators, manifest, scan, superblock_remarks, told
+from reference.shardscrub import Image, index, locators, manifest, scan, told
 from test_system import answer
 
 
@@ -81,8 +81,8 @@ class WalkCase(RoomCase):
         pages = [tuple(map(int, pair.split(":"))) for pair in unreadable]
         image = Image(disk.bytes, disk.page, disk.pages, disk.extents, pages)
         for call, *own in ((scan, "--workers", "0"), (scan, "--workers", "3"), (locators,), (index,), (manifest,)):
-            printed, is_good = call(image)
-            error = "".join(map(told, superblock_remarks(image))) if call is manifest else ""
+            printed, is_good, *said = call(image)
+            error = "".join(map(told, *said)) if said else ""
             wanted = int(not is_good), printed if isinstance(printed, bytes) else printed.encode(), error.encode()
             self.same(f"{call.__name__} {' '.join(own)}, {what}", answer(call.__name__, *own, *words, *unreadable, **more), wanted)
 

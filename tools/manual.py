@@ -19,7 +19,11 @@ PAGE, REPORT = TOP / "docs/shardscrub.1", TOP / "docs/REPORT.md"
 ORDER = "Only the first fault is reported."
 
 DESCRIPTION = r"""
-It writes nothing to an image or a disk: make copies, new index runs, superblocks and resets with the node's own tools.
+It writes nothing to an image or a disk: the script
+.I act/plan
+prints the copies, the index run and the superblock of a reset, and
+.I act/put
+writes them.
 Take the node off the disk before the image is made, and leave it off until you are done.
 Before any reset go through the checklist in docs/RECLAIMING.md, box by box.
 The same image, sizes and unreadable pages (for
@@ -64,6 +68,8 @@ and
 in
 .IR share/doc/shardscrub ,
 and
+.I act
+and
 .I view
 in
 .IR share/shardscrub .
@@ -79,6 +85,9 @@ The report and the listings, key by key and line by line.
 .TP
 .I docs/FORMAT.md
 The format of the disk, byte by byte.
+.TP
+.I act
+Scripts: what is to be written for a reset, what writes it, and an order for index runs.
 .TP
 .I view
 A page that draws a report, and what runs every night.

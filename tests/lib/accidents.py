@@ -2,7 +2,8 @@
 superblock goes, a node writes, the power fails, an extent is erased. See lib/mistakes.py."""
 from lib.mistakes import flipped, mistake
 from lib.node import Full, Node, named_locators, put_record, record_pages
-from lib.walk import FIELDS, Again, Stop, Walk
+from lib.own_tools import FIELDS
+from lib.walk import Again, Stop, Walk
 from reference.shardscrub import choose
 
 
@@ -22,10 +23,20 @@ def rot_copy(walk, value):
 
 
 def rot_run(walk, value):
-    if not walk.parts or not walk.entries:
+    if walk.run_part is None:
         return None
     target, count = walk.run_part.target, walk.run_part.count
     walk.drive.write(*target, flipped(walk, walk.drive.read(*target, count)))
+    return ()
+
+
+def rot_source(walk, value):
+    """A chunk that was copied rots at its old place."""
+    parts = [part for part in walk.parts if part.count]
+    if not parts:
+        return None
+    part = walk.choice.choice(parts)
+    walk.drive.write(*part.place, flipped(walk, walk.drive.read(*part.place, part.count)))
     return ()
 
 
@@ -78,40 +89,34 @@ def fail(walk, value=()):
     raise Again
 
 
-BETWEEN = {"after box 3": "before box 4", "copying": "between box 4 and the copies", "after box 4": "after the copies",
-           "after box 5": "before box 6", "after box 6": "before box 7", "after box 7": "before box 8",
-           "after writing of box 8": "before the image of box 8", "after box 8": "before box 8d", "after box 8d": "before the erase"}
+BETWEEN = {"after box 3": "before box 4", "copying": "between box 4 and the copies", "after the copies": "after the copies",
+           "after box 5": "before box 6", "after box 6": "before box 7", "after box 7": "before box 8", "after box 8": "before box 9",
+           "after box 9": "before the erase"}
 for point, when in BETWEEN.items():
     for what in ("chunk", "run", "superblock"):
         mistake(f"the node writes a {what} {when}", point)(node_writes(what))
-    mistake(f"the superblock that counts goes {when}", point)(lose_superblock)
+    mistake(f"the superblock that counts goes {when}", point, begins_again=True)(lose_superblock)
     mistake(f"the extent is erased {when}", point)(erase)
     mistake(f"a page becomes unreadable {when}", point, begins_again=True)(lose_page)
     mistake(f"the power fails {when}", point, begins_again=True)(fail)
 for point in list(BETWEEN)[2:]:
     mistake(f"a copy rots {BETWEEN[point]}", point)(rot_copy)
-for point in list(BETWEEN)[3:]:
     mistake(f"the run rots {BETWEEN[point]}", point)(rot_run)
+    mistake(f"a chunk rots at its old place {BETWEEN[point]}", point, begins_again=True)(rot_source)
 
 
-@mistake("the superblock that counts goes, and nothing was copied", "after box 3", begins_again=True)
+@mistake("a superblock of the same generation without the reset is written over that of box 6", "after box 6")
 def _(walk, value):
-    return None if walk.parts else lose_superblock(walk, value)
-
-
-@mistake("a superblock of the same generation without the reset is written over that of box 8", "after writing of box 8")
-def _(walk, value):
-    fields = {**walk.fields, "pointers": walk.fields_before["pointers"]}
-    page = choose(walk.drive.image())["page"]
-    if page is None:
-        return None
-    put_record(walk.drive, walk.drive.record(*(fields[key] for key in FIELDS)), page * walk.drive.page)
+    chosen = choose(walk.drive.image())
+    pointers = [v if e in walk.chosen else w for e, (v, w) in enumerate(zip(walk.first_fields["pointers"], chosen["pointers"]), 1)]
+    put_record(walk.drive, walk.drive.record(chosen["generation"], pointers, chosen["retired"], chosen["runs"]),
+               chosen["page"] * walk.drive.page)
     return ()
 
 
-@mistake("the superblock of box 7 is written again after that of box 8", "after writing of box 8")
+@mistake("the superblock of before is written again after that of box 6", "after box 6")
 def _(walk, value):
-    fields = {**walk.fields_before, "generation": walk.fields["generation"] + 1}
+    fields = {**walk.first_fields, "generation": walk.generation + 2}
     text = walk.drive.record(*(fields[key] for key in FIELDS))
     pages = record_pages(walk.drive, len(text))
     if not pages:
@@ -120,7 +125,7 @@ def _(walk, value):
     return ()
 
 
-@mistake("the first image is made anew after the copies", "after box 5")
+@mistake("the first image is made anew after the copies", "after the copies")
 def _(walk, value):
     walk.first = walk.drive.copy()
     return ()
@@ -134,37 +139,43 @@ def _(walk, value):
 
 # What is written in part
 
-@mistake("the power fails while a copy is written", "copy", begins_again=True)
-def _(walk, text):
-    walk.drive.write(*walk.parts[walk.current].target, text[:walk.choice.randrange(1, len(text))])
+def torn(walk, value):
+    """Only the first bytes of a copy, a run or a superblock are written."""
+    x, at, text = value
+    walk.drive.write(x, at, text[:walk.choice.randrange(1, len(text))])
     fail(walk)
 
 
-def torn(walk, value):
-    """Only the first bytes of a superblock are written."""
-    text, at = value
-    walk.drive.write(0, at, text[:walk.choice.randrange(1, len(text))])
+def torn_at_random(walk, value):
+    """Only some sectors of it are written."""
+    x, at, text = value
+    for k in range(0, len(text), 64):
+        if walk.choice.random() < .5:
+            walk.drive.write(x, at + k, text[k:k + 64])
     fail(walk)
 
 
 def taken_as_written(walk, value):
     """The generation of a superblock that was written in part is taken for the last one."""
-    walk.known = walk.fields["generation"]
-    torn(walk, value)
+    x, at, text = value
+    walk.known = walk.begun
+    walk.drive.write(x, at, text[:walk.choice.randrange(1, 26)])
+    fail(walk)
 
 
 def written_unseen(walk, value):
     """The whole superblock is on the disk, and nobody knows."""
-    put_record(walk.drive, *value)
+    walk.drive.write(*value)
     fail(walk)
 
 
-for number in (6, 8):
-    point = f"writing of box {number}"
-    mistake(f"the power fails when the superblock of box {number} has just been written", point, begins_again=True)(written_unseen)
-    mistake(f"the power fails while the superblock of box {number} is written", point, begins_again=True)(torn)
-    mistake(f"the power fails while the superblock of box {number} is written, and its generation is given", point, begins_again=True)(
-        taken_as_written)
+mistake("the power fails while a copy or the run is written", "writing of box 5", begins_again=True)(torn)
+mistake("the power fails when a copy or the run has just been written", "writing of box 5", begins_again=True)(written_unseen)
+mistake("the power fails when the superblock has just been written", "writing of box 6", begins_again=True)(written_unseen)
+mistake("the power fails while the superblock is written", "writing of box 6", begins_again=True)(torn)
+mistake("the power fails, and some sectors of the superblock are written", "writing of box 6", begins_again=True)(torn_at_random)
+mistake("the power fails while the superblock is written, and its generation is given", "writing of box 6", begins_again=True)(
+    taken_as_written)
 
 
 # What was on the disk before
@@ -183,7 +194,7 @@ def _(walk, extents):
     return [walk.choice.choice(some)] if some else None
 
 
-@mistake("another extent is erased than that of box 8d", "erase")
+@mistake("another extent is erased than that of box 9", "erase")
 def _(walk, extents):
     some = [e for e in range(1, walk.drive.extents) if e not in extents]
     return [walk.choice.choice(some)] if some else None

@@ -42,10 +42,10 @@ PAGES = {"Examples": "examples/README.md", "Readme": "README.md", "Reading": "do
 INSTALLED = {page: path if page == "Manual" else f"share/doc/shardscrub/{path}" for page, path in PAGES.items()} | {
     "Manual": "share/man/man1/shardscrub.1"}
 # Of each tool that a machine may lack: the words of a command that needs it. view/row and view/metrics need some themselves.
-TOOLS = {"jq": r"jq|rows?", "flock": "rows?", "awk": "awk|rows?|metrics", **{tool: tool for tool in (
-    "cmp", "ddrescue", "diff", "ldd", "od", "parallel", "python3", "tar", "xargs")}}
+TOOLS = {"jq": r"jq|rows?", "flock": "rows?", "awk": "awk|rows?|metrics", "cmp": "cmp|act/put", "python3": "python3|act/plan",
+         **{tool: tool for tool in ("ddrescue", "diff", "ldd", "od", "parallel", "tar", "xargs")}}
 # Commands that write to files that they name, beside `>`.
-WRITERS = re.compile(r"(?:^|[;|(] *)(?:cp|dd|ddrescue|python3) ")
+WRITERS = re.compile(r"(?:^|[;|(] *)(?:cp|dd|ddrescue|act/put) ")
 
 
 class Example(NamedTuple):
@@ -148,7 +148,7 @@ class Transcript:
         self.top, passing = Path(self.folder.name, "top"), Path(self.folder.name, "passing")
         self.top.mkdir()
         passing.mkdir()
-        self.environment = os.environ | {"TMPDIR": str(passing)}
+        self.environment = os.environ | {"TMPDIR": str(passing), "SHARDSCRUB": str(self.top / "shardscrub")}
         for path in TOP.iterdir():
             if path.name in ("docs", "examples", "release", "view"):
                 shutil.copytree(path, self.top / path.name, symlinks=True)
@@ -195,6 +195,7 @@ class Installed(Transcript):
         self.top.mkdir()
         passing.mkdir()
         self.environment = os.environ | {"TMPDIR": str(passing), "PATH": f"{prefix}/bin{os.pathsep}{os.environ['PATH']}"}
+        self.environment.pop("SHARDSCRUB", None)
         # An example that isn't there prints nothing that anybody wants.
         none = Example("", 0, "", None)
         self.commands = []

@@ -1,6 +1,6 @@
-"""The mistakes of a walk through the checklist, made one at a time: what a person writes wrong in the copies, the runs and the superblocks,
-and the boxes that are left out. lib/asking.py has what is asked wrongly, lib/accidents.py what happens to the disk; lib/outcomes.py says
-what may come of each."""
+"""The mistakes of a walk through the checklist, made one at a time: what a node's own tools write wrong in the copies, the runs and the
+superblock, and the boxes that are left out. lib/asking.py has what is asked wrongly, lib/accidents.py what happens to the disk;
+lib/outcomes.py says what may come of each."""
 from lib.disks import frame, record, sealed_frame
 from lib.node import bindings_of, chunks_of, named_locators, place_of
 from reference.shardscrub import SEALED, choose, tile
@@ -43,7 +43,7 @@ def first_change(walk, entries, change):
 def is_last_in_its_extent(walk):
     """Whether nothing is written behind the chunk that is being copied."""
     part = walk.parts[walk.current]
-    later = [*walk.parts[walk.current + 1:], *([walk.run_part] if walk.entries else [])]
+    later = [*walk.parts[walk.current + 1:], *filter(None, [walk.run_part])]
     return all(other.target[0] != part.target[0] for other in later)
 
 
@@ -400,71 +400,59 @@ def holds_named(walk, e):
     return is_other(walk, e) and any(c["extent"] == e and status == "sound" for _, c, status in named_locators(walk.drive))
 
 
-for number in (6, 8):
-    point = f"superblock of box {number}"
-    mistake(f"box {number}: the new run is forgotten", point)(
-        field("runs", lambda walk, runs: runs[1:] if walk.entries and runs else None))
-    mistake(f"box {number}: the new run is put last", point)(
-        field("runs", lambda walk, runs: [*runs[1:], runs[0]] if walk.entries and len(runs) > 1 else None))
-    mistake(f"box {number}: two older runs are exchanged", point)(
-        field("runs", lambda walk, runs: [*runs[:-2], runs[-1], runs[-2]] if len(runs) > 1 + bool(walk.entries) else None))
-    mistake(f"box {number}: an older run is forgotten", point)(
-        field("runs", lambda walk, runs: runs[:-1] if len(runs) > bool(walk.entries) else None))
-    mistake(f"box {number}: a run that moved has its old place", point)(
-        field("runs", lambda walk, runs: [moved_back(walk, c) for c in runs]))
-    mistake(f"box {number}: the generation isn't raised", point)(
-        field("generation", lambda walk, g: g - 1))
-    mistake(f"box {number}: the generation is lower", point)(
-        field("generation", lambda walk, g: g - 2 if g > 1 else None))
-    mistake(f"box {number}: the generation is greater by more than 1", point)(
-        field("generation", lambda walk, g: g + walk.choice.choice([1, 9, 2 ** 32])))
-    mistake(f"box {number}: the pointer of an extent with copies is as before", point)(
-        pointer(is_written, lambda walk, w, old: old if number == 6 else walk.choice.choice([w - 1, w - 40])))
-    mistake(f"box {number}: the pointer of an extent with copies is too small", point)(
-        pointer(is_written, lambda walk, w, old: w - walk.choice.choice([1, 17])))
-    mistake(f"box {number}: the pointer of an extent with copies is too great", point)(
-        pointer(is_written, lambda walk, w, old: w + walk.choice.choice([1, 64, 200])))
-    mistake(f"box {number}: the pointer of an extent with named chunks is too small", point)(
-        pointer(holds_named, lambda walk, w, old: max(0, w - walk.choice.choice([1, 64, 1000])) if w else None))
-    mistake(f"box {number}: another pointer is 0", point)(
-        pointer(is_other, lambda walk, w, old: 0))
-    mistake(f"box {number}: another pointer is too great", point)(
-        pointer(is_other, lambda walk, w, old: w + walk.choice.choice([1, 64, 200])))
-    mistake(f"box {number}: the retired extents are forgotten", point)(
-        field("retired", lambda walk, retired: [] if retired else None))
-    mistake(f"box {number}: one more extent is retired", point)(
-        field("retired", lambda walk, retired: sorted({*retired, walk.choice.randrange(1, walk.drive.extents)})))
-    mistake(f"box {number}: the superblock has a wrong digest", f"record of box {number}")(
-        lambda walk, text: flipped(walk, text))
-    mistake(f"box {number}: the superblock has the sizes of another disk", f"record of box {number}")(
-        lambda walk, text: record(walk.drive.page, walk.drive.pages + 1, walk.drive.extents, [0] * (walk.drive.extents - 1), [], 99))
-    mistake(f"box {number}: the superblock is written over the one that counts", f"page of box {number}")(
-        lambda walk, at: choose(walk.drive.image())["page"] * walk.drive.page)
-    mistake(f"box {number}: the superblock doesn't begin at a page", f"page of box {number}")(
-        lambda walk, at: at + 8)
-    mistake(f"box {number}: the superblock is written into another extent", f"page of box {number}")(
-        lambda walk, at: walk.drive.size * walk.choice.randrange(1, walk.drive.extents) + at)
-    mistake(f"box {number}: what is left of an overwritten superblock isn't zeroed", f"zeros of box {number}")(
-        lambda walk, value: False)
+def pointer_mistake(name, which, change):
+    mistake(f"the pointer of {name}", "superblock")(pointer(which, change))
 
-mistake("box 6: the pointer of the extent to reset is 0 already", "superblock of box 6")(
-    lambda walk, fields: {**fields, "pointers": [0 if e in walk.chosen else w for e, w in enumerate(fields["pointers"], 1)]})
-mistake("box 8: no extent is reset", "extents of box 8", often=True)(lambda walk, extents: [])
-mistake("box 8: no extent is reset at first", "extents of box 8")(lambda walk, extents: [])
-mistake("box 7 is misread, and an older run was forgotten", "superblock of box 6", without=(7,))(
+
+pointer_mistake("an extent with copies is as before", is_written, lambda walk, w, old: old)
+pointer_mistake("an extent with copies is too small", is_written, lambda walk, w, old: w - walk.choice.choice([1, 17]))
+pointer_mistake("an extent with copies is too great", is_written, lambda walk, w, old: w + walk.choice.choice([1, 64, 200]))
+pointer_mistake("an extent with named chunks is too small", holds_named,
+                lambda walk, w, old: max(0, w - walk.choice.choice([1, 64, 1000])) if w else None)
+pointer_mistake("another extent is 0", is_other, lambda walk, w, old: 0)
+pointer_mistake("another extent is too great", is_other, lambda walk, w, old: w + walk.choice.choice([1, 64, 200]))
+pointer_mistake("the extent to reset is as before", lambda walk, e: e in walk.chosen, lambda walk, w, old: old)
+pointer_mistake("the extent to reset is too small, and not 0", lambda walk, e: e in walk.chosen, lambda walk, w, old: old - 1 if old else None)
+
+
+def superblock_mistake(name, key, change):
+    mistake(f"the superblock: {name}", "superblock")(field(key, change))
+
+
+superblock_mistake("the new run is forgotten", "runs", lambda walk, runs: runs[1:] if walk.entries and runs else None)
+superblock_mistake("the new run is put last", "runs", lambda walk, runs: [*runs[1:], runs[0]] if walk.entries and len(runs) > 1 else None)
+superblock_mistake("two older runs are exchanged", "runs",
+                   lambda walk, runs: [*runs[:-2], runs[-1], runs[-2]] if len(runs) > 1 + bool(walk.entries) else None)
+superblock_mistake("an older run is forgotten", "runs", lambda walk, runs: runs[:-1] if len(runs) > bool(walk.entries) else None)
+superblock_mistake("a run that moved has its old place", "runs", lambda walk, runs: [moved_back(walk, c) for c in runs])
+superblock_mistake("the generation isn't raised", "generation", lambda walk, g: g - 1)
+superblock_mistake("the generation is lower", "generation", lambda walk, g: g - 2 if g > 1 else None)
+superblock_mistake("the generation is greater by more than 1", "generation", lambda walk, g: g + walk.choice.choice([1, 9, 2 ** 32]))
+superblock_mistake("the retired extents are forgotten", "retired", lambda walk, retired: [] if retired else None)
+superblock_mistake("one more extent is retired", "retired",
+                   lambda walk, retired: sorted({*retired, walk.choice.randrange(1, walk.drive.extents)}))
+mistake("the superblock: it has a wrong digest", "record")(flipped)
+mistake("the superblock: it has the sizes of another disk", "record")(
+    lambda walk, text: record(walk.drive.page, walk.drive.pages + 1, walk.drive.extents, [0] * (walk.drive.extents - 1), [], 99))
+mistake("the superblock: it is written over the one that counts", "page")(lambda walk, at: choose(walk.drive.image())["page"] * walk.drive.page)
+mistake("the superblock: it doesn't begin at a page", "page")(lambda walk, at: at + 8)
+mistake("the superblock: it is written into another extent", "page")(
+    lambda walk, at: walk.drive.size * walk.choice.randrange(1, walk.drive.extents) + at)
+mistake("the superblock: what is left of an overwritten one isn't zeroed", "zeros")(lambda walk, value: False)
+mistake("the superblock: it names no copy, and the extent is reset", "superblock")(
+    lambda walk, fields: {**walk.first_fields, "generation": fields["generation"], "pointers": [
+        0 if e in walk.chosen else w for e, w in enumerate(walk.first_fields["pointers"], 1)]} if walk.parts else None)
+mistake("the superblock: another extent is reset, too", "superblock")(
+    field("pointers", lambda walk, pointers: [0 if is_other(walk, e) and e not in walk.fields["retired"] else w
+                                              for e, w in enumerate(pointers, 1)]))
+mistake("box 7 is misread, and an older run was forgotten", "superblock", without=(7,), begins_again=True)(
     field("runs", lambda walk, runs: runs[:-1] if len(runs) > bool(walk.entries) else None))
-mistake("box 8: another extent is reset", "extents of box 8", often=True)(
-    lambda walk, extents: [e for e in range(1, walk.drive.extents) if e not in extents and e not in walk.fields["retired"]][:1] or None)
-mistake("box 8: one more extent is reset", "extents of box 8", often=True)(
-    lambda walk, extents: [*extents, *[e for e in range(1, walk.drive.extents) if e not in extents and e not in walk.fields["retired"]][:1]])
-mistake("box 8: the superblock of the first image is written, with the pointer 0", "superblock of box 8")(
-    lambda walk, fields: {**walk.first_fields, "generation": fields["generation"],
-                          "pointers": [0 if e in walk.chosen else w for e, w in enumerate(walk.first_fields["pointers"], 1)]} if walk.parts else None)
+mistake("something else is written with the superblock", "after box 6")(
+    lambda walk, value: walk.drive.write(walk.choice.randrange(1, walk.drive.extents), walk.choice.randrange(walk.drive.size - 4), b"oops") or ())
+
 
 # Boxes left out
 
-mistake("box 4 is left out", "copies")(lambda walk, parts: [] if parts else None)
-mistake("box 5 is left out", "box 5")(lambda walk, entries: [] if entries else None)
+mistake("the copies are left out, and named", "copies")(lambda walk, parts: [] if parts else None)
+mistake("the run is left out", "box 5")(lambda walk, entries: [] if entries else None)
 mistake("box 6 is left out", "box 6")(lambda walk, value: False)
-mistake("box 8 writes into another extent, too", "after writing of box 8")(
-    lambda walk, value: walk.drive.write(walk.choice.randrange(1, walk.drive.extents), walk.choice.randrange(walk.drive.size - 4), b"oops") or ())

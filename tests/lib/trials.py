@@ -6,7 +6,8 @@ import random
 
 from lib.drives import DRIVES, WRITTEN_AFTER
 from lib.node import Engine, Full, all_accepted, held, is_held, lines_with, zero_record
-from lib.walk import FIELDS, Again, Stop, Walk, erased
+from lib.own_tools import FIELDS
+from lib.walk import Again, Stop, Walk, erased
 from reference.shardscrub import choose, records_of, sha, write_locator
 
 

@@ -1,22 +1,25 @@
-"""Walks the checklist of docs/RECLAIMING.md on a made-up disk. The code plays the node and the person: it copies chunks, writes runs
-and superblocks, and does what each box says with what the commands print. A mistake may be made on the way, or something may happen to the
-disk; then a box should stop the walk. lib/trials.py says what comes of it.
+"""Walks the checklist of docs/RECLAIMING.md on a made-up disk. The code plays the person, who does what each box says with what the commands
+and act/plan print, and act/put, which makes the writes. On some walks the node's own tools make them (lib/own_tools.py). A mistake may be
+made on the way, or something may happen to the disk; then a box should stop the walk. lib/trials.py says what comes of it.
 """
 import random
 
-from lib.disks import frame, sealed_frame
+from lib.disks import frame
 from lib.drives import moved, with_copies_in_listed, worn
 from lib.node import (Full, Node, acceptable, are_risen, bindings_of, doubts_in, held, is_held, lines_with, locator_of, named_locators,
-                      open_doubts_in, place_of, put_record, record_pages, require, run_of, zero_record)
-from reference.shardscrub import SEALED, choose, frame_at, records_of, rooms, scrub, sha
+                      open_doubts_in, put_record, record_pages, require, run_of, zero_record)
+from lib.own_tools import FIELDS, POINTS, OwnTools, Part
+from reference.shardscrub import SEALED, choose, frame_at, rooms, scrub, sha
 
-FIELDS = ("generation", "pointers", "retired", "runs")
-GREATEST = 2 ** 64 - 1
+# How often act/plan is called in box 5: for the copies, for those that a mistake left out, and for the superblock.
+MOST_PLANS = 4
+# How many of the walks without a mistake are made by act/plan, and on how many of these the script act/put makes the writes, too.
+BY_PLAN, BY_SCRIPT = .6, .1
 
 
 class Stop(Exception):
-    """A box stops the walk: its number, why, and what it says to do: to `begin again`, to `go back` first, to `restore` the first image to
-    another drive, or nothing."""
+    """A box stops the walk: its number, why, and what it says to do: to `begin again`, to `start over`, to `go back` first, to `restore` the
+    first image to another drive, or nothing."""
 
     def __init__(self, box, why, then):
         super().__init__(f"box {box}: {why}")
@@ -27,27 +30,23 @@ class Again(Exception):
     """The node wrote something, or the power failed, and the walk begins anew."""
 
 
-class Part:
-    """A chunk to copy: the place that a listing gives, its bytes, and the place of the copy. A run has no place before. `word` is the kind of
-    the doubt that was accepted, if one was."""
-
-    def __init__(self, place, count, word=None):
-        self.place, self.count, self.word, self.target = place, count, word, None
-
-
-class Walk:
+class Walk(OwnTools):
     """One walk through the boxes. `slip` is where a mistake changes what is done. By the node's log `known` is the generation of the last
     superblock, later that of the last one whose writing has ended; `written_after` says whether something was written after it. `without`
-    has the boxes and looks that are left out. `erases` says whether the extents are erased at the end. `begun` is the generation of the last
-    superblock whose writing has begun. `anew` has the shards that the node wrote anew or deleted, `given_up` the crowded extents to reset."""
+    has the boxes and rules that are left out. `erases` says whether the extents are erased at the end. `begun` is the generation of the last
+    superblock whose writing has begun. `by_plan` says whether act/plan makes the writes; what only other tools can do wrong is done by
+    these. `anew` has the shards that the node wrote anew or deleted, `given_up` the crowded extents to reset, `refused` the words with which
+    act/plan refused some extents, and `written` the place of the superblock in extent 0, and its bytes."""
 
-    def __init__(self, engine, drive, known, choice, mistake=None, without=(), written_after=False, erases=True, begun=None):
+    def __init__(self, engine, drive, known, choice, mistake=None, without=(), written_after=False, erases=True, begun=None, by_plan=True):
         self.engine, self.drive, self.known, self.choice = engine, drive, known, choice
         self.mistake, self.written_after, self.erases, self.begun = mistake, written_after, erases, begun
         self.without = {*without, *(mistake.without if mistake else ())}
+        self.by_plan = by_plan and "loose copies" not in self.without and not (mistake and mistake.point in POINTS)
         self.slipped = mistake is not None and mistake.point == "never"
-        self.node = None
-        self.generation, self.written, self.chosen = None, None, []
+        self.node, self.by_script = None, False
+        self.generation, self.written, self.chosen, self.refused, self.merged = None, None, [], [], None
+        self.parts, self.run_part, self.entries = [], None, []
         self.owed, self.ends, self.places, self.anew, self.given_up = [], {}, {}, set(), set()
 
     def slip(self, point, value):
@@ -59,9 +58,9 @@ class Walk:
                 return other
         return value
 
-    def check(self, box, condition, why, look=None, then="go back"):
-        """Stops if the condition doesn't hold, unless the box or this look of it is left out."""
-        if not condition and box not in self.without and look not in self.without:
+    def check(self, box, condition, why, rule=None, then="go back"):
+        """Stops if the condition doesn't hold, unless the box or this rule is left out."""
+        if not condition and box not in self.without and rule not in self.without:
             raise Stop(box, why, then)
 
     def go(self):
@@ -70,25 +69,27 @@ class Walk:
         if choose(self.drive.image())["page"] is not None:
             self.running.resume()
         self.first_shards = dict(self.running.shards)
-        self.first = self.seventh = self.slip("first image", self.drive).copy()
+        self.first = self.slip("first image", self.drive).copy()
         self.box_1()
-        if not self.choose():
-            return False
         self.fields = self.first_fields = {key: choose(self.first.image())[key] for key in FIELDS}
+        self.read_listing()
+        if not (self.box_3() if self.by_plan else self.choose_by_tools()):
+            return False
         self.slip("after box 3", ())
-        if self.parts:
-            self.box_4()
-            self.slip("after box 4", ())
+        self.fourth = self.ask_compare(4, self.first, (), self.generation, self.generation)
+        if self.by_plan:
             self.box_5()
             self.slip("after box 5", ())
             self.box_6()
-            self.slip("after box 6", ())
-        self.box_7()
+        else:
+            self.write_by_tools()
+        self.slip("after box 6", ())
+        self.seventh = self.ask_compare(7, self.first, self.chosen, self.generation, self.generation + 1)
         self.slip("after box 7", ())
         self.box_8()
         self.slip("after box 8", ())
         if self.erases:
-            self.box_8d()
+            self.box_9()
         return True
 
     def new_image(self, box):
@@ -109,7 +110,7 @@ class Walk:
         self.check(1, not self.slip("written after", self.written_after), "something was written after the last superblock", then=None)
         text, _ = self.listed_with(())
         self.settle_last(text)
-        left = acceptable(open_doubts_in(text))
+        left = self.accepted = acceptable(open_doubts_in(text))
         self.listing, clear = self.listed_with(left)
         self.check(1, clear, "; ".join(open_doubts_in(self.listing)), then=None)
         self.doubts = doubts_in(self.listing)
@@ -140,11 +141,11 @@ class Walk:
         known = self.drive.known or self.engine.manifest(self.first)[0]
         self.check(1, not any(line.startswith("last ") for line in doubts), text, then=None)
         self.check(1, self.engine.manifest(trial)[0] == known, "the node knows something else", then=None)
-        self.drive.raw[:] = trial.raw
+        self.drive.raw[:], self.drive.left = trial.raw, None
         raise Again
 
     def settle_copy(self, words, way):
-        """A spare or a loose copy is copied in box 4, or an entry names the spare; or the node writes the shard anew or deletes it."""
+        """A spare or a loose copy is copied, or an entry names the spare; or the node writes the shard anew or deletes it."""
         word, extent, offset, length, uuid, _, identifier, count = words
         identifier, place = bytes.fromhex(identifier), (int(extent), int(offset))
         if way == "name":
@@ -224,7 +225,7 @@ class Walk:
         put_record(self.drive, text, self.choice.choice(pages) * self.drive.page)
         self.known = self.generation + 1
 
-    # Which extents, and where their chunks go
+    # Which extents
 
     def read_listing(self):
         self.listed = {int(words[1]): [] for words in lines_with(self.listing, "reclaim")}
@@ -236,77 +237,55 @@ class Walk:
             for e, at in rooms(scrub(self.first.image())).items():
                 (self.last_rooms if e in self.listed else self.rooms)[e] = (at, self.drive.size)
 
-    def choose(self):
-        """Chooses the extents to reset, and plans the copies. False if nothing can be reset."""
-        self.read_listing()
+    def tries(self):
+        """The extents that are tried, several at once or each alone, in any order."""
         extents = list(self.listed)
         self.choice.shuffle(extents)
         tries = [[e] for e in extents]
         if len(extents) > 1:
             tries.insert(0, extents[:self.choice.choice([1, 2, len(extents)])])
-        free = [[e] for e in extents if not self.listed[e]]
-        for some in tries:
-            if self.plan(some, self.rooms):
+        return tries
+
+    def set_chosen(self, some):
+        self.chosen = some
+        self.given_up |= {e for e in some if f"crowded {e}" in self.doubts}
+
+    def box_3(self):
+        """Chooses extents for which there is a plan. False if there are none."""
+        for some in self.tries():
+            lines, is_given = self.ask_plan(3, self.first, some)
+            if is_given:
+                self.set_chosen(some)
+                self.read_pieces(lines)
                 return True
-        for some in free:
-            if self.plan(some, {}):
-                return True
-        for some in [] if free else tries:
-            if self.plan(some, {x: room for x, room in self.last_rooms.items() if x not in some}):
-                return True
+            word, *_ = lines[0].split()
+            self.check(3, word in ("no-room", "no-page", "no-generation"), "; ".join(lines), then=None)
+            self.refused.append(word)
         return False
 
-    def plan(self, some, rooms):
-        """Whether the chunks of these extents and the runs fit into these rooms. If so, they are chosen."""
-        moves = [words for e in some for words in self.listed[e]]
-        places = {(int(w[1]), int(w[2])): int(w[7]) for w in moves}
-        self.parts = [Part(place, count) for place, count in places.items()]
-        self.parts += [Part(part.place, part.count, part.word) for part in self.owed
-                       if part.place[0] in some and part.place not in places]
-        shards = sorted({bytes.fromhex(w[6]) for w in moves if w[5] == "shard"})
-        bindings = bindings_of(self.first)
-        self.entries = [(i, bindings[i][0]) for i in shards if i in bindings]
-        self.form = self.choice.choice([frame, sealed_frame])
-        run_part = Part(None, len(self.form(bytes(16), run_of(self.entries))))
-        self.merged = self.merge(bool(self.entries)) if self.parts else None
-        self.merged_part = Part(None, len(self.form(bytes(16), run_of(self.merged[1])))) if self.merged else None
-        left = {x: list(room) for x, room in rooms.items()}
-        for part in [*self.parts, *([run_part] if self.entries else []), *([self.merged_part] if self.merged else [])]:
-            here = [x for x, (at, end) in left.items() if at + part.count <= end]
-            if not here:
-                return False
-            x = self.choice.choice(here)
-            part.target = (x, left[x][0])
-            left[x][0] += part.count
-        if self.parts:
-            chosen = choose(self.first.image())
-            runs = len(chosen["runs"]) + bool(self.entries) - bool(self.merged)
-            size = len(self.drive.record(0, [0] * (self.drive.extents - 1), chosen["retired"],
-                                         [locator_of(0, 0, bytes(16), b"")] * runs))
-            if runs > 32 or not record_pages(self.drive, size):
-                return False
-        self.run_part, self.chosen = run_part, some
-        self.given_up |= {e for e in some if f"crowded {e}" in self.doubts}
-        return True
+    def read_pieces(self, lines):
+        """The copies and the run of a plan, with their places."""
+        words = [line.split() for line in lines]
+        self.parts = [Part((int(e), int(o)), int(count), None, (int(x), int(at)))
+                      for e, o, x, at, count in (rest for word, *rest in words if word == "copy")]
+        new_runs = [Part(None, len(text) // 2, None, (int(x), int(at))) for _, x, at, text in (w for w in words if w[0] == "write")
+                    if x != "0"]
+        self.run_part = new_runs[0] if new_runs else None
 
-    def merge(self, more):
-        """If there are too many runs for a superblock, or by chance: two neighbours in its list as one run. The place of the newer one, and
-        the entries of both."""
-        runs = scrub(self.first.image()).runs
-        some = [k for k in range(len(runs) - 1) if runs[k].entries and runs[k + 1].entries]
-        if not some or len(runs) + more <= 32 and (self.mistake is not None or self.choice.random() < .8):
-            return None
-        k = self.choice.choice(some)
-        return k, sorted({**dict(runs[k + 1].entries), **dict(runs[k].entries)}.items())
+    def ask_plan(self, box, drive, resets):
+        """The lines of act/plan, and whether its status is 0."""
+        words = self.slip(f"words of box {box}", {"last": self.generation, "accepted": self.accepted, "resets": resets})
+        return self.engine.plan(self.slip(f"image of box {box}", drive), **words)
 
-    # The copies and their superblock
+    # The writes
 
     def ask_compare(self, box, before, resets, *generations):
         """Stops unless `compare` ends with these generations, on a new image."""
         now = self.new_image(box)
         first, second = self.slip(f"images of box {box}", [before, now])
         text = self.compare(first, second, self.slip(f"resets of box {box}", resets))
-        self.check(box, text == "safe {} {}\n".format(*generations), text.replace("\n", "; "), f"compare of box {box}")
+        self.check(box, text == "safe {} {}\n".format(*generations), text.replace("\n", "; "), f"compare of box {box}",
+                   way_out(text, "start over") if box == 4 else "go back")
         return now
 
     def compare(self, before, after, resets=()):
@@ -319,108 +298,78 @@ class Walk:
             text = "".join(line + "\n" for line in lines)
         return text
 
-    def put(self, box, target, text):
-        """Writes a copy or the run. The place is looked at before, on the image of box 4."""
-        x, at = target
-        here = self.fourth.read(x, at, len(text))
-        first = next((at + k for k, byte in enumerate(here) if byte), None)
-        tails = [int(line.split()[2]) for line in self.doubts if line.startswith(f"tail {x} ")]
-        is_room = x in self.rooms or x in self.last_rooms
-        self.check(box, first is None or is_room and tails and tails[0] <= first, "the place holds something", "look")
-        self.drive.write(*self.slip("place", target), text)
-        self.ends[x] = max(self.ends.get(x, 0), at + len(text))
-
-    def box_4(self):
-        self.fourth = self.ask_compare(4, self.first, (), self.generation, self.generation)
-        self.slip("copying", ())
-        self.places = {part.place: part.target for part in self.parts}
-        for self.current, part in enumerate(self.slip("copies", self.parts)):
-            source = self.slip("source", part.place)
-            part.target = self.places[part.place] = self.slip("target", part.target)
-            self.put(4, part.target, self.slip("copy", self.drive.read(*source, part.count)))
-
-    def moved(self, c):
-        """The locator with the place of the copy."""
-        extent, offset = self.places.get(place_of(c), place_of(c))
-        return {**c, "extent": extent, "offset": offset}
-
     def box_5(self):
-        self.runs = [self.moved(c) for c in self.fields["runs"]]
-        if self.merged:
-            (k, entries), name = self.merged, self.choice.randbytes(16)
-            self.put(5, self.merged_part.target, self.form(name, run_of(entries)))
-            self.runs[k:k + 2] = [locator_of(*self.merged_part.target, name, run_of(entries))]
-        if self.slip("box 5", self.entries):
-            entries = self.slip("entries", [(i, [self.moved(c) for c in locators]) for i, locators in self.entries])
-            payload, name = self.slip("run", run_of(entries)), self.choice.randbytes(16)
-            target = self.slip("target of the run", self.run_part.target)
-            self.put(5, target, self.slip("frame of the run", self.form(name, payload)))
-            self.runs.insert(0, locator_of(*target, name, payload))
+        """The copies and their run, until the plan is the superblock."""
+        self.newest = self.fourth
+        for turn in range(MOST_PLANS):
+            lines, is_given = self.ask_plan(5, self.newest, self.chosen)
+            if not is_given:
+                is_newer = lines[0].startswith("doubt last ") and int(choose(self.newest.image())["generation"] or 0) > self.generation
+                has_rotted = lines[0].startswith("unlisted ") and turn > 0
+                raise Stop(5, "; ".join(lines), "start over" if is_newer else "restore" if has_rotted else "go back")
+            self.next = lines
+            if lines[0].startswith("write 0 "):
+                return
+            self.slip("copying", ())
+            self.put(5)
+            self.slip("after the copies", ())
+            self.newest = self.new_image(5)
+        raise Stop(5, "the plan is never the superblock", None)
+
+    def put(self, box):
+        """Makes the writes of the plan, as act/put does, in any order."""
+        image, disk, lines = self.slip(f"put of box {box}", (self.newest, self.drive, self.next))
+        if disk.unreadable - self.first.unreadable:
+            raise Stop(box, "a page can't be read any more", "begin again" if "restore" in self.without else "restore")
+        if disk.raw != image.raw:
+            then = way_out(self.compare(self.first, self.drive), "start over")
+            self.check(box, False, "the disk isn't what the image shows", "comparison of put", then)
+        wanted = self.engine.put(image, disk, lines) if self.by_script else None
+        for line in self.choice.sample(lines, len(lines)):
+            self.make(box, line, image, disk)
+        require(wanted in (None, disk.raw), "act/put writes something else", *lines)
+
+    def put_again(self):
+        """Makes the writes of the plan once more, with a newer image."""
+        self.newest = self.new_image(5)
+        self.put(5)
+
+    def make(self, box, line, image, disk):
+        """Makes the write of one line."""
+        word, *words, text = line.split()
+        if word == "copy":
+            e, o, *target = map(int, words)
+            text = image.read(e, o, int(text))
+        else:
+            target, text = map(int, words), bytes.fromhex(text)
+        x, at = target
+        is_superblock = x == 0
+        if is_superblock:
+            self.begun, self.written = self.generation + 1, (at, len(text))
+        self.slip(f"writing of box {box}", (x, at, text))
+        disk.write(x, at, text)
+        if is_superblock:
+            self.known = self.begun
 
     def box_6(self):
-        now = self.slip("image of box 6", self.new_image(6))
-        kept, found = (self.engine.ask(drive, "superblocks")[0] for drive in (self.first, now))
-        self.check(6, kept == found, "other superblocks", "superblocks")
-        if not self.slip("box 6", True):
-            return
-        pointers = [self.ends.get(e, w) for e, w in enumerate(self.fields["pointers"], 1)]
-        self.write_superblock(6, {**self.fields, "generation": self.next_of(6, self.generation), "pointers": pointers, "runs": self.runs})
+        if self.slip("box 6", True):
+            self.put(6)
 
-    def next_of(self, box, generation):
-        """The next generation. Boxes 6 and 8 and a way back need one each."""
-        self.check(box, self.generation <= GREATEST - 3, "too few greater generations", then=None)
-        if generation == GREATEST:
-            raise Full
-        return generation + 1
-
-    def write_superblock(self, box, fields):
-        """Writes one with these fields, as a mistake may change them."""
-        self.fields_before = self.fields
-        self.written = box
-        self.fields = self.slip(f"superblock of box {box}", fields)
-        text = self.slip(f"record of box {box}", self.drive.record(*(self.fields[key] for key in FIELDS)))
-        pages = record_pages(self.drive, len(text))
-        at = self.slip(f"page of box {box}", self.choice.choice(pages) * self.drive.page if pages else None)
-        if at is None:
-            raise Full
-        self.begun = self.fields["generation"]
-        self.slip(f"writing of box {box}", (text, at))
-        put_record(self.drive, text, at, self.slip(f"zeros of box {box}", True))
-        self.known = self.fields["generation"]
-
-    # The answers before and after the reset
-
-    def box_7(self):
-        now = self.generation + 1 if self.parts else self.generation
-        self.seventh = self.ask_compare(7, self.first, self.chosen, self.generation, now)
+    # The answers after the reset
 
     def box_8(self):
-        """Writes the reset. If it isn't on the disk then, and all else is as it was, it is written again."""
-        self.fields_of_7, generation = self.fields, self.generation + bool(self.parts)
         wanted = [f"pointer {e} {self.first_fields['pointers'][e - 1]} 0" for e in sorted(self.chosen)]
-        for _ in range(3):
-            generation = self.next_of(8, generation)
-            extents = self.slip("extents of box 8", self.chosen)
-            pointers = [0 if e in extents else w for e, w in enumerate(self.fields["pointers"], 1)]
-            self.write_superblock(8, {**self.fields, "generation": generation, "pointers": pointers})
-            self.slip("after writing of box 8", ())
-            self.eighth = self.ask_compare(8, self.seventh, self.chosen, self.generation + bool(self.parts), generation)
-            text = self.compare(self.first, self.eighth)
-            *lines, _ = text.splitlines()
-            if lines == wanted or any(line not in wanted for line in lines):
-                break
-        self.check("8c", lines == wanted, text.replace("\n", "; "))
+        text = self.compare(*self.slip("images of box 8", [self.first, self.seventh]))
+        *lines, _ = text.splitlines()
+        self.check(8, lines == wanted, text.replace("\n", "; "))
 
-    # The erase
-
-    def box_8d(self):
+    def box_9(self):
         """Erases the extents, if nothing was written since the reset."""
         extents = self.slip("extents to erase", self.chosen)
-        now, counts = self.new_image("8d"), choose(self.eighth.image())["generation"]
-        text = self.compare(self.eighth, now, extents)
-        is_older = any(line.startswith(("lost ", "generation ", "doubt after no-superblock")) for line in text.splitlines())
-        self.check("8d", text == f"safe {counts} {counts}\n", text.replace("\n", "; "), then="go back" if is_older else "begin again")
-        self.slip("after box 8d", ())
+        now, counts = self.new_image(9), choose(self.seventh.image())["generation"]
+        text = self.compare(*self.slip("images of box 9", [self.seventh, now]), extents)
+        self.check(9, text == f"safe {counts} {counts}\n", text.replace("\n", "; "), then=way_out(text, "begin again"))
+        self.slip("after box 9", ())
         self.drive.raw[:] = erased(self.drive, self.slip("erase", extents), self.choice).raw
 
     # What a box says to do
@@ -428,35 +377,32 @@ class Walk:
     def leave(self, stop):
         """Does what the box says that stopped the walk, before it begins again."""
         if stop.then == "restore":
-            self.drive.raw[:], self.drive.unreadable, self.known = self.first.raw, self.first.unreadable, self.generation
-        if stop.then == "go back":
-            self.put_back(stop.box)
+            self.restore()
+        if stop.then == "go back" and self.node is None and "way back" not in self.without:
+            self.go_back()
 
-    def put_back(self, box):
-        """On a copy of the disk the superblock of the first image is written, or else that of box 7. The one by which the manifest is that
-        of the first image, or last words have risen, is written on the disk. What a node wrote isn't overwritten."""
-        kept = self.engine.manifest(self.first)[0]
-        if self.node is not None or self.written is None and choose(self.drive.image())["generation"] == self.generation:
-            return
-        if f"way back of box {box}" in self.without:
-            return
-        for fields in [self.first_fields, self.fields_of_7] if box in (8, "8c", "8d") else [self.first_fields]:
-            trial = self.drive.copy()
-            if self.write_on(trial, fields) and are_risen(kept, self.engine.manifest(trial)[0]):
-                self.drive.raw[:] = trial.raw
-                self.known = choose(trial.image())["generation"]
-                return
+    def restore(self):
+        """The first image goes to another drive."""
+        self.drive.raw[:], self.drive.unreadable, self.known = self.first.raw, self.first.unreadable, self.generation
 
-    def write_on(self, drive, fields):
-        """Writes a superblock with a generation greater than any on the disk. False if there is none, or no place."""
-        newest = max([self.fields["generation"], *(r.generation for r in records_of(drive.image()).values())])
-        if newest == GREATEST:
-            return False
-        text = drive.record(*({**fields, "generation": newest + 1}[key] for key in FIELDS))
-        pages = record_pages(drive, len(text))
-        if pages:
-            put_record(drive, text, self.choice.choice(pages) * drive.page)
-        return choose(drive.image())["generation"] == newest + 1
+    def go_back(self):
+        """The superblock that was written becomes zeros, on a copy of the disk first: that of before has to count then, with the manifest of
+        the first image. Else the first image goes to another drive, unless the walk ends here: then what its disk has lost is looked at."""
+        trial = self.drive.copy()
+        if self.written:
+            at, count = self.written
+            trial.write(0, at, bytes(count))
+        doubts = open_doubts_in(self.engine.ask(trial, "reclaimable", last=self.generation)[0])
+        counts = not any(line.startswith(("last ", "no-superblock")) for line in doubts)
+        if counts and self.engine.manifest(trial)[0] == self.engine.manifest(self.first)[0]:
+            self.drive.raw[:], self.known = trial.raw, self.generation
+        elif self.mistake is None or self.mistake.begins_again:
+            self.restore()
+
+
+def way_out(text, then):
+    """What to do after this answer of `compare`: to go back if something was lost, or an older superblock counts now, or none."""
+    return "go back" if any(line.startswith(("lost ", "generation ", "doubt after no-superblock")) for line in text.splitlines()) else then
 
 
 def erased(drive, extents, choice):
@@ -471,20 +417,23 @@ def erased(drive, extents, choice):
 
 def count_seen(walk, drive, seen):
     """Counts what came up on a walk that ended."""
-    moves = [words for lines in walk.listed.values() for words in lines]
+    moves = [words for e in walk.chosen for words in walk.listed[e]]
+    kind = "by plan" if walk.by_plan else "by own tools"
+    seen[f"walk {kind}: ended"] += 1
     seen["walk: extents reset"] += len(walk.chosen)
     seen["walk: several at once"] += len(walk.chosen) > 1
     seen["walk: erased"] += walk.erases
-    seen["walk: runs merged"] += walk.merged is not None
-    seen["walk: copies"] += len(walk.parts)
+    seen[f"walk {kind}: copies"] += len(walk.parts)
+    seen[f"walk {kind}: runs written"] += walk.run_part is not None
+    seen["walk by own tools: runs merged"] += walk.merged is not None
     seen["walk: chunks shared"] += len(moves) - len({tuple(words[1:3]) for words in moves})
     seen["walk: sealed chunks copied"] += sum(drive.read(*part.place, 2) == SEALED.magic for part in walk.parts)
-    seen["walk: runs moved"] += sum(words[5] == "run" for e in walk.chosen for words in walk.listed[e])
+    seen["walk: runs moved"] += sum(words[5] == "run" for words in moves)
     seen["walk: copies into last rooms"] += sum(part.target[0] in walk.last_rooms for part in walk.parts)
-    seen["walk: spares copied"] += sum(part.place in [other.place for other in walk.owed] for part in walk.parts)
-    seen["walk: loose copies copied"] += sum(part.word == "loose" for part in walk.parts)
+    seen["walk: spares and loose copies copied"] += sum(part.place in [other.place for other in walk.owed] for part in walk.parts)
     seen["walk: crowded extents given up"] += len(walk.given_up)
     seen["walk: tails that --last accepts"] += any(line.startswith("tail ") for line in walk.doubts)
+    seen["walk: written by act/put, too"] += walk.by_script
 
 
 def walk_honestly(engine, seed, seen):
@@ -493,9 +442,12 @@ def walk_honestly(engine, seed, seen):
     drive, known = choice.choice([worn, moved, with_copies_in_listed, with_copies_in_listed])(choice)
     for _ in range(12):
         before = drive.copy()
-        walk = Walk(engine, drive, known, choice, erases=choice.random() < .5)
+        walk = Walk(engine, drive, known, choice, erases=choice.random() < .5, by_plan=choice.random() < BY_PLAN)
+        walk.by_script = choice.random() < BY_SCRIPT and walk.by_plan and engine.name is not None
         try:
-            if not walk.go():
+            has_reset = walk.go()
+            seen.update(f"plan: {word}" for word in walk.refused)
+            if not has_reset:
                 seen["walk: nothing can be reset"] += 1
                 break
         except Stop as stop:

@@ -25,7 +25,7 @@ use Rattle.scrub_args.specs.declared.args.ArgsFault.TheVariants.{Refused, Help, 
 use Rattle.scrub_args.specs.CommandLine.{shardscrub_app}
 use Rattle.scrub_args.specs.steps.Parsed.{ComesOf, HasNumber, HasScan, HasNeeds, IsWholeCommand, IsWholeParse, MayHaveLongNumber, is_dated_command, is_disk_command}
 use Rattle.scrub_args.specs.Accepting.{first_unacceptable, refusal_of}
-use Rattle.scrub_args.specs.Args.{AreSizesGiven, AskForVersion, HasPartOfSizes, IsTextFault, IsManifestFault, IsNumberOf, IsPartFault, IsRefusal, IsRowsFault, IsArgsFault, IsWorkersOf, RefusesRows, accepted_of, both_text, command_of, has_runs_and_resets, part_text}
+use Rattle.scrub_args.specs.Args.{AreSizesGiven, AskForVersion, HasPartOfSizes, IsTextFault, IsManifestArgsFault, IsNumberOf, IsPartFault, IsRefusal, IsRowsFault, IsArgsFault, IsWorkersOf, RefusesRows, accepted_of, both_text, command_of, has_runs_and_resets, part_text}
 use Rattle.scrub_args.specs.declared.args.GivenSizes.{GivenSizes}
 
 -- what `parse` gives for a text as a number of 32 bits
@@ -151,20 +151,20 @@ part_fault_of_rows name found command OutOfMemory is why = tt
 
 -- the refusal of index runs beside extents to be taken as reset
 pub both_fault : (found : List Row) (fault : ArgsFault) → has_runs_and_resets found ≡ true → IsRefusal both_text fault →
-    IsManifestFault found fault
+    IsManifestArgsFault found fault
 both_fault found (Help text) both refused = absurd refused
 both_fault found (Refused text) both refused = inr (both, refused)
 both_fault found OutOfMemory both refused = tt
 
 -- a fault of the sizes is one of `manifest`
-pub part_fault_of_manifest : (found : List Row) (fault : ArgsFault) → IsPartFault found fault → IsManifestFault found fault
+pub part_fault_of_manifest : (found : List Row) (fault : ArgsFault) → IsPartFault found fault → IsManifestArgsFault found fault
 part_fault_of_manifest found (Help text) why = absurd why
 part_fault_of_manifest found (Refused text) why = inl why
 part_fault_of_manifest found OutOfMemory why = tt
 
 -- a fault of `manifest` is one of its command
 pub manifest_fault_of_rows : (found : List Row) (command : Option (Text × List Row)) (fault : ArgsFault) →
-    command ≡ Some (codes "manifest", found) → IsManifestFault found fault → IsRowsFault command fault
+    command ≡ Some (codes "manifest", found) → IsManifestArgsFault found fault → IsRowsFault command fault
 manifest_fault_of_rows found command (Help text) is why = absurd why
 manifest_fault_of_rows found command (Refused text) is (inl part) = inr (inl (codes "manifest", found, is, part))
 manifest_fault_of_rows found command (Refused text) is (inr both) = inr (inr (found, is, both))

@@ -265,10 +265,10 @@ IsPartFault found OutOfMemory = Unit {0}
 
 -- why the values found for `manifest` are no request: some of the sizes are missing, there are index runs beside extents to be
 -- taken as reset, or memory ran out
-abbrev pub IsManifestFault : List Row → ArgsFault → Type 0
-IsManifestFault found (Help text) = ⊥
-IsManifestFault found (Refused text) = IsPartRefusal found text.bytes.items ⊎ IsBothRefusal found text.bytes.items
-IsManifestFault found OutOfMemory = Unit {0}
+abbrev pub IsManifestArgsFault : List Row → ArgsFault → Type 0
+IsManifestArgsFault found (Help text) = ⊥
+IsManifestArgsFault found (Refused text) = IsPartRefusal found text.bytes.items ⊎ IsBothRefusal found text.bytes.items
+IsManifestArgsFault found OutOfMemory = Unit {0}
 
 -- why the texts that were found to accept aren't: one can't be accepted, or memory ran out
 abbrev pub IsTextFault : List Row → ArgsFault → Type 0

@@ -13,7 +13,7 @@ ghost use Rattle.scrub_args.specs.Args.{AreAccepted, AreCompareArgs, AreImageArg
 ghost use Rattle.scrub_args.specs.Args.{AreManifestArgs, AreNumbersOf, AreResetsOf, AreScanArgs};
 ghost use Rattle.scrub_args.specs.Args.{AreShardArgs, AreShardsArgs, AreSizesArgs, AreSizesGiven};
 ghost use Rattle.scrub_args.specs.Args.{AreTextsOf, AskForVersion, IsArgsFault, IsAskedBy, IsFlagOf};
-ghost use Rattle.scrub_args.specs.Args.{IsLastOf, IsManifestFault, IsNumberOf, IsPartFault, IsRefusal};
+ghost use Rattle.scrub_args.specs.Args.{IsLastOf, IsManifestArgsFault, IsNumberOf, IsPartFault, IsRefusal};
 ghost use Rattle.scrub_args.specs.Args.{IsRowsFault, IsTextFault, IsWorkersOf, NameCommand, both_text};
 ghost use Rattle.scrub_args.specs.Args.{has_runs_and_resets, part_text, texts};
 ghost use Rattle.clap.specs.declared.error.kind.ErrorKind.TheVariants.{DisplayVersion};
@@ -307,7 +307,7 @@ fn manifest_args<'a>(alloc: Global, matches: &ArgMatches<'a>) -> Result<Manifest
     requires { HasManifest (rows_of (found_of matches.now)) }
     ensures { MatchResult result
         (AreManifestArgs (rows_of (found_of matches.now)))
-        (IsManifestFault (rows_of (found_of matches.now))) }
+        (IsManifestArgsFault (rows_of (found_of matches.now))) }
 {
     if has_runs_and_resets(matches) {
         return Err(refused_both(alloc));

@@ -1,8 +1,8 @@
 -- The index runs that arguments give, from what the parts find, and why there are none.
-use Rattle.std.proofs.Common.{◌≡◌, ◌==◌, ◌<◌, ◌≤◌, ◌+◌, ◌∙◌, ◌++◌, ◌∷◌, [], ℕ, zero, suc, Bool, true, false, List, Option, None, Some, Result, Ok, Err, MatchResult, All, length, take, get_or, arith, ap, refl, sym, subst}
-use Rattle.std.specs.Prelude.{fold, if◌then◌else◌, slice_index_or}
+use Rattle.std.proofs.Common.{◌≡◌, ◌==◌, ◌<◌, ◌≤◌, ◌+◌, ◌∙◌, ◌++◌, ◌∷◌, [], ℕ, zero, suc, Bool, true, false, List, All, length, take, get_or, arith, ap, refl, sym, subst}
+use Rattle.std.specs.Prelude.{if◌then◌else◌, slice_index_or}
 use Rattle.std.specs.Borrow.{Bor}
-use Rattle.std.specs.List.{AllZip, list_any}
+use Rattle.std.specs.List.{list_any}
 use Rattle.std.proofs.lemmas.Bool.{false≢true}
 use Rattle.std.proofs.lemmas.List.{take_all}
 use Rattle.std.proofs.lemmas.List.Elements.{All-nil}
@@ -18,7 +18,7 @@ use Rattle.scrub_args.specs.declared.args.ImageArgs.{ImageArgs}
 use Rattle.scrub_cli.specs.declared.process.fault.Fault.{Fault}
 use Rattle.scrub_cli.specs.declared.process.fault.Fault.TheVariants.{NotUtf8, Help, Args, Geometry, NoSizes, UncertainSizes, Extent, BadShard, Pointer, BadRun, BadPage, NoMap, MapLine, NoImage, TooLong, NoRun, NoShard, PayloadLost, Output, OutOfMemory}
 use Rattle.scrub_cli.specs.DiskImage.{IsDiskFault, IsLoadedDisk}
-use Rattle.scrub_cli.specs.GivenRuns.{AreRunsAt, EachNamesRun, GiveRuns, IsBadRunFault, IsFirstNoRun, IsLoadedWithRuns, IsNoRunFault, IsRunsFault, NameRuns, NamesRun, is_of_place, once, with_one}
+use Rattle.scrub_cli.specs.GivenRuns.{AreRunsAt, EachNamesRun, GiveRuns, IsBadRunFault, IsFirstNoRun, IsNoRunFault, IsRunsFault, NameRuns, NamesRunPlace, is_of_place, once, with_one}
 use Rattle.scrub_cli.specs.KnownFiles.{KnownMaps, KnownRaw}
 use Rattle.scrub_cli.proofs.DiskAnswers.{of_disk_fault}
 use Rattle.scrub_cli.proofs.Rescues.{lost_geometry}
@@ -27,10 +27,10 @@ use Rattle.scrub_cli.proofs.Rescues.{lost_geometry}
 
 -- one more argument, and the place that it names
 pub named_run_more : (g : Sizes) (args : List (Bor (List ℕ))) (places more : List (ℕ × ℕ)) (i : ℕ) (d : Bor (List ℕ)) (at : ℕ × ℕ) →
-    i < length args → NameRuns g (take i args) places → NamesRun g (get_or args i d).now at →
+    i < length args → NameRuns g (take i args) places → NamesRunPlace g (get_or args i d).now at →
     more ≡ places ++ at ∷ [] → NameRuns g (take (i + 1) args) more
 named_run_more g args places more i d at below named next grown =
-    AllZip-take_more (λ arg at. NamesRun g arg.now at) args places more i d at below named next grown
+    AllZip-take_more (λ arg at. NamesRunPlace g arg.now at) args places more i d at below named next grown
 
 -- there is a place for each argument
 pub one_place_each : (g : Sizes) (args : List (Bor (List ℕ))) (places : List (ℕ × ℕ)) → NameRuns g args places →
@@ -42,8 +42,8 @@ one_place_each g (arg ∷ args) (at ∷ places) named = omega (arith, one_place_
 
 -- the place of an argument
 pub place_of : (g : Sizes) (args : List (Bor (List ℕ))) (places : List (ℕ × ℕ)) (i : ℕ) (d : Bor (List ℕ)) (at : ℕ × ℕ) →
-    NameRuns g args places → i < length args → NamesRun g (get_or args i d).now (get_or places i at)
-place_of g args places i d at named below = AllZip-at (λ arg at. NamesRun g arg.now at) args places i d at below named
+    NameRuns g args places → i < length args → NamesRunPlace g (get_or args i d).now (get_or places i at)
+place_of g args places i d at named below = AllZip-at (λ arg at. NamesRunPlace g arg.now at) args places i d at below named
 
 -- there is an argument, if the list isn't empty
 pub some_given : (n : ℕ) → (n == 0) ≡ false → 0 < n
@@ -113,7 +113,7 @@ no_run_there image args places count runs arg at named below stands first none =
   runs = first.all;
   before = first.there;
   at = get_or places count at;
-  names = subst (λ (a : Bor (List ℕ)). NamesRun image.geometry a.now (get_or places count at)) (sym stands) (place_of image.geometry args places count arg at named below);
+  names = subst (λ (a : Bor (List ℕ)). NamesRunPlace image.geometry a.now (get_or places count at)) (sym stands) (place_of image.geometry args places count arg at named below);
   none = none;
 }
 

@@ -17,7 +17,7 @@ use Rattle.scrub_cli.specs.KnownFiles.{KnownMaps, KnownRaw}
 -- ---- places
 
 -- the argument is a pair of an extent of a disk of these sizes, which isn't extent 0, and an offset in that extent
-pub record NamesRun (g : Sizes) (arg : List ℕ) (at : ℕ × ℕ) : Type 0 where
+pub record NamesRunPlace (g : Sizes) (arg : List ℕ) (at : ℕ × ℕ) : Type 0 where
   pub pair : IsPair arg at.0 at.1
   pub past_first : 1 ≤ at.0
   pub in_extents : at.0 < g.extents
@@ -25,7 +25,7 @@ pub record NamesRun (g : Sizes) (arg : List ℕ) (at : ℕ × ℕ) : Type 0 wher
 
 -- the arguments name these places, in order
 abbrev pub NameRuns : Sizes → List (Bor (List ℕ)) → List (ℕ × ℕ) → Type 0
-NameRuns g args places = AllZip (λ arg at. NamesRun g arg.now at) args places
+NameRuns g args places = AllZip (λ arg at. NamesRunPlace g arg.now at) args places
 
 -- each of the arguments names a place
 abbrev pub EachNamesRun : Sizes → List (Bor (List ℕ)) → Type 0
@@ -38,7 +38,7 @@ pub record IsFirstBadRun (g : Sizes) (args : List (Bor (List ℕ))) (arg : Bor (
   pub stands : arg ≡ slice_index_or args place arg
   pub places : List (ℕ × ℕ)
   pub before : NameRuns g (take place args) places
-  pub names_none : (at : ℕ × ℕ) → ¬ NamesRun g arg.now at
+  pub names_none : (at : ℕ × ℕ) → ¬ NamesRunPlace g arg.now at
 
 -- why arguments name no places: this is the first that doesn't
 abbrev pub IsBadRunFault : Sizes → List (Bor (List ℕ)) → Fault → Type 0
@@ -88,7 +88,7 @@ pub record IsFirstNoRun (image : Image) (args : List (Bor (List ℕ))) (arg : Bo
   pub runs : List Locator
   pub before : AreRunsAt image (take place places) runs
   pub at : ℕ × ℕ
-  pub names : NamesRun image.geometry arg.now at
+  pub names : NamesRunPlace image.geometry arg.now at
   pub none : (l : Locator) → ¬ IsRunThere image at.0 at.1 l
 
 -- why arguments that name places give no runs: there is none at the place of this one, which is the first such; or memory ran out

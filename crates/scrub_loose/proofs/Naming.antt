@@ -29,7 +29,7 @@ use Rattle.scrub_loose.specs.declared.outer.FoundRun.{FoundRun}
 use Rattle.scrub_loose.specs.Listed.{AreListedRuns, AreLocatorPlaces, ListedValue}
 use Rattle.scrub_loose.specs.Outer.{AreFoundRuns, locator_of, run_cmp}
 use Rattle.scrub_loose.specs.steps.Held.{extent_by}
-use Rattle.scrub_loose.specs.steps.Naming.{AreInOrder, AreListedBefore, ArePlacesBefore, locator_in}
+use Rattle.scrub_loose.specs.steps.Naming.{AreSortedRuns, AreListedBefore, ArePlacesBefore, locator_in}
 use Rattle.scrub_loose.proofs.BytesInMemory.{byte_some, bytes_held}
 use Rattle.scrub_loose.proofs.FoundFrames.{same_cmp}
 use Rattle.scrub_loose.proofs.OneLoose.{one_rising}
@@ -89,7 +89,7 @@ same_order q r extent offset =
     ∙ same_cmp q.frame.offset r.frame.offset offset
 
 -- runs at one place are one
-pub one_index : (vs : List ListedValue) (i k : ℕ) (d : ListedValue) → AreInOrder vs → i < length vs → k < length vs →
+pub one_index : (vs : List ListedValue) (i k : ℕ) (d : ListedValue) → AreSortedRuns vs → i < length vs → k < length vs →
     (get_or vs i d).run.frame.extent ≡ (get_or vs k d).run.frame.extent →
     (get_or vs i d).run.frame.offset ≡ (get_or vs k d).run.frame.offset → i ≡ k
 one_index vs i k d h below within extent offset = elim (cases_lt i k) [
@@ -117,7 +117,7 @@ one_locator_at x n l m hl hm here there =
     (same_bytes x.byte n (locator_bytes l) (locator_bytes m) (length-locator_bytes l hl ∙ sym (length-locator_bytes m hm)) here there)
 
 -- a place of one run is of no other
-pub one_named : (x : Extent) (n : ℕ) (vs : List ListedValue) (i k : ℕ) (d : ListedValue) → AreInOrder vs → i < length vs →
+pub one_named : (x : Extent) (n : ℕ) (vs : List ListedValue) (i k : ℕ) (d : ListedValue) → AreSortedRuns vs → i < length vs →
     k < length vs → AreBytesAt x.byte n (locator_bytes (locator_in (get_or vs i d))) →
     AreBytesAt x.byte n (locator_bytes (locator_in (get_or vs k d))) → i ≡ k
 one_named x n vs i k d h below within here there =
@@ -126,7 +126,7 @@ one_named x n vs i k d h below within here there =
     one_index vs i k d h below within (ap (λ (l : Locator). l.extent) same) (ap (λ (l : Locator). l.offset) same)
 
 -- one run is named at a place
-pub listed_more : (x : Extent) (n : ℕ) (vs : List ListedValue) (i : ℕ) (w : ListedValue) → AreInOrder vs → i < length vs →
+pub listed_more : (x : Extent) (n : ℕ) (vs : List ListedValue) (i : ℕ) (w : ListedValue) → AreSortedRuns vs → i < length vs →
     w.run ≡ (get_or vs i w).run → w.places ≡ (get_or vs i w).places ++ n ∷ [] →
     ((d : ListedValue) → AreBytesAt x.byte n (locator_bytes (locator_in (get_or vs i d)))) → AreListedBefore x n vs →
     AreListedBefore x (n + 1) (set vs i w)
@@ -168,8 +168,8 @@ listed_none x vs none k d low =
     subst (ArePlacesBefore x 0 (locator_in (get_or vs k d))) (sym (none k d low)) (places_none x (locator_in (get_or vs k d)))
 
 -- lists of the same runs are both in order
-pub order_same : (vs ws : List ListedValue) → map (λ (v : ListedValue). v.run) ws ≡ map (λ (v : ListedValue). v.run) vs → AreInOrder vs →
-    AreInOrder ws
+pub order_same : (vs ws : List ListedValue) → map (λ (v : ListedValue). v.run) ws ≡ map (λ (v : ListedValue). v.run) vs → AreSortedRuns vs →
+    AreSortedRuns ws
 order_same vs ws same h = record {
   rise = subst (IsStrictlySortedBy run_cmp) (sym same) h.rise;
   locators = λ k d low.
@@ -181,7 +181,7 @@ order_same vs ws same h = record {
 }
 
 -- found runs are in order
-pub order_found : (image : Image) (vs : List ListedValue) → AreFoundRuns image (map (λ (v : ListedValue). v.run) vs) → AreInOrder vs
+pub order_found : (image : Image) (vs : List ListedValue) → AreFoundRuns image (map (λ (v : ListedValue). v.run) vs) → AreSortedRuns vs
 order_found image vs h = record {
   rise = h.rise;
   locators = λ k d low.
@@ -221,7 +221,7 @@ pub record IsSearched (vs : List ListedValue) (l : Locator) (o : Option ℕ) : T
   pub there : IfSome o (HoldsAt (λ v. (v.run.frame.extent ≡ l.extent) × (v.run.frame.offset ≡ l.offset)) vs)
   pub none : IfNone o (All (λ v. ¬ ((v.run.frame.extent ≡ l.extent) × (v.run.frame.offset ≡ l.offset))) vs)
 
-pub searched_place : (vs : List ListedValue) (l : Locator) (r : Result ℕ ℕ) → AreInOrder vs → IsSearchInRange r (length vs) →
+pub searched_place : (vs : List ListedValue) (l : Locator) (r : Result ℕ ℕ) → AreSortedRuns vs → IsSearchInRange r (length vs) →
     IsBinarySearchResult (λ v. pair_cmp (place_of v) (l.extent, l.offset)) vs r → IsSearched vs l (result_ok r)
 searched_place vs l (Ok i) h within equal = record {
   found = within;
@@ -272,7 +272,7 @@ module _ (P : ℕ) (bytes : List ℕ) (readable : List Bool) where
       ap (λ n. take n (drop p bytes)) (sym (length-locator_bytes l hl)) ∙ bytes_held P bytes readable p (locator_bytes l) h
 
   -- so the run that begins where it points has these bytes
-  pub named_by : (p : ℕ) (vs : List ListedValue) (i k : ℕ) (d : ListedValue) (m : Locator) → AreInOrder vs → i < length vs → k < length vs →
+  pub named_by : (p : ℕ) (vs : List ListedValue) (i k : ℕ) (d : ListedValue) (m : Locator) → AreSortedRuns vs → i < length vs → k < length vs →
       IsLocator m → locator_bytes m ≡ take 60 (drop p bytes) →
       ((get_or vs i d).run.frame.extent ≡ m.extent) × ((get_or vs i d).run.frame.offset ≡ m.offset) →
       AreBytesAt x.byte p (locator_bytes (locator_in (get_or vs k d))) →

@@ -15,7 +15,7 @@ use Rattle.scrub_scan.specs.declared.standing.Standing.{Standing}
 use Rattle.scrub_scan.specs.Extent.{Extent, FrameAt}
 use Rattle.scrub_scan.specs.Standing.{Stands}
 use Rattle.scrub_loose.specs.Anywhere.{whole_extent}
-use Rattle.scrub_loose.specs.Outer.{AreOuterFrames, BeginsWithin, end_of}
+use Rattle.scrub_loose.specs.Outer.{AreOuterFrames, BeginsWithin, frame_end}
 use Rattle.scrub_loose.specs.steps.Search.{IsFrameHere, IsFrameIn}
 use Rattle.scrub_loose.specs.steps.Walk.{AreOuterBefore, IsBefore}
 use Rattle.scrub_loose.proofs.FoundFrames.{same_frame}
@@ -47,7 +47,7 @@ module _ (x : Extent) (e : ℕ) where
   }
 
   -- up to the end of one of them there is no other
-  pub outer_skip : (n m : ℕ) (fs : List Standing) (s : Standing) → AreOuterBefore x e n fs → Contains fs s → n ≤ m → m ≤ end_of s →
+  pub outer_skip : (n m : ℕ) (fs : List Standing) (s : Standing) → AreOuterBefore x e n fs → Contains fs s → n ≤ m → m ≤ frame_end s →
       AreOuterBefore x e m fs
   outer_skip n m fs s h there low high = record {
     are = All-weaker (IsBefore x e n) (IsBefore x e m) (λ t before. before_later n m t low before) fs h.are;
@@ -60,14 +60,14 @@ module _ (x : Extent) (e : ℕ) where
   }
 
   -- one more
-  pub outer_push : (n : ℕ) (fs : List Standing) (s : Standing) → AreOuterBefore x e n fs → All (λ t. end_of t ≤ n) fs →
+  pub outer_push : (n : ℕ) (fs : List Standing) (s : Standing) → AreOuterBefore x e n fs → All (λ t. frame_end t ≤ n) fs →
       IsFrameHere x e n s → AreOuterBefore x e (n + 1) (fs ++ s ∷ [])
   outer_push n fs s h ends here = record {
     are =
         All-push (IsBefore x e (n + 1)) fs s
         (All-weaker (IsBefore x e n) (IsBefore x e (n + 1)) (λ t before. before_later n (n + 1) t (omega arith) before) fs h.are)
         (record { in_extent = here.in_extent; before = omega (arith, here.at_place); stands = here.stands });
-    apart = all_pairs_push (λ a b. end_of a ≤ b.offset) fs s h.apart (λ k d low. omega (arith, ends k d low, here.at_place));
+    apart = all_pairs_push (λ a b. frame_end a ≤ b.offset) fs s h.apart (λ k d low. omega (arith, ends k d low, here.at_place));
     others = λ t before. elim (cases_lt t.offset n) [
       | inl first ↦ elim (h.others t (record { in_extent = before.in_extent; before = first; stands = before.stands })) [
         | inl among ↦ inl (Contains-append_left fs (s ∷ []) t among)
@@ -95,16 +95,16 @@ module _ (x : Extent) (e : ℕ) where
   }
 
   -- one more, up to its end
-  pub outer_step : (n m : ℕ) (fs : List Standing) (s : Standing) → AreOuterBefore x e n fs → All (λ t. end_of t ≤ n) fs →
-      IsFrameHere x e n s → m ≡ end_of s → AreOuterBefore x e m (fs ++ s ∷ [])
+  pub outer_step : (n m : ℕ) (fs : List Standing) (s : Standing) → AreOuterBefore x e n fs → All (λ t. frame_end t ≤ n) fs →
+      IsFrameHere x e n s → m ≡ frame_end s → AreOuterBefore x e m (fs ++ s ∷ [])
   outer_step n m fs s h ends here is =
       outer_skip (n + 1) m (fs ++ s ∷ []) s (outer_push n fs s h ends here) (Contains-push fs s)
       (omega (arith, is, here.at_place, some_bytes s.form)) (omega (arith, is))
 
-  pub ends_step : (n m : ℕ) (fs : List Standing) (s : Standing) → All (λ t. end_of t ≤ n) fs → IsFrameHere x e n s → m ≡ end_of s →
-      All (λ t. end_of t ≤ m) (fs ++ s ∷ [])
+  pub ends_step : (n m : ℕ) (fs : List Standing) (s : Standing) → All (λ t. frame_end t ≤ n) fs → IsFrameHere x e n s → m ≡ frame_end s →
+      All (λ t. frame_end t ≤ m) (fs ++ s ∷ [])
   ends_step n m fs s ends here is =
-      All-push (λ t. end_of t ≤ m) fs s
+      All-push (λ t. frame_end t ≤ m) fs s
       (λ k d low. omega (arith, ends k d low, is, here.at_place)) (omega (arith, is))
 
 -- ---- in an image
@@ -166,13 +166,13 @@ at_its_place : (fs : List Standing) (t d : Standing) (c : Contains fs t) → get
 at_its_place fs t d c = get_or_default fs c.0 d t c.1 ∙ c.2
 
 -- of frames that are apart, none begins within another one
-pub not_within : (fs : List Standing) (s t : Standing) → AllPairs (λ a b. end_of a ≤ b.offset) fs → Contains fs s → Contains fs t →
+pub not_within : (fs : List Standing) (s t : Standing) → AllPairs (λ a b. frame_end a ≤ b.offset) fs → Contains fs s → Contains fs t →
     ¬ BeginsWithin s t
 not_within fs s t apart there here within = elim (cases_lt there.0 here.0) [
   | inl first ↦
-      let le : end_of s ≤ t.offset = ordered s t there here first in omega (arith, le, within.before)
+      let le : frame_end s ≤ t.offset = ordered s t there here first in omega (arith, le, within.before)
   | inr later ↦ elim (cases_lt here.0 there.0) [
-    | inl first ↦ let le : end_of t ≤ s.offset = ordered t s here there first in omega (arith, le, within.behind)
+    | inl first ↦ let le : frame_end t ≤ s.offset = ordered t s here there first in omega (arith, le, within.behind)
     | inr equal ↦
         let same : there.0 ≡ here.0 = omega (arith, later, equal) in
         let is : s ≡ t = sym (at_its_place fs s s there) ∙ ap (λ k. get_or fs k s) same ∙ at_its_place fs t s here in
@@ -180,10 +180,10 @@ not_within fs s t apart there here within = elim (cases_lt there.0 here.0) [
   ]
 ]
   where
-    ordered : (a b : Standing) (c : Contains fs a) (d : Contains fs b) → c.0 < d.0 → end_of a ≤ b.offset
+    ordered : (a b : Standing) (c : Contains fs a) (d : Contains fs b) → c.0 < d.0 → frame_end a ≤ b.offset
     ordered a b c d lt =
-        subst (λ (y : Standing). end_of a ≤ y.offset) (at_its_place fs b a d)
-        (subst (λ (y : Standing). end_of y ≤ (get_or fs d.0 a).offset) (at_its_place fs a a c) (apart c.0 d.0 a lt d.1))
+        subst (λ (y : Standing). frame_end a ≤ y.offset) (at_its_place fs b a d)
+        (subst (λ (y : Standing). frame_end y ≤ (get_or fs d.0 a).offset) (at_its_place fs a a c) (apart c.0 d.0 a lt d.1))
 
 -- those of one list that begin in front of a place are in the other
 agree : (image : Image) (e n : ℕ) (fs gs : List Standing) → AreOuterFrames image e fs → AreOuterFrames image e gs → (t : Standing) →
@@ -200,6 +200,6 @@ agree image e (suc n) fs gs h k t low there =
 -- so an extent has one list of outer frames
 pub one_outer : (image : Image) (e : ℕ) (fs gs : List Standing) → AreOuterFrames image e fs → AreOuterFrames image e gs → fs ≡ gs
 one_outer image e fs gs h k =
-    same_if_ordered (λ a b. end_of a ≤ b.offset) (λ a b le more. omega (arith, le, more, some_bytes a.form, some_bytes b.form)) fs gs
+    same_if_ordered (λ a b. frame_end a ≤ b.offset) (λ a b le more. omega (arith, le, more, some_bytes a.form, some_bytes b.form)) fs gs
     h.apart k.apart (λ t there. agree image e (t.offset + 1) fs gs h k t (omega arith) there)
     (λ t there. agree image e (t.offset + 1) gs fs k h t (omega arith) there)

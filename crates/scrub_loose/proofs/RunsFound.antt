@@ -20,10 +20,10 @@ use Rattle.scrub_scan.specs.declared.standing.Standing.{Standing}
 use Rattle.scrub_scan.specs.Extent.{Extent, FrameAt, NoFrameAt}
 use Rattle.scrub_scan.specs.steps.OneFrame.{one_frame_at}
 use Rattle.scrub_loose.specs.Anywhere.{whole_extent}
-use Rattle.scrub_loose.specs.Outer.{AreFoundRuns, AreOuterFrames, IsRunOf, end_of, run_cmp}
+use Rattle.scrub_loose.specs.Outer.{AreFoundRuns, AreOuterFrames, IsRunFrame, frame_end, run_cmp}
 use Rattle.scrub_loose.specs.declared.outer.FoundRun.{FoundRun}
 use Rattle.scrub_loose.specs.steps.Search.{IsFrameHere, IsFrameIn}
-use Rattle.scrub_loose.specs.steps.Walk.{AreExtentsBut, AreOuterBefore, AreRunsAmong, AreRunsBefore, AreRunsIn, AreWalked, IsBefore, IsRunAmong, IsRunIn, IsWalked, WalkedValue}
+use Rattle.scrub_loose.specs.steps.Walk.{AreExtentsBut, AreOuterBefore, AreRunsAmong, AreRunsBefore, AreRunsIn, AreWalked, IsBefore, IsRunAmong, IsRunFrameIn, IsWalked, WalkedValue}
 use Rattle.scrub_loose.proofs.FoundFrames.{by_extent, by_offset, none_here, sorted_append, sorted_none, sorted_one}
 use Rattle.scrub_loose.proofs.OuterFrames.{ends_step, one_outer, only, outer_none, outer_of_extent, outer_same, outer_step}
 
@@ -32,7 +32,7 @@ same_run : (q r : FoundRun) → q.frame ≡ r.frame → q.entries ≡ r.entries 
 same_run q r frame entries = λ i. record { frame = frame i; entries = entries i }
 
 -- a payload has one number of entries
-pub one_count : (x : Extent) (s : Standing) (a b : ℕ) → IsRunIn x s a → IsRunIn x s b → a ≡ b
+pub one_count : (x : Extent) (s : Standing) (a b : ℕ) → IsRunFrameIn x s a → IsRunFrameIn x s b → a ≡ b
 one_count x s a b h k =
     let same = one_frame_at x s.offset s.form s.uuid h.payload s.form s.uuid k.payload h.frame k.frame in
     h.counted
@@ -51,7 +51,7 @@ module _ (x : Extent) where
   }
 
   -- a frame more, without a run
-  pub among_same : (fs : List Standing) (rs : List FoundRun) (s : Standing) → AreRunsAmong x fs rs → ((c : ℕ) → ¬ IsRunIn x s c) →
+  pub among_same : (fs : List Standing) (rs : List FoundRun) (s : Standing) → AreRunsAmong x fs rs → ((c : ℕ) → ¬ IsRunFrameIn x s c) →
       AreRunsAmong x (fs ++ s ∷ []) rs
   among_same fs rs s h none = record {
     rise = h.rise;
@@ -59,14 +59,14 @@ module _ (x : Extent) where
       λ there. let is = (h.each r).0 there in (Contains-append_left fs (s ∷ []) r.frame is.0, is.1),
       λ is. elim (Contains-push_cases fs s r.frame is.0) [
         | inl among ↦ (h.each r).1 (among, is.1)
-        | inr same ↦ absurd (none r.entries (subst (λ (t : Standing). IsRunIn x t r.entries) (sym same) is.1))
+        | inr same ↦ absurd (none r.entries (subst (λ (t : Standing). IsRunFrameIn x t r.entries) (sym same) is.1))
       ],
     );
   }
 
   -- one with a run
   pub among_more : (e n : ℕ) (fs : List Standing) (rs : List FoundRun) (s : Standing) (r : FoundRun) → AreRunsAmong x fs rs →
-      All (IsBefore x e n) fs → IsFrameHere x e n s → r.frame ≡ s → IsRunIn x s r.entries →
+      All (IsBefore x e n) fs → IsFrameHere x e n s → r.frame ≡ s → IsRunFrameIn x s r.entries →
       AreRunsAmong x (fs ++ s ∷ []) (rs ++ r ∷ [])
   among_more e n fs rs s r h before here is run = record {
     rise =
@@ -77,15 +77,15 @@ module _ (x : Extent) where
       λ there. elim (Contains-push_cases rs r q there) [
         | inl among ↦ let parts = (h.each q).0 among in (Contains-append_left fs (s ∷ []) q.frame parts.0, parts.1)
         | inr same ↦
-            subst (λ (y : FoundRun). Contains (fs ++ s ∷ []) y.frame × IsRunIn x y.frame y.entries) same
-            (subst (λ (t : Standing). Contains (fs ++ s ∷ []) t × IsRunIn x t r.entries) (sym is) (Contains-push fs s, run))
+            subst (λ (y : FoundRun). Contains (fs ++ s ∷ []) y.frame × IsRunFrameIn x y.frame y.entries) same
+            (subst (λ (t : Standing). Contains (fs ++ s ∷ []) t × IsRunFrameIn x t r.entries) (sym is) (Contains-push fs s, run))
       ],
       λ parts. elim (Contains-push_cases fs s q.frame parts.0) [
         | inl among ↦ Contains-append_left rs (r ∷ []) q ((h.each q).1 (among, parts.1))
         | inr same ↦
             subst (Contains (rs ++ r ∷ []))
             (same_run r q (is ∙ same)
-            (one_count x q.frame r.entries q.entries (subst (λ (t : Standing). IsRunIn x t r.entries) same run) parts.1))
+            (one_count x q.frame r.entries q.entries (subst (λ (t : Standing). IsRunFrameIn x t r.entries) same run) parts.1))
             (Contains-push rs r)
       ],
     );
@@ -113,7 +113,7 @@ module _ (x : Extent) (e : ℕ) where
   }
 
   -- a frame without a run
-  pub runs_over : (n m : ℕ) (rs : List FoundRun) (s : Standing) → IsFrameHere x e n s → m ≡ end_of s → ((c : ℕ) → ¬ IsRunIn x s c) →
+  pub runs_over : (n m : ℕ) (rs : List FoundRun) (s : Standing) → IsFrameHere x e n s → m ≡ frame_end s → ((c : ℕ) → ¬ IsRunFrameIn x s c) →
       AreRunsBefore x e n rs → AreRunsBefore x e m rs
   runs_over n m rs s here is none h = record {
     frames = h.frames ++ s ∷ [];
@@ -123,8 +123,8 @@ module _ (x : Extent) (e : ℕ) where
   }
 
   -- a frame with a run
-  pub runs_more : (n m : ℕ) (rs : List FoundRun) (s : Standing) (r : FoundRun) → IsFrameHere x e n s → m ≡ end_of s → r.frame ≡ s →
-      IsRunIn x s r.entries → AreRunsBefore x e n rs → AreRunsBefore x e m (rs ++ r ∷ [])
+  pub runs_more : (n m : ℕ) (rs : List FoundRun) (s : Standing) (r : FoundRun) → IsFrameHere x e n s → m ≡ frame_end s → r.frame ≡ s →
+      IsRunFrameIn x s r.entries → AreRunsBefore x e n rs → AreRunsBefore x e m (rs ++ r ∷ [])
   runs_more n m rs s r here is same run h = record {
     frames = h.frames ++ s ∷ [];
     outer = outer_step x e n m h.frames s h.outer h.ends here is;
@@ -137,7 +137,7 @@ module _ (x : Extent) (e : ℕ) where
 module _ (image : Image) where
   -- a run in an extent in memory is one of the disk
   pub run_of : (e : ℕ) (s : Standing) (c : ℕ) → e < image.geometry.extents → s.extent ≡ e → IsFrameIn (whole_extent image e) s →
-      IsRunIn (whole_extent image e) s c → IsRunOf image s c
+      IsRunFrameIn (whole_extent image e) s c → IsRunFrame image s c
   run_of e s c in_disk is frame run =
       let same = one_frame_at (whole_extent image e) s.offset s.form s.uuid frame.payload s.form s.uuid run.payload frame.frame run.frame in
       record {
@@ -156,7 +156,7 @@ module _ (image : Image) where
       }
 
   -- and the other way round
-  pub run_here : (e : ℕ) (s : Standing) (c : ℕ) → s.extent ≡ e → IsRunOf image s c → IsRunIn (whole_extent image e) s c
+  pub run_here : (e : ℕ) (s : Standing) (c : ℕ) → s.extent ≡ e → IsRunFrame image s c → IsRunFrameIn (whole_extent image e) s c
   run_here e s c is run = record {
     payload = run.payload;
     frame = subst (λ (f : ℕ). FrameAt (whole_extent image f) s.offset s.form s.uuid run.payload) is run.has.frame.frame;

@@ -21,9 +21,9 @@ use Rattle.scrub_scan.specs.steps.OneFrame.{one_frame_at}
 use Rattle.scrub_scan.proofs.Existing.{some_frame}
 use Rattle.scrub_loose.specs.Anywhere.{whole_extent}
 use Rattle.scrub_loose.specs.declared.outer.FoundRun.{FoundRun}
-use Rattle.scrub_loose.specs.Outer.{AreFoundRuns, AreOuterFrames, IsFoundRun, IsRunOf, IsRunThere, end_of, locator_of}
+use Rattle.scrub_loose.specs.Outer.{AreFoundRuns, AreOuterFrames, IsFoundRun, IsRunFrame, IsRunThere, frame_end, locator_of}
 use Rattle.scrub_loose.specs.steps.Search.{IsFrameHere, IsFrameIn}
-use Rattle.scrub_loose.specs.steps.Walk.{AreExtentsBut, AreOuterBefore, AreRunsAmong, AreRunsIn, IsRunIn}
+use Rattle.scrub_loose.specs.steps.Walk.{AreExtentsBut, AreOuterBefore, AreRunsAmong, AreRunsIn, IsRunFrameIn}
 use Rattle.scrub_loose.proofs.FoundFrames.{frame_here, none_here}
 use Rattle.scrub_loose.proofs.OuterFrames.{only, outer_none, outer_of_extent, outer_outside, outer_push, outer_same, outer_skip, some_bytes}
 use Rattle.scrub_loose.proofs.RunsFound.{among_more, among_none, among_same, run_here, run_of, runs_joined, runs_nowhere, runs_of_all, runs_of_extent}
@@ -51,7 +51,7 @@ module _ (x : Extent) (e n : ℕ) (b : Before x e n) where
   }
 
   -- or within one
-  within : (s : Standing) → Contains b.frames s → n < end_of s → Before x e (suc n)
+  within : (s : Standing) → Contains b.frames s → n < frame_end s → Before x e (suc n)
   within s there over = record {
     frames = b.frames;
     outer = outer_skip x e n (suc n) b.frames s b.outer there (omega arith) (omega (arith, over));
@@ -60,7 +60,7 @@ module _ (x : Extent) (e n : ℕ) (b : Before x e n) where
   }
 
   -- or with one
-  module _ (ends : All (λ t. end_of t ≤ n) b.frames) (f : Form) (u payload : List ℕ) (frame : FrameAt x n f u payload) where
+  module _ (ends : All (λ t. frame_end t ≤ n) b.frames) (f : Form) (u payload : List ℕ) (frame : FrameAt x n f u payload) where
     abbrev s : Standing
     s = record { extent = e; offset = n; form = f; uuid = u; length = length payload; digest = sha256 payload }
 
@@ -77,7 +77,7 @@ module _ (x : Extent) (e n : ℕ) (b : Before x e n) where
     with_run : (es : List EntryValue) → IsRun payload es → Before x e (suc n)
     with_run es is =
         let r : FoundRun = record { frame = s; entries = length es } in
-        let run : IsRunIn x s (length es) = record { payload = payload; frame = frame; entries = es; run = is; counted = refl } in
+        let run : IsRunFrameIn x s (length es) = record { payload = payload; frame = frame; entries = es; run = is; counted = refl } in
         record {
           frames = b.frames ++ s ∷ [];
           outer = outer;
@@ -100,12 +100,12 @@ module _ (x : Extent) (e n : ℕ) (b : Before x e n) where
     one_frame = elim (some_run payload) [ inl is ↦ with_run is.0 is.1 | inr none ↦ without_run none ]
 
   one_more : Before x e (suc n)
-  one_more = elim (some_element (λ (s : Standing). n < end_of s) (λ s. decided_less n (end_of s)) b.frames) [
+  one_more = elim (some_element (λ (s : Standing). n < frame_end s) (λ s. decided_less n (frame_end s)) b.frames) [
     | inl over ↦ within over.0 over.1 over.2
     | inr none ↦ elim (some_frame x n) [
       | inl k ↦
           one_frame
-          (λ i d low. elim (cases_lt n (end_of (get_or b.frames i d))) [
+          (λ i d low. elim (cases_lt n (frame_end (get_or b.frames i d))) [
             | inl over ↦ absurd (none (get_or b.frames i d) (Contains-get_or b.frames i d low) over)
             | inr le ↦ le
           ])
@@ -180,7 +180,7 @@ module _ (image : Image) where
 
   -- a run in an extent in memory is at its place
   pub run_there : (e p : ℕ) (s : Standing) (c : ℕ) → e < image.geometry.extents → IsFrameHere (whole_extent image e) e p s →
-      IsRunIn (whole_extent image e) s c → IsRunThere image e p (locator_of s)
+      IsRunFrameIn (whole_extent image e) s c → IsRunThere image e p (locator_of s)
   run_there e p s c in_disk here run = record {
     frame = s;
     count = c;
@@ -214,10 +214,10 @@ module _ (image : Image) where
 
   -- nor where another frame is
   pub none_in_frame : (e p : ℕ) (l : Locator) (s : Standing) → IsFrameHere (whole_extent image e) e p s →
-      ((c : ℕ) → ¬ IsRunIn (whole_extent image e) s c) → ¬ IsRunThere image e p l
+      ((c : ℕ) → ¬ IsRunFrameIn (whole_extent image e) s c) → ¬ IsRunThere image e p l
   none_in_frame e p l s here none is =
       none is.count
-      (subst (λ (t : Standing). IsRunIn (whole_extent image e) t is.count)
+      (subst (λ (t : Standing). IsRunFrameIn (whole_extent image e) t is.count)
       (frame_here (whole_extent image e) e p is.frame s (frame_at_place e p l is) here)
       (run_here image e is.frame is.count is.in_extent is.run))
 
@@ -229,7 +229,7 @@ module _ (image : Image) where
       ∙ sym k.named
 
   -- it is one
-  pub locator_of_run : (s : Standing) (c : ℕ) → IsRunOf image s c → IsLocator (locator_of s)
+  pub locator_of_run : (s : Standing) (c : ℕ) → IsRunFrame image s c → IsLocator (locator_of s)
   locator_of_run s c is = record {
     extent = omega (arith, is.has.in_disk, image.geometry.extents_most);
     offset = omega (arith, is.has.frame.frame.fits, image.geometry.extent_fits);

@@ -16,20 +16,20 @@ use Rattle.scrub_loose.specs.declared.outer.FoundRun.{FoundRun}
 -- ---- outer frames
 
 -- where a frame ends: the byte behind its last one
-abbrev pub end_of : Standing → ℕ
-end_of s = s.offset + s.length + frame_overhead s.form
+abbrev pub frame_end : Standing → ℕ
+frame_end s = s.offset + s.length + frame_overhead s.form
 
 -- the second frame begins within the first one, behind that one's first byte
 pub record BeginsWithin (s t : Standing) : Type 0 where
   pub behind : s.offset < t.offset
-  pub before : t.offset < end_of s
+  pub before : t.offset < frame_end s
 
 -- the outer frames of an extent: frames at any of its bytes, whatever its write pointer is, each behind the one before it;
 -- and each other frame of the extent begins within one of them
 pub record AreOuterFrames (image : Image) (e : ℕ) (frames : List Standing) : Type 0 where
   pub here : All (λ s. s.extent ≡ e) frames
   pub stand : All (Stands image) frames
-  pub apart : AllPairs (λ s t. end_of s ≤ t.offset) frames
+  pub apart : AllPairs (λ s t. frame_end s ≤ t.offset) frames
   pub others : (t : Standing) → t.extent ≡ e → Stands image t → Contains frames t ⊎ ((s : Standing) × Contains frames s × BeginsWithin s t)
 
 -- the frame is an outer one of its extent
@@ -41,7 +41,7 @@ pub record IsOuterFrame (image : Image) (s : Standing) : Type 0 where
 -- ---- index runs
 
 -- the payload of the frame at its place in the image is an index run of so many entries
-pub record IsRunOf (image : Image) (s : Standing) (count : ℕ) : Type 0 where
+pub record IsRunFrame (image : Image) (s : Standing) (count : ℕ) : Type 0 where
   pub payload : List ℕ
   pub has : HasPayload image s payload
   pub entries : List EntryValue
@@ -52,7 +52,7 @@ pub record IsRunOf (image : Image) (s : Standing) (count : ℕ) : Type 0 where
 pub record IsFoundRun (image : Image) (r : FoundRun) : Type 0 where
   pub past_first : 1 ≤ r.frame.extent
   pub outer : IsOuterFrame image r.frame
-  pub run : IsRunOf image r.frame r.entries
+  pub run : IsRunFrame image r.frame r.entries
 
 -- the order of found runs: that of their frames
 abbrev pub run_cmp : FoundRun → FoundRun → Ordering
@@ -84,7 +84,7 @@ locator_of s = record { extent = s.extent; offset = s.offset; length = s.length;
 pub record IsRunThere (image : Image) (extent offset : ℕ) (l : Locator) : Type 0 where
   pub frame : Standing
   pub count : ℕ
-  pub run : IsRunOf image frame count
+  pub run : IsRunFrame image frame count
   pub in_extent : frame.extent ≡ extent
   pub at_offset : frame.offset ≡ offset
   pub named : l ≡ locator_of frame

@@ -9,7 +9,7 @@ ghost use Rattle.scrub_frame.specs.Locator.{IsLocator, locator_bytes};
 ghost use Rattle.scrub_loose.specs.Listed.{AreListedRuns, ListedValue};
 ghost use Rattle.scrub_loose.specs.Outer.{IsReadableDisk};
 ghost use Rattle.scrub_loose.specs.steps.Held.{IsHeld, extent_held};
-ghost use Rattle.scrub_loose.specs.steps.Naming.{AreInOrder, AreListedBefore, locator_in};
+ghost use Rattle.scrub_loose.specs.steps.Naming.{AreSortedRuns, AreListedBefore, locator_in};
 
 use crate::held::HeldExtent;
 use crate::outer::{FoundRun, are_readable, locator_of, runs_of, walk_disk};
@@ -83,7 +83,7 @@ fn without_places(alloc: Global, runs: &[FoundRun]) -> Result<Vec<ListedRun>, Ou
 
 /// The index of the run that begins where a locator points, if one does.
 fn index_of(listed: &[ListedRun], locator: &Locator) -> Option<usize>
-    requires { AreInOrder listed.now }
+    requires { AreSortedRuns listed.now }
     ensures found { IfSome result (λ i. i < length listed.now) }
     ensures there { IfSome result (HoldsAt (λ v. (v.run.frame.extent ≡ locator.now.extent) ×
         (v.run.frame.offset ≡ locator.now.offset)) listed.now) }
@@ -101,7 +101,7 @@ fn index_of(listed: &[ListedRun], locator: &Locator) -> Option<usize>
 fn named_at(inside: &HeldExtent, place: usize, listed: &[ListedRun]) -> Option<usize>
     requires held { IsHeld inside.now }
     requires place { place < length inside.now.bytes.items }
-    requires order { AreInOrder listed.now }
+    requires order { AreSortedRuns listed.now }
     ensures found { IfSome result (λ i. i < length listed.now) }
     ensures there { IfSome result (HoldsAt (λ v.
         AreBytesAt (extent_held inside.now).byte place (locator_bytes (locator_in v))) listed.now) }
@@ -122,7 +122,7 @@ fn named_at(inside: &HeldExtent, place: usize, listed: &[ListedRun]) -> Option<u
 /// Adds to each run the places in an extent at which its locator is.
 fn add_places(listed: &mut [ListedRun], inside: &HeldExtent) -> Result<(), OutOfMemory>
     requires held { IsHeld inside.now }
-    requires order { AreInOrder listed.old }
+    requires order { AreSortedRuns listed.old }
     requires none { All (λ v. v.places ≡ []) listed.old }
     ensures runs { OnOk result (map (λ v. v.run) listed.new ≡ map (λ v. v.run) listed.old) }
     ensures places { OnOk result

@@ -18,7 +18,7 @@ ghost use Rattle.scrub_frame.specs.declared.locator.Locator.{Locator};
 ghost use Rattle.scrub_loose.specs.steps.Held.{IsHeld, extent_held};
 ghost use Rattle.scrub_loose.specs.steps.Search.{IsFrameHere, IsFrameIn};
 ghost use Rattle.scrub_loose.specs.steps.Walk.{AreExtentsBut, AreRunsBefore, AreRunsIn, AreWalked};
-ghost use Rattle.scrub_loose.specs.steps.Walk.{IsRunIn, IsWalked};
+ghost use Rattle.scrub_loose.specs.steps.Walk.{IsRunFrameIn, IsWalked};
 
 use crate::claims::{claim_at, frame_of_claim};
 use crate::held::HeldExtent;
@@ -102,9 +102,9 @@ fn run_in(
     requires stands { IsFrameIn (extent_held inside.now) frame.now }
     ensures same { IfOk result (λ found. IfSome found (λ r. r.frame ≡ frame.now)) }
     ensures run { IfOk result (λ found. IfSome found (λ r.
-        IsRunIn (extent_held inside.now) frame.now r.entries)) }
+        IsRunFrameIn (extent_held inside.now) frame.now r.entries)) }
     ensures none { IfOk result (λ found. IfNone found ((n : ℕ) →
-        ¬ IsRunIn (extent_held inside.now) frame.now n)) }
+        ¬ IsRunFrameIn (extent_held inside.now) frame.now n)) }
 {
     match entries_in(alloc, payload_of(inside, frame))? {
         Some(entries) => Ok(Some(FoundRun {

@@ -211,8 +211,8 @@ abbrev pub EachRunIsRead : Mapped → Type 0
 EachRunIsRead m = All (λ s. s ≡ Read) m.read.states
 
 -- no extent is crowded
-abbrev pub NoneIsCrowded : Image → Type 0
-NoneIsCrowded image = (e : ℕ) → ¬ IsCrowded image e
+abbrev pub NoExtentIsCrowded : Image → Type 0
+NoExtentIsCrowded image = (e : ℕ) → ¬ IsCrowded image e
 
 -- both are bytes of the shard of one entry: what its locators ask for, one directly after another; and they may be old alike
 pub record AreAlikeBytes (m : Mapped) (id : ShardId) (found other : BytesValue) : Type 0 where

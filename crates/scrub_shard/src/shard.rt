@@ -23,7 +23,7 @@ ghost use Rattle.scrub_shard.specs.Shard.{AreAlike, EachRunIsRead, HasBytesByOwn
 ghost use Rattle.scrub_shard.specs.Shard.{HaveContentsOfEntryFrom, IsEntryAnswer, IsLostInEntry};
 ghost use Rattle.scrub_shard.specs.Shard.{IsLostInEntryFrom, IsMapped};
 ghost use Rattle.scrub_shard.specs.Shard.{IsMappedFrom, IsOnNoExtent, IsShardAnswer, IsShardAnswerFrom, Mapped};
-ghost use Rattle.scrub_shard.specs.Shard.{NoneIsCrowded, is_payload_lost};
+ghost use Rattle.scrub_shard.specs.Shard.{NoExtentIsCrowded, is_payload_lost};
 ghost use Rattle.scrub_shard.specs.steps.Payloads.{HasPayloadUnlessLost, IsAnswerWith};
 ghost use Rattle.scrub_shard.specs.declared.shard.ShardAnswer.{ShardAnswer};
 ghost use Rattle.scrub_shard.specs.declared.shard.ShardAnswer.TheVariants.{Found, PayloadLost};
@@ -260,12 +260,12 @@ pub fn a_lost_payload_is_nowhere()
 /// length and SHA-256. By given index runs no extent is retired.
 pub fn a_lost_payload_is_on_no_extent()
     ensures none_retired { (given : Option (List Locator)) (image : Image) (m : Mapped) →
-        IsMappedFrom given image m → m.plan.retired ≡ [] → NoneIsCrowded image → (b : BindingValue)
+        IsMappedFrom given image m → m.plan.retired ≡ [] → NoExtentIsCrowded image → (b : BindingValue)
         (own : List Checked) → AreChecked image m.plan (named_by_shard b) own → (loose : LooseValue) →
         AreLoose [] image m.plan loose → (c : Checked) → Contains own c →
         (is_payload_lost m.all loose.frames c ≡ true) ↔ IsOnNoExtent image c.locator }
     ensures by_runs { (runs : List Locator) (image : Image) (m : Mapped) → IsMappedFrom (Some runs) image m →
-        NoneIsCrowded image → (b : BindingValue) (own : List Checked) →
+        NoExtentIsCrowded image → (b : BindingValue) (own : List Checked) →
         AreChecked image m.plan (named_by_shard b) own → (loose : LooseValue) →
         AreLoose [] image m.plan loose → (c : Checked) → Contains own c →
         (is_payload_lost m.all loose.frames c ≡ true) ↔ IsOnNoExtent image c.locator }
@@ -281,7 +281,7 @@ pub fn the_own_list_gives_each_shard()
         IsMappedFrom (Some m.plan.runs) image own → (l : Locator) (s t : Status) →
         HasStatusIn image m.plan l s → HasStatusIn image own.plan l t → is_dangling s ≡ false →
         is_dangling t ≡ false }
-    ensures bytes { (image : Image) (m : Mapped) → IsMapped image m → EachRunIsRead m → NoneIsCrowded image →
+    ensures bytes { (image : Image) (m : Mapped) → IsMapped image m → EachRunIsRead m → NoExtentIsCrowded image →
         (id : ShardId) (found : BytesValue) → IsShardAnswer image id (Found found) →
         HasBytesByOwnList image m id found }
 {}
@@ -290,9 +290,9 @@ pub fn the_own_list_gives_each_shard()
 /// crowded, then with this list of runs given the answer for each shard is as by the superblock, and the
 /// states of the runs are.
 pub fn the_own_list_gives_the_same_answers()
-    ensures answers { (image : Image) (m : Mapped) → IsMapped image m → EachRunIsRead m → NoneIsCrowded image →
-        m.plan.retired ≡ [] → (id : ShardId) (a b : ShardAnswer) → IsShardAnswer image id a →
-        IsShardAnswerFrom (Some m.plan.runs) image id b → AreAlike m id a b }
+    ensures answers { (image : Image) (m : Mapped) → IsMapped image m → EachRunIsRead m →
+        NoExtentIsCrowded image → m.plan.retired ≡ [] → (id : ShardId) (a b : ShardAnswer) →
+        IsShardAnswer image id a → IsShardAnswerFrom (Some m.plan.runs) image id b → AreAlike m id a b }
     ensures runs { (image : Image) (m own : Mapped) → IsMapped image m → EachRunIsRead m →
         IsMappedFrom (Some m.plan.runs) image own → own.read ≡ m.read }
 {}

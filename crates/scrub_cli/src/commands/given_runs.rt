@@ -10,7 +10,7 @@ ghost use Rattle.scrub_frame.specs.Locator.{IsLocator};
 ghost use Rattle.scrub_super.specs.steps.Limits.{AreRunLocators};
 ghost use Rattle.scrub_cli.specs.DiskGeometry.{AreSizesFoundBy};
 ghost use Rattle.scrub_cli.specs.GivenRuns.{GiveRuns, IsBadRunFault, IsGivenBy, IsLoadedWithRuns, IsNoRunFault};
-ghost use Rattle.scrub_cli.specs.GivenRuns.{IsRunsFault, NameRuns, NamesRun, is_of_place, with_one};
+ghost use Rattle.scrub_cli.specs.GivenRuns.{IsRunsFault, NameRuns, NamesRunPlace, is_of_place, with_one};
 ghost use Rattle.scrub_cli.specs.KnownFiles.{IsKnownAs};
 ghost use Rattle.scrub_cli.specs.Rescue.{IsMapNamed};
 
@@ -34,8 +34,8 @@ fn may_have_run(geometry: Geometry, extent: u32, offset: u32) -> bool
 
 /// The place that the argument names, if it names one.
 fn named_run(geometry: Geometry, arg: &str) -> Option<(u32, u32)>
-    ensures { MatchOption result ((at : ℕ × ℕ) → ¬ NamesRun geometry arg.now at)
-        (NamesRun geometry arg.now) }
+    ensures { MatchOption result ((at : ℕ × ℕ) → ¬ NamesRunPlace geometry arg.now at)
+        (NamesRunPlace geometry arg.now) }
 {
     let (extent, offset) = pair(arg)?;
     if may_have_run(geometry, extent, offset) {

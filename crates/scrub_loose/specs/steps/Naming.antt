@@ -13,7 +13,7 @@ abbrev pub locator_in : ListedValue → Locator
 locator_in v = locator_of v.run.frame
 
 -- the runs are in strictly ascending order, and each has a locator
-pub record AreInOrder (listed : List ListedValue) : Type 0 where
+pub record AreSortedRuns (listed : List ListedValue) : Type 0 where
   pub rise : IsStrictlySortedBy run_cmp (map (λ v. v.run) listed)
   pub locators : All (λ v. IsLocator (locator_in v)) listed
 

@@ -9,7 +9,7 @@ use Rattle.scrub_run.specs.Run.{IsRun}
 use Rattle.scrub_scan.specs.declared.standing.Standing.{Standing}
 use Rattle.scrub_scan.specs.Extent.{Extent, FrameAt}
 use Rattle.scrub_loose.specs.declared.outer.FoundRun.{FoundRun}
-use Rattle.scrub_loose.specs.Outer.{BeginsWithin, IsOuterFrame, IsReadableExtent, IsRunOf, end_of, run_cmp}
+use Rattle.scrub_loose.specs.Outer.{BeginsWithin, IsOuterFrame, IsReadableExtent, IsRunFrame, frame_end, run_cmp}
 use Rattle.scrub_loose.specs.steps.Search.{IsFrameIn}
 
 -- ---- in an extent
@@ -23,11 +23,11 @@ pub record IsBefore (x : Extent) (e n : ℕ) (s : Standing) : Type 0 where
 -- the outer frames that begin at the first n bytes of extent e
 pub record AreOuterBefore (x : Extent) (e n : ℕ) (frames : List Standing) : Type 0 where
   pub are : All (IsBefore x e n) frames
-  pub apart : AllPairs (λ s t. end_of s ≤ t.offset) frames
+  pub apart : AllPairs (λ s t. frame_end s ≤ t.offset) frames
   pub others : (t : Standing) → IsBefore x e n t → Contains frames t ⊎ ((s : Standing) × Contains frames s × BeginsWithin s t)
 
 -- the payload of the frame is an index run of so many entries
-pub record IsRunIn (x : Extent) (s : Standing) (count : ℕ) : Type 0 where
+pub record IsRunFrameIn (x : Extent) (s : Standing) (count : ℕ) : Type 0 where
   pub payload : List ℕ
   pub frame : FrameAt x s.offset s.form s.uuid payload
   pub entries : List EntryValue
@@ -37,13 +37,13 @@ pub record IsRunIn (x : Extent) (s : Standing) (count : ℕ) : Type 0 where
 -- the index runs among frames of an extent
 pub record AreRunsAmong (x : Extent) (frames : List Standing) (found : List FoundRun) : Type 0 where
   pub rise : IsStrictlySortedBy run_cmp found
-  pub each : (r : FoundRun) → Contains found r ↔ (Contains frames r.frame × IsRunIn x r.frame r.entries)
+  pub each : (r : FoundRun) → Contains found r ↔ (Contains frames r.frame × IsRunFrameIn x r.frame r.entries)
 
 -- the index runs among the outer frames that begin, and end, in the first n bytes of extent e
 pub record AreRunsBefore (x : Extent) (e n : ℕ) (found : List FoundRun) : Type 0 where
   pub frames : List Standing
   pub outer : AreOuterBefore x e n frames
-  pub ends : All (λ s. end_of s ≤ n) frames
+  pub ends : All (λ s. frame_end s ≤ n) frames
   pub runs : AreRunsAmong x frames found
 
 -- ---- in extents
@@ -57,7 +57,7 @@ pub record AreExtentsBut (extents : ℕ) (es : List ℕ) : Type 0 where
 pub record IsRunAmong (image : Image) (es : List ℕ) (r : FoundRun) : Type 0 where
   pub among : Contains es r.frame.extent
   pub outer : IsOuterFrame image r.frame
-  pub run : IsRunOf image r.frame r.entries
+  pub run : IsRunFrame image r.frame r.entries
 
 -- the index runs among the outer frames of these extents
 pub record AreRunsIn (image : Image) (es : List ℕ) (found : List FoundRun) : Type 0 where

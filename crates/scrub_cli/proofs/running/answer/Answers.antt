@@ -38,7 +38,7 @@ pub compare-requires : goal.compare-requires
 compare-requires g c =
     let asked : NameCommand (texts c.args.args.now) (Compare c.in-Compare.args) = rw (c.in-Some.is, c.in-Compare.is) at c.in_ok-request.ensures in (
       search rules,
-      (search rules, (few_workers asked.1.0 c.in-Compare.args.before.scan.workers asked.1.2.before.scan.workers, asked.1.2.before.resets.rising, asked.1.2.no_runs)),
+      (search rules, (few_workers asked.1.0 c.in-Compare.args.before.scan.workers asked.1.2.before.scan.workers, (asked.1.2.before.resets.rising, asked.1.2.no_runs))),
     )
 
 pub shard-requires : goal.shard-requires

@@ -3,7 +3,7 @@ use Rattle.std.proofs.Common.{◌≡◌, ◌+◌, ◌++◌, ◌∷◌, ◌∙◌
 use Rattle.std.proofs.lemmas.List.{get_or_default}
 use Rattle.scrub_loose.specs.Listed.{ListedValue}
 use Rattle.scrub_loose.specs.steps.Held.{extent_held}
-use Rattle.scrub_loose.specs.steps.Naming.{AreInOrder, AreListedBefore}
+use Rattle.scrub_loose.specs.steps.Naming.{AreSortedRuns, AreListedBefore}
 use Rattle.scrub_loose.proofs.Naming.{listed_more, listed_same, order_same, runs_same}
 use Rattle.scrub_loose.proofs.listed.add_places.Goals as goal
 use Rattle.scrub_loose.proofs.listed.add_places.Goals.{in-Some+in_ok-add-in-Some, in-None}
@@ -25,7 +25,7 @@ loop-place-preserved c =
           w.in_ok-add-in-Some.ensures.places ∙ ap (λ (v : ListedValue). v.places ++ n ∷ []) item in
           let same = runs_same vs i u run in
           record {
-            order = subst AreInOrder (sym w.listed-is) (order_same vs (set vs i u) same before.order);
+            order = subst AreSortedRuns (sym w.listed-is) (order_same vs (set vs i u) same before.order);
             runs = ap (λ (ws : List ListedValue). map (λ (v : ListedValue). v.run) ws) w.listed-is ∙ same ∙ before.runs;
             places =
                 subst (λ (ws : List ListedValue). AreListedBefore x (n + 1) ws) (sym w.listed-is)
@@ -33,7 +33,7 @@ loop-place-preserved c =
           }
       | in-None w ↦
           record {
-            order = subst AreInOrder (sym w.listed-is) before.order;
+            order = subst AreSortedRuns (sym w.listed-is) before.order;
             runs = ap (λ (ws : List ListedValue). map (λ (v : ListedValue). v.run) ws) w.listed-is ∙ before.runs;
             places =
                 subst (λ (ws : List ListedValue). AreListedBefore x (n + 1) ws) (sym w.listed-is)

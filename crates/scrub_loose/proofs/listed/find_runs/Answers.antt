@@ -8,7 +8,7 @@ use Rattle.scrub_scan.specs.Extent.{Extent}
 use Rattle.scrub_loose.specs.declared.outer.FoundRun.{FoundRun}
 use Rattle.scrub_loose.specs.Listed.{AreListedRuns, ListedValue}
 use Rattle.scrub_loose.specs.Outer.{AreFoundRuns, IsReadableDisk, IsReadableExtent}
-use Rattle.scrub_loose.specs.steps.Naming.{AreInOrder, AreListedBefore}
+use Rattle.scrub_loose.specs.steps.Naming.{AreSortedRuns, AreListedBefore}
 use Rattle.scrub_loose.specs.steps.Walk.{AreWalked, WalkedValue}
 use Rattle.scrub_loose.proofs.Naming.{listed_all, order_found}
 use Rattle.scrub_loose.proofs.ReadablePages.{readable_disk, whole_marks}
@@ -24,7 +24,7 @@ add_places-requires-clause-order g c =
     runs_of_disk image c.in_ok-each.each.items c.in_ok-found.found.items c.in_ok-each.ensures
     (λ es rising walked.
     c.in_ok-found.ensures image es rising (subst (λ (ws : List WalkedValue). AreWalked image es ws) (sym c.deref.ensures.value) walked)) in
-    subst AreInOrder (sym c.deref_mut.ensures.value)
+    subst AreSortedRuns (sym c.deref_mut.ensures.value)
     (order_found image vs (subst (AreFoundRuns image) (sym (c.in_ok-runs.ensures.runs ∙ c.deref-2.ensures.value)) found))
 
 pub returns-clause-runs : goal.returns-clause-runs

@@ -3,7 +3,7 @@ use Rattle.std.proofs.Common.{ℕ, subst, sym}
 use Rattle.scrub_scan.specs.Extent.{Extent, NoFrameAt}
 use Rattle.scrub_loose.specs.Outer.{IsRunThere}
 use Rattle.scrub_loose.specs.steps.Search.{IsFrameHere}
-use Rattle.scrub_loose.specs.steps.Walk.{IsRunIn}
+use Rattle.scrub_loose.specs.steps.Walk.{IsRunFrameIn}
 use Rattle.scrub_loose.proofs.RunsThere.{none_in_frame, none_without_frame, run_there}
 use Rattle.scrub_loose.proofs.outer.run_at.Goals as goal
 
@@ -21,7 +21,7 @@ returns-in-Some-2-clause-found g c =
     subst (IsRunThere image e p) (sym c.locator_of.ensures)
     (run_there image e p s c.in-Some-2.field-0.entries c.requires.in_disk
     (subst (λ (x : Extent). IsFrameHere x e p s) c.in_ok-inside.ensures.same c.in-Some.ensures.found)
-    (subst (λ (x : Extent). IsRunIn x s c.in-Some-2.field-0.entries) c.in_ok-inside.ensures.same
+    (subst (λ (x : Extent). IsRunFrameIn x s c.in-Some-2.field-0.entries) c.in_ok-inside.ensures.same
     (rw c.in-Some-2.is at c.in_ok-run_in.ensures.run)))
 
 pub returns-clause-none : goal.returns-clause-none
@@ -31,4 +31,4 @@ returns-clause-none g c = λ l.
     let p = c.args.offset in
     let s = c.in-Some.frame in
     none_in_frame image e p l s (subst (λ (x : Extent). IsFrameHere x e p s) c.in_ok-inside.ensures.same c.in-Some.ensures.found)
-    (subst (λ (x : Extent). (n : ℕ) → ¬ IsRunIn x s n) c.in_ok-inside.ensures.same (rw c.in-None.is at c.in_ok-run_in.ensures.none))
+    (subst (λ (x : Extent). (n : ℕ) → ¬ IsRunFrameIn x s n) c.in_ok-inside.ensures.same (rw c.in-None.is at c.in_ok-run_in.ensures.none))

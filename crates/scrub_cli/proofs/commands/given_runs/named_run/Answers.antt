@@ -1,5 +1,5 @@
 -- An argument is at most one pair, and that pair may be of no place of the disk.
-use Rattle.std.proofs.Common.{arith, sym, ◌∙◌, refl}
+use Rattle.std.proofs.Common.{arith, sym, ◌∙◌}
 use Rattle.std.proofs.lemmas.Bool.{false≢true}
 use Rattle.scrub_cli.proofs.commands.given_runs.named_run.Goals as goal
 

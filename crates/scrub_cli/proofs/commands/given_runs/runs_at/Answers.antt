@@ -1,5 +1,5 @@
 -- One more place, at which there is a run or none.
-use Rattle.std.proofs.Common.{◌∙◌, ◌≡◌, ◌<◌, [], ℕ, length, arith}
+use Rattle.std.proofs.Common.{[], arith}
 use Rattle.std.proofs.lemmas.List.{get_or_default}
 use Rattle.scrub_cli.proofs.GivenRunsAnswers.{all_runs, first_runs_more, no_run_there, no_runs_yet, one_place_each, place_of}
 use Rattle.scrub_cli.proofs.commands.given_runs.runs_at.Goals as goal
