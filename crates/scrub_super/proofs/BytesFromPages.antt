@@ -1,9 +1,10 @@
 -- The search in extent 0 from its last page to its first: the bytes from a page on, and what is found there.
-use Rattle.std.proofs.Common.{◌≡◌, ◌<◌, ◌≤◌, ◌+◌, ◌*◌, ◌-◌, ◌/◌, ℕ, List, [], Bool, true, false, eqb, filter, is_none, not, length, take, drop, get_or, arith, refl, sym, ◌∙◌, ap, subst, Option, Some, None, inl, inr, MatchOption, option_map, min, length-append, length-take}
+use Rattle.std.proofs.Common.{◌≡◌, ◌<◌, ◌≤◌, ◌+◌, ◌*◌, ◌-◌, ◌/◌, ℕ, List, [], Bool, true, false, eqb, filter, is_none, not, length, take, drop, get_or, set, arith, refl, sym, ◌∙◌, ap, subst, Option, Some, None, inl, inr, MatchOption, option_map, min, length-append, length-take}
 use Rattle.std.specs.List.{range_with_len}
 use Rattle.std.proofs.lemmas.Bool.{cases_lt, le-ltb}
 use Rattle.std.proofs.lemmas.Option.{same_Some, none-some}
-use Rattle.std.proofs.lemmas.List.{get_or_append_left, get_or-take}
+use Rattle.std.proofs.lemmas.Grind.{get_or-set_at}
+use Rattle.std.proofs.lemmas.List.{get_or_append_left, get_or-set_other, get_or-take}
 use Rattle.std.proofs.lemmas.List.Prefix.{front_from_reads}
 use Rattle.std.proofs.Math.Nat.{mul-le-mul_right, mul-div_cancel}
 use Rattle.scrub_disk.specs.declared.geometry.Geometry.{Geometry}
@@ -144,7 +145,7 @@ held_bytes {image} {q} {held} {bytes} h is = rw is (record {
   within = rw long h.within;
   there = λ k hk.
       let below : k < held.length = omega (arith, hk, long) in
-      h.there k below ∙ ap Some (sym (get_or-take held.length k held.bytes.items 0 below));
+      h.there k below ∙ ap Some (sym (get_or-take held.length held.bytes.items k 0 below));
   enough = λ few. rw long (h.enough (omega (arith, few, long)));
 })
   where
@@ -152,10 +153,10 @@ held_bytes {image} {q} {held} {bytes} h is = rw is (record {
     long = omega (arith, length-take held.length held.bytes.items, h.short)
 
 -- nothing is held after the last page
-pub none_held : (image : Image) {n size : ℕ} {held : BytesFrom} → n ≡ image.geometry.pages →
+pub none_held : (image : Image) {n : ℕ} {held : BytesFrom} → n ≡ image.geometry.pages →
     length held.bytes.items ≡ image.geometry.page + min (longest_record image.geometry) (extent_bytes image.geometry) →
     held.length ≡ 0 → HoldsFrom image n held
-none_held image {n} {size} {held} hn room none = record {
+none_held image {n} {held} hn room none = record {
   room = room;
   short = omega (arith, none);
   within = omega (arith, none, end);
@@ -169,13 +170,15 @@ none_held image {n} {size} {held} hn room none = record {
     le-ltb_none : (i : ℕ) → extent_bytes image.geometry ≤ i → image_byte image 0 i ≡ None
     le-ltb_none i outside = rw (le-ltb i (extent_bytes image.geometry) outside) refl
 
+-- a page is within the extent
+next_row : (image : Image) (q : ℕ) → q < image.geometry.pages →
+    q * image.geometry.page + image.geometry.page ≤ extent_bytes image.geometry
+next_row image q hq =
+    omega (arith, mul-le-mul_right {m = q + 1} {n = image.geometry.pages} image.geometry.page (omega (arith, hq)))
+
 -- one page down: the page is read in front of the bytes that are kept
 module _ {image : Image} {q : ℕ} {old new : BytesFrom} (h : HoldsFrom image (q + 1) old) (hq : q < image.geometry.pages)
     (same : length new.bytes.items ≡ length old.bytes.items) where
-  next_row : q * image.geometry.page + image.geometry.page ≤ extent_bytes image.geometry
-  next_row =
-      omega (arith, mul-le-mul_right {m = q + 1} {n = image.geometry.pages} image.geometry.page (omega (arith, hq)))
-
   -- if it can be read
   pub page_read : {kept : ℕ} → kept ≡ min old.length (length old.bytes.items - image.geometry.page) →
       new.length ≡ image.geometry.page + kept →
@@ -207,7 +210,7 @@ module _ {image : Image} {q : ℕ} {old new : BytesFrom} (h : HoldsFrom image (q
   page_lost unreadable none = record {
     room = same ∙ h.room;
     short = omega (arith, none);
-    within = omega (arith, none, next_row);
+    within = omega (arith, none, next_row image q hq);
     there = λ k here. absurd (omega (arith, here, none));
     enough = λ few. byte-unreadable image 0 (q * image.geometry.page + new.length) (rw at_page unreadable);
   }
@@ -268,10 +271,24 @@ nothing_searched image {n} {f} hn newest records is = record {
     beyond q m low s = omega (arith, low, hn, s.1.within)
 
 -- the marks of all pages say which are unreadable
-pub unreadable_by_marks : (image : Image) {readable : List Bool} → length readable ≡ image.geometry.pages →
+pub unreadable_by_marks : (image : Image) (readable : List Bool) → length readable ≡ image.geometry.pages →
     ((q : ℕ) → q < image.geometry.pages → is_none (image.page 0 q) ≡ not (get_or readable q false)) →
     filter (λ q. not (get_or readable q false)) (range_with_len 0 (length readable)) ≡ unreadable_pages image 0
-unreadable_by_marks image {readable} count marks =
+unreadable_by_marks image readable count marks =
     ap (λ n. filter (λ q. not (get_or readable q false)) (range_with_len 0 n)) count
     ∙ filter_range-agree (λ q. not (get_or readable q false)) (λ q. is_none (image.page 0 q)) 0 image.geometry.pages
     (λ q low high. sym (marks q (omega (arith, high))))
+
+-- one more page is marked
+pub one_marked : (image : Image) (readable : List Bool) {p n : ℕ} (mark : Bool) → p ≡ n + 1 → n < length readable →
+    is_none (image.page 0 n) ≡ not mark →
+    ((q : ℕ) → p ≤ q → q < image.geometry.pages → is_none (image.page 0 q) ≡ not (get_or readable q false)) →
+    (q : ℕ) → n ≤ q → q < image.geometry.pages → is_none (image.page 0 q) ≡ not (get_or (set readable n mark) q false)
+one_marked image readable {p} {n} mark hp here is before q low high = elim (cases_lt n q) [
+  | inl above ↦
+      before q (omega (arith, above, hp)) high
+      ∙ ap not (sym (get_or-set_other readable n q mark false (λ e. omega (arith, e, above))))
+  | inr same ↦
+      let e : q ≡ n = omega (arith, same, low) in
+      ap (λ m. is_none (image.page 0 m)) e ∙ is ∙ ap not (sym (get_or-set_at readable n q mark false e here))
+]
