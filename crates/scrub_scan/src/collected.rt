@@ -25,8 +25,8 @@ const FEW: usize = 8;
 /// How many payloads are many: so many that all lanes end at about the same time.
 const MANY: usize = 128;
 
-/// The most bytes that are gathered of few payloads, before one more: five of the longest ones.
-const MOST_OF_FEW: usize = 5 * LONGEST_GATHERED as usize;
+/// The most bytes that are gathered of few payloads, before one more: three of the longest ones.
+const MOST_OF_FEW: usize = 3 * LONGEST_GATHERED as usize;
 
 /// The most bytes that are gathered of others.
 const MOST_GATHERED: usize = 8 << 20;

@@ -22,6 +22,7 @@ use Rattle.scrub_super.specs.declared.pages.Rank.{Rank}
 use Rattle.scrub_super.specs.steps.ByConditions.{AreRecordPages, IsGreatest, IsRankByConditions, IsTie}
 use Rattle.scrub_super.specs.steps.RecordsSeen.{StandsFrom, IsNewestFrom, AreSeenFrom}
 use Rattle.scrub_super.proofs.NewestRecords.{from_conditions, rank_from_conditions, records_of_pages}
+use Rattle.scrub_super.proofs.Laws.{one_record_on_page}
 use Rattle.scrub_super.proofs.OneRecord.{one_record_lem}
 use Rattle.scrub_super.proofs.Standing.{byte_held, some_bytes}
 
@@ -176,6 +177,25 @@ module _ {image : Image} {f : RecordsSeen} {b : Newest} (found : AreSeenFrom (St
             | inr elsewhere ↦ newest.tied.1 (t.one, elsewhere, omega arith, (t.contents, t.stands, top))
           ]
 
+  -- the choice by the record of these contents on its page
+  pub choice_at : {c : Contents} {bad : List ℕ} → RecordStandsAt image b.page c → bad ≡ unreadable_pages image 0 →
+      IsChoice image (record { geometry = image.geometry; superblock = Some c; page = Some b.page; records = f.records; tie = b.tie; bad_pages = bad })
+  choice_at {c} stands hb = from_conditions (record {
+    geometry = refl;
+    chosen = record {
+      stands = stands;
+      greatest = greatest_found (omega (arith, generation));
+      lowest = λ g d s same. newest.lowest g (omega arith) (d, s, same ∙ generation);
+    };
+    records = (found.pages, pages_found found, found.records);
+    tie = tie_found;
+    bad_pages = hb;
+  })
+    where
+      generation : c.generation ≡ b.generation
+      generation =
+          ap (λ d. d.generation) (one_record_on_page image b.page c newest.there.0 stands newest.there.1) ∙ newest.there.2
+
   -- a record is read there
   module _ {bytes : List ℕ} {readable : List Bool} (h : IsBuffered image 0 bytes readable) where
     -- The bytes from the newest record's page on begin with a record.
@@ -186,27 +206,7 @@ module _ {image : Image} {f : RecordsSeen} {b : Newest} (found : AreSeenFrom (St
     pub choice_by : {c : Contents} {bad : List ℕ} →
         BeginsWithRecord image.geometry (drop (b.page * image.geometry.page) bytes) c → bad ≡ unreadable_pages image 0 →
         IsChoice image (record { geometry = image.geometry; superblock = Some c; page = Some b.page; records = f.records; tie = b.tie; bad_pages = bad })
-    choice_by {c} begins hb = from_conditions (record {
-      geometry = refl;
-      chosen = record {
-        stands = rw same at newest.there.1;
-        greatest = greatest_found (omega (arith, generation));
-        lowest = λ g d s same. newest.lowest g (omega arith) (d, s, same ∙ generation);
-      };
-      records = (found.pages, pages_found found, found.records);
-      tie = tie_found;
-      bad_pages = hb;
-    })
+    choice_by {c} begins hb = choice_at (rw same at newest.there.1) hb
       where
         same : newest.there.0 ≡ c
         same = one_record_lem image.geometry _ _ c (front_at h newest.there.1) begins
-
-        generation : c.generation ≡ b.generation
-        generation = ap (λ d. d.generation) (sym same) ∙ newest.there.2
-
--- what was found in the bytes is what the image has
-pub found_of : {image : Image} {g : Geometry} {xs bytes : List ℕ} {ys readable : List Bool} {f : RecordsSeen} →
-    g ≡ image.geometry → xs ≡ bytes → ys ≡ readable → IsBuffered image 0 bytes readable →
-    ((page : ℕ → ℕ → Option (List ℕ)) → IsBuffered (record { geometry = g; page = page }) 0 xs ys → AreSeenFrom (StandsFrom (record { geometry = g; page = page })) 0 f) →
-    AreSeenFrom (StandsFrom image) 0 f
-found_of {image} hg hx hy h all = (rw (hg, hx, hy) at all) image.page h

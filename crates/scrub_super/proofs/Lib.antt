@@ -21,6 +21,7 @@ pub mod Standing
 pub mod RecordsSeenSteps
 pub mod Steps
 pub mod Choices
+pub mod BytesFromPages
 pub mod Laws
 pub mod NewestRecords
 -- what each page of extent 0 is

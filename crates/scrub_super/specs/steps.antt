@@ -4,5 +4,6 @@ pub mod PlanParts
 pub mod RecordRead
 pub mod ByConditions
 pub mod RecordsSeen
+pub mod BytesFrom
 pub mod PagesFound
 pub mod BlocksRead

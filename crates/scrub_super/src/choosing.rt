@@ -1,23 +1,23 @@
 //! Reads extent 0 and chooses the superblock that counts.
 
-ghost use Rattle.std.specs.Prelude.{◌≡◌, ◌↔◌, ◌+◌, ◌*◌, ◌<◌, ◌≤◌, ◌^◌, ℕ, List, Option, IfOk, length, drop};
-ghost use Rattle.scrub_disk.specs.Buffered.{IsBuffered};
+ghost use Rattle.std.specs.Prelude.{◌≡◌, ◌↔◌, ◌+◌, ◌<◌, ◌≤◌, ◌^◌, ℕ, List, Option, None, Some, IfOk, IsTrue};
+ghost use Rattle.std.specs.Prelude.{length, option_map};
+ghost use Rattle.scrub_disk.specs.Buffered.{pages_without};
+ghost use Rattle.scrub_disk.specs.Image.{Image, unreadable_pages as image_unreadable_pages};
 ghost use Rattle.scrub_disk.specs.steps.NextUnreadable.{IsNextUnreadable};
 ghost use Rattle.scrub_super.specs.Contents.{Contents};
-ghost use Rattle.scrub_super.specs.Record.{BeginsWithRecord};
 ghost use Rattle.scrub_super.specs.Chosen.{Choice, IsChoice, RecordStandsAt};
 ghost use Rattle.scrub_super.specs.Pages.{IsRank};
 ghost use Rattle.scrub_super.specs.Plan.{PlanValue, plan_of};
 ghost use Rattle.scrub_super.specs.declared.pages.Rank.{Rank};
 ghost use Rattle.scrub_super.specs.steps.ByConditions.{IsChoiceByConditions, IsRankByConditions};
-ghost use Rattle.scrub_disk.specs.Image.{Image};
+ghost use Rattle.scrub_super.specs.steps.BytesFrom.{HasFoundFrom};
 
+use crate::bytes_from::BytesFrom;
 use crate::chosen::Chosen;
-use crate::record::{read_record, record_at};
+use crate::record::read_record;
 use crate::superblock::Superblock;
-use scrub_disk::{
-    BufferedExtent, Geometry, OutOfMemory, PageSource, read_extent, unreadable_pages,
-};
+use scrub_disk::{Geometry, OutOfMemory, PageSource, unreadable_pages};
 use std::alloc::Global;
 
 /// The newest record so far.
@@ -37,7 +37,7 @@ pub(crate) struct RecordsSeen {
 }
 
 ghost use Rattle.scrub_super.specs.steps.PagesFound.{image_with};
-ghost use Rattle.scrub_super.specs.steps.RecordsSeen.{AddsRecord, AreSeenFrom, StandsFrom};
+ghost use Rattle.scrub_super.specs.steps.RecordsSeen.{AddsRecord};
 
 /// Adds one more record, on a lower page than those before.
 pub(crate) fn with_record(seen: RecordsSeen, page: u32, generation: u64) -> RecordsSeen
@@ -75,96 +75,120 @@ pub(crate) fn readable_end(readable: &[bool], page: usize, next_end: usize) -> u
     next_end
 }
 
-/// The records in the bytes of extent 0. Each page is judged by itself.
-fn find_records(bytes: &[u8], readable: &[bool], geometry: Geometry) -> RecordsSeen
-    requires bytes { length bytes.now ≡ geometry.page * geometry.pages }
-    requires pages { length readable.now ≡ geometry.pages }
-    ensures { (page : ℕ → ℕ → Option (List ℕ)) →
-        IsBuffered (image_with geometry page) 0 bytes.now readable.now →
-        AreSeenFrom (StandsFrom (image_with geometry page)) 0 result }
+/// Whether the newest record is the one on this page.
+fn is_newest(seen: RecordsSeen, page: u32) -> bool
+    ensures { IsTrue result ↔ (option_map (λ b. b.page) seen.newest ≡ Some page) }
 {
-    let size = geometry.page() as usize;
-    let mut seen = RecordsSeen {
-        newest: None,
-        records: 0,
-    };
-    // The end of the readable pages from this one on.
-    let mut end = readable.len();
-    for page in (0..readable.len()).rev() {
-        end = readable_end(readable, page, end);
-        if let Some(head) = record_at(&bytes[page * size..end * size], geometry) {
-            seen = with_record(seen, page as u32, head.generation);
+    match seen.newest {
+        Some(newest) => newest.page == page,
+        None => false,
+    }
+}
+
+/// What was found so far: the records, and the superblock of the newest one.
+#[derive(Drop)]
+struct Searched {
+    seen: RecordsSeen,
+    superblock: Option<Superblock>,
+}
+
+impl Searched {
+    ghost use Rattle.scrub_super.specs.steps.BytesFrom.{AreBytesFrom, HasFoundFrom};
+
+    /// Nothing was found.
+    fn new() -> Searched
+        ensures newest { result.seen.newest ≡ None }
+        ensures records { result.seen.records ≡ 0 }
+        ensures superblock { result.superblock ≡ None }
+    {
+        Searched {
+            seen: RecordsSeen {
+                newest: None,
+                records: 0,
+            },
+            superblock: None,
         }
     }
-    seen
-}
 
-/// Reads extent 0 into memory, and finds the records in it.
-fn search<D: PageSource>(
-    alloc: Global,
-    disk: &D,
-) -> Result<(BufferedExtent, RecordsSeen), OutOfMemory>
-    ensures buffered { IfOk result (λ s. IsBuffered (D.image disk.now) 0 s.0.bytes.items s.0.readable.items) }
-    ensures seen { IfOk result (λ s. AreSeenFrom (StandsFrom (D.image disk.now)) 0 s.1) }
-{
-    let extent = read_extent(alloc, disk, 0)?;
-    let seen = find_records(&extent.bytes, &extent.readable, disk.geometry());
-    Ok((extent, seen))
-}
-
-/// Parses the record at a page.
-fn superblock_at(
-    alloc: Global,
-    bytes: &[u8],
-    page: u32,
-    geometry: Geometry,
-) -> Result<Superblock, OutOfMemory>
-    requires within { page * geometry.page ≤ length bytes.now }
-    requires stands { (c : Contents) × BeginsWithRecord geometry (drop (page * geometry.page) bytes.now) c }
-    ensures { IfOk result (BeginsWithRecord geometry (drop (page * geometry.page) bytes.now)) }
-{
-    let start = page as usize * geometry.page() as usize;
-    match read_record(alloc, &bytes[start..], geometry)? {
-        Some(superblock) => Ok(superblock),
-        None => unreachable!(),
+    /// Adds the record that the bytes from a page on begin with, if they do. The page is lower than those
+    /// before.
+    fn add_page(
+        &mut self,
+        alloc: Global,
+        bytes: &[u8],
+        page: u32,
+        geometry: Geometry,
+    ) -> Result<(), OutOfMemory>
+        requires { self.old.seen.records + 1 < 2 ^ 32 }
+        ensures found { (pages : ℕ → ℕ → Option (List ℕ)) →
+            AreBytesFrom (image_with geometry pages) page bytes.now →
+            HasFoundFrom (image_with geometry pages) (page + 1) self.old →
+            IfOk result (λ _. HasFoundFrom (image_with geometry pages) page self.new) }
+        ensures few { IfOk result (λ _. self.new.seen.records ≤ self.old.seen.records + 1) }
+    {
+        let Some(superblock) = read_record(alloc, bytes, geometry)? else {
+            return Ok(());
+        };
+        self.seen = with_record(self.seen, page, superblock.generation());
+        if !is_newest(self.seen, page) {
+            return Ok(());
+        }
+        self.superblock = Some(superblock);
+        Ok(())
     }
 }
 
-/// The choice that follows from the records in extent 0.
-pub(crate) fn chosen_by<D: PageSource>(
-    alloc: Global,
-    disk: &D,
-    extent: &BufferedExtent,
-    seen: RecordsSeen,
-) -> Result<Chosen, OutOfMemory>
-    requires buffered { IsBuffered (D.image disk.now) 0 extent.now.bytes.items extent.now.readable.items }
-    requires seen { AreSeenFrom (StandsFrom (D.image disk.now)) 0 seen }
-    ensures { IfOk result (IsChoice (D.image disk.now)) }
+/// Searches extent 0 for records, from the last page to the first. Returns what was found, and which pages
+/// are readable.
+fn search<D: PageSource>(alloc: Global, disk: &D) -> Result<(Searched, Vec<bool>), OutOfMemory>
+    ensures found { IfOk result (λ s. HasFoundFrom (D.image disk.now) 0 s.0) }
+    ensures few { IfOk result (λ s. length s.1.items ≤ 65536) }
+    ensures unreadable { IfOk result (λ s.
+        pages_without s.1.items ≡ image_unreadable_pages (D.image disk.now) 0) }
 {
     let geometry = disk.geometry();
-    let bad_pages = unreadable_pages(alloc, &extent.readable)?;
-    let Some(newest) = seen.newest else {
-        return Ok(Chosen::without(geometry, bad_pages));
-    };
-    let superblock = superblock_at(alloc, &extent.bytes, newest.page, geometry)?;
-    Ok(Chosen::by(
-        geometry,
-        superblock,
-        newest.page,
-        seen.records,
-        newest.tie,
-        bad_pages,
-    ))
+    let mut held = BytesFrom::new(alloc, geometry)?;
+    let mut readable = vec![in alloc; false; geometry.pages() as usize]?;
+    let mut search = Searched::new();
+    for page in (0..geometry.pages()).rev() {
+        readable[page as usize] = held.read(disk, page);
+        search.add_page(alloc, held.as_slice(), page, geometry)?;
+    }
+    Ok((search, readable))
+}
+
+/// The choice that follows from what was found.
+fn choice_of<D: PageSource>(disk: &D, search: Searched, bad_pages: Vec<u32>) -> Chosen
+    requires found { HasFoundFrom (D.image disk.now) 0 search }
+    requires unreadable { bad_pages.items ≡ image_unreadable_pages (D.image disk.now) 0 }
+    ensures { IsChoice (D.image disk.now) result }
+{
+    let geometry = disk.geometry();
+    match (search.seen.newest, search.superblock) {
+        (Some(newest), Some(superblock)) => {
+            Chosen::by(
+                geometry,
+                superblock,
+                newest.page,
+                search.seen.records,
+                newest.tie,
+                bad_pages,
+            )
+        }
+        _ => Chosen::without(geometry, bad_pages),
+    }
 }
 
 /// The superblock that counts on a disk: the valid record in extent 0 with the greatest generation, and in a
-/// tie the one on the lowest page. Each page of extent 0 is read once. Memory: a buffer for extent 0, a mark
-/// for each page, the list of unreadable pages, and one superblock.
+/// tie the one on the lowest page. Each page of extent 0 is read once, from the last to the first. Memory: a
+/// page and the bytes of a longest record (2 kB, and 8 bytes for each extent), a mark for each page, the list
+/// of unreadable pages, and two superblocks.
 pub fn choose<D: PageSource>(alloc: Global, disk: &D) -> Result<Chosen, OutOfMemory>
     ensures { IfOk result (IsChoice (D.image disk.now)) }
 {
-    let (extent, seen) = search(alloc, disk)?;
-    chosen_by(alloc, disk, &extent, seen)
+    let (search, readable) = search(alloc, disk)?;
+    let bad_pages = unreadable_pages(alloc, &readable)?;
+    Ok(choice_of(disk, search, bad_pages))
 }
 
 /// A law: at most one record begins on a page of extent 0, and an image has at most one choice.

@@ -2,7 +2,7 @@
 //! hold. `choosing` picks the record that counts.
 
 ghost use Rattle.std.specs.Prelude.{◌≡◌, ◌+◌, ◌*◌, ◌<◌, ◌≤◌, ◌^◌, ◌⊎◌, ℕ, List, Option, IfOk, IfSome, IfNone};
-ghost use Rattle.std.specs.Prelude.{IsTrue, Some, length, slice_get, slice_range};
+ghost use Rattle.std.specs.Prelude.{IsTrue, Some, drop, length, slice_get, slice_range};
 ghost use Rattle.scrub_disk.specs.Limits.{max_extent_bytes};
 ghost use Rattle.scrub_disk.specs.Buffered.{IsBuffered};
 ghost use Rattle.scrub_disk.specs.Image.{Image};
@@ -15,13 +15,16 @@ ghost use Rattle.scrub_super.specs.steps.PagesFound.{IsKnownOfPage, IsRecordReac
 ghost use Rattle.scrub_super.specs.steps.RecordsSeen.{AreSeenFrom, StandsFrom};
 ghost use Rattle.scrub_super.specs.declared.pages.SuperblockPage.{SuperblockPage};
 
-use crate::choosing::{RecordsSeen, chosen_by, readable_end, with_record};
+use crate::choosing::{RecordsSeen, readable_end, with_record};
 use crate::chosen::Chosen;
 use crate::head::body_len;
 use crate::kind::RecordKind;
 use crate::pages::{Rank, SuperblockPage, has_stray_byte, page_without_record};
-use crate::record::record_at;
-use scrub_disk::{Geometry, OutOfMemory, PageSource, read_extent};
+use crate::record::{read_record, record_at};
+use crate::superblock::Superblock;
+use scrub_disk::{
+    BufferedExtent, Geometry, OutOfMemory, PageSource, read_extent, unreadable_pages,
+};
 use scrub_frame::DIGEST_BYTES;
 use std::alloc::Global;
 
@@ -174,9 +177,55 @@ fn pages_of(
     Ok(pages)
 }
 
+/// Parses the record at a page.
+fn superblock_at(
+    alloc: Global,
+    bytes: &[u8],
+    page: u32,
+    geometry: Geometry,
+) -> Result<Superblock, OutOfMemory>
+    requires within { page * geometry.page ≤ length bytes.now }
+    requires stands { (c : Contents) × BeginsWithRecord geometry (drop (page * geometry.page) bytes.now) c }
+    ensures { IfOk result (BeginsWithRecord geometry (drop (page * geometry.page) bytes.now)) }
+{
+    let start = page as usize * geometry.page() as usize;
+    match read_record(alloc, &bytes[start..], geometry)? {
+        Some(superblock) => Ok(superblock),
+        None => unreachable!(),
+    }
+}
+
+/// The choice that follows from the records in extent 0.
+fn chosen_by<D: PageSource>(
+    alloc: Global,
+    disk: &D,
+    extent: &BufferedExtent,
+    seen: RecordsSeen,
+) -> Result<Chosen, OutOfMemory>
+    requires buffered { IsBuffered (D.image disk.now) 0 extent.now.bytes.items extent.now.readable.items }
+    requires seen { AreSeenFrom (StandsFrom (D.image disk.now)) 0 seen }
+    ensures { IfOk result (IsChoice (D.image disk.now)) }
+{
+    let geometry = disk.geometry();
+    let bad_pages = unreadable_pages(alloc, &extent.readable)?;
+    let Some(newest) = seen.newest else {
+        return Ok(Chosen::without(geometry, bad_pages));
+    };
+    let superblock = superblock_at(alloc, &extent.bytes, newest.page, geometry)?;
+    Ok(Chosen::by(
+        geometry,
+        superblock,
+        newest.page,
+        seen.records,
+        newest.tie,
+        bad_pages,
+    ))
+}
+
 /// The superblock that counts on a disk, as `choose` finds it, and what each page of extent 0 holds, from
 /// page 0 on. Each page of extent 0 is read once. Each record is hashed once, and the one that counts is
-/// hashed again when it is parsed. Memory: what `choose` takes, the records found by page, and the answer.
+/// hashed again when it is parsed. Memory: a buffer for extent 0, a mark for each page, the list of unreadable
+/// pages, the records found by page, one superblock, and the answer.
 pub fn choose_with_pages<D: PageSource>(
     alloc: Global,
     disk: &D,

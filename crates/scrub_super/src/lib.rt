@@ -1,6 +1,7 @@
 //! The superblock of a disk: its records, which of them counts, and the plan that `scrub_scan` follows.
 #![tactic(auto)]
 
+mod bytes_from;
 mod choosing;
 pub mod chosen;
 mod extent_zero;

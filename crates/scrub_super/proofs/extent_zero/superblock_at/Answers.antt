@@ -1,7 +1,7 @@
 -- The record that is there is read.
 use Rattle.std.proofs.Common.{◌≡◌, ◌*◌, ◌-◌, ℕ, length, length-drop, take, drop, arith}
 use Rattle.std.proofs.lemmas.List.{take_all}
-use Rattle.scrub_super.proofs.choosing.superblock_at.Goals as goal
+use Rattle.scrub_super.proofs.extent_zero.superblock_at.Goals as goal
 
 pub unreachable-requires : goal.unreachable-requires
 unreachable-requires c =

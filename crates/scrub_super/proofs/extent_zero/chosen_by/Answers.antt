@@ -1,7 +1,7 @@
 -- What was seen in memory is the choice of the image.
 use Rattle.std.proofs.Common.{refl}
 use Rattle.scrub_super.proofs.Choices.{bad_pages_are, choice_without, choice_by, newest_begins}
-use Rattle.scrub_super.proofs.choosing.chosen_by.Goals as goal
+use Rattle.scrub_super.proofs.extent_zero.chosen_by.Goals as goal
 
 pub returns-in_default : goal.returns-in_default
 returns-in_default g c =
