@@ -34,6 +34,7 @@ pub mod PartedExtents
 pub mod SpareCopies
 pub mod SharedPlaces
 pub mod BrokenShards
+pub mod UuidNumbers
 pub mod SameUuids
 pub mod Sizes
 pub mod Reclaimable

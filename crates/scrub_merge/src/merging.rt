@@ -68,13 +68,17 @@ fn bind_newest(
     Ok(())
 }
 
-/// The shard map of parts of runs, one of each. It reserves its room once: it never has more bindings than
-/// the parts have entries.
-fn merge_parts(alloc: Global, runs: &[Option<Part<'_>>]) -> Result<ShardMap, OutOfMemory>
+/// The shard map of parts of runs, one of each, with room for so many bindings: for all that the parts can
+/// have, and for those of other maps that are to follow.
+fn merge_parts(
+    alloc: Global,
+    runs: &[Option<Part<'_>>],
+    room: usize,
+) -> Result<ShardMap, OutOfMemory>
     requires { length runs.now < 2 ^ 32 }
     ensures { IfOk result (IsShardMap runs.now) }
 {
-    let mut bindings = Vec::with_capacity(alloc, entries_in(runs))?;
+    let mut bindings = Vec::with_capacity(alloc, room)?;
     let mut places = vec![in alloc; 0; runs.len()]?;
     let mut heap = heap_of(alloc, runs)?;
     while let Some(&Reverse((least, number))) = heap.peek() {
@@ -93,7 +97,25 @@ pub fn merge(alloc: Global, runs: &[Option<Run>]) -> Result<ShardMap, OutOfMemor
     ensures { IfOk result (IsShardMap runs.now) }
 {
     let parts = whole_runs(alloc, runs)?;
-    merge_parts(alloc, &parts)
+    merge_parts(alloc, &parts, entries_in(&parts))
+}
+
+/// How many bindings to make room for in the map of a quarter: as many as it can have, and if it is the first
+/// one of its half or of all, as many as that can have, so that the other maps are appended where it lies.
+fn room_of(
+    all: &[Option<Part<'_>>],
+    in_half: &[Option<Part<'_>>],
+    in_quarter: &[Option<Part<'_>>],
+    half: Side,
+    quarter: Side,
+) -> usize {
+    if !quarter.is_first {
+        return entries_in(in_quarter);
+    }
+    if half.is_first {
+        return entries_in(all);
+    }
+    entries_in(in_half)
 }
 
 /// The shard map of the entries on one side of an identifier, of those on one side of another one.
@@ -109,7 +131,8 @@ fn merge_quarter(
     let parts = whole_runs(alloc, runs)?;
     let in_half = all_on_side(alloc, &parts, half)?;
     let in_quarter = all_on_side(alloc, &in_half, quarter)?;
-    merge_parts(alloc, &in_quarter)
+    let room = room_of(&parts, &in_half, &in_quarter, half, quarter);
+    merge_parts(alloc, &in_quarter, room)
 }
 
 /// The shard maps of what is before an identifier and of the rest, one after the other.

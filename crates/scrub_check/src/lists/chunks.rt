@@ -1,8 +1,7 @@
 //! The chunks of a disk at their places, which of them no sound locator names, and which have one UUID.
 
-ghost use Rattle.std.specs.Prelude.{◌≡◌, IfOk, List};
+ghost use Rattle.std.specs.Prelude.{◌≡◌, IfOk};
 ghost use Rattle.std.specs.List.{filter, filter_map};
-ghost use Rattle.scrub_scan.specs.Scanned.{Scanned};
 ghost use Rattle.scrub_check.specs.steps.ChunkUuids.{AreUuidsOf, is_twin_by};
 ghost use Rattle.scrub_check.specs.Chunks.{place_of, chunks, orphans, twins};
 
@@ -74,7 +73,7 @@ pub fn orphans<D: PageSource>(
     Ok(parted.orphans)
 }
 
-/// Those of these chunks whose UUID occurs twice or more among these UUIDs.
+/// Those of these chunks whose UUID is among these twice or more.
 fn twins_among(
     alloc: Global,
     chunks: &[Place],
@@ -89,16 +88,21 @@ fn twins_among(
         .collect(alloc)
 }
 
-/// Those of these chunks, which have these UUIDs, whose UUID another of them has too.
-fn twins_by(alloc: Global, places: &[Place], uuids: &ChunkUuids) -> Result<Vec<Place>, OutOfMemory>
-    requires { AreUuidsOf places.now uuids.now }
-    ensures { (extents : List Scanned) → places.now ≡ chunks extents →
-        IfOk result (λ v. v.items ≡ twins extents) }
+/// The chunks whose UUID another chunk has too, by the UUIDs of all chunks. Most disks have none, and then no
+/// place is listed.
+fn twins_by<D: PageSource>(
+    alloc: Global,
+    all: &AllFindings<'_, D>,
+    uuids: &ChunkUuids,
+) -> Result<Vec<Place>, OutOfMemory>
+    requires { AreUuidsOf (chunks all.now.extents) uuids.now }
+    ensures { IfOk result (λ v. v.items ≡ twins all.now.extents) }
 {
     if uuids.are_distinct() {
         return Ok(Vec::new(alloc));
     }
-    twins_among(alloc, places, uuids)
+    let chunks = all_chunks(alloc, all)?;
+    twins_among(alloc, &chunks, uuids)
 }
 
 /// The chunks whose UUID another chunk has too, by extent and then start.
@@ -108,9 +112,8 @@ pub fn twins<D: PageSource>(
 ) -> Result<Vec<Place>, OutOfMemory>
     ensures { IfOk result (λ v. v.items ≡ twins all.now.extents) }
 {
-    let chunks = all_chunks(alloc, all)?;
-    let uuids = ChunkUuids::of(alloc, &chunks)?;
-    twins_by(alloc, &chunks, &uuids)
+    let uuids = ChunkUuids::of(alloc, all)?;
+    twins_by(alloc, all, &uuids)
 }
 
 /// The same, by threads.
@@ -121,7 +124,6 @@ pub fn twins_by_threads<R: Threads + Sync, D: PageSource>(
 ) -> Result<Vec<Place>, OutOfMemory>
     ensures { IfOk result (λ v. v.items ≡ twins all.now.extents) }
 {
-    let chunks = all_chunks(alloc, all)?;
-    let uuids = ChunkUuids::by_threads(rt, alloc, &chunks)?;
-    twins_by(alloc, &chunks, &uuids)
+    let uuids = ChunkUuids::by_threads(rt, alloc, all)?;
+    twins_by(alloc, all, &uuids)
 }
