@@ -14,3 +14,7 @@ loop-one-preserved g c = λ after rest.
     let added = rw (c.extent.ensures, items) at c.in_ok-append_numbers.ensures in
     (rw c.in-Some.ensures.steps at c.loop-one.invariant) after
     (AddsNumbers-append c.loop-one.numbers.items c.append_numbers.new.numbers.items after here (chunks c.next.new.self) added rest)
+
+pub returns : goal.returns
+returns g c =
+    (rw c.in-None.ensures.steps.0 at c.loop-one.invariant) c.loop-one.numbers.items (AddsNumbers-none c.loop-one.numbers.items)
