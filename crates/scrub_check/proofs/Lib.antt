@@ -19,6 +19,7 @@ pub mod NamedLists
 pub mod Owners
 pub mod CheckedLists
 pub mod Rebuilt
+pub mod SoundAndOthers
 pub mod SortedPlaces
 pub mod PartedPlaces
 pub mod Starts

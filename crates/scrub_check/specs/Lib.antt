@@ -5,6 +5,7 @@ pub mod Runs
 pub mod ChunkRun
 pub mod Named
 pub mod Checked
+pub mod Drawn
 pub mod Live
 pub mod Chunks
 pub mod Shared

@@ -11,3 +11,4 @@ pub mod BrokenShards
 pub mod SoundPlaces
 pub mod LocatorIndex
 pub mod LiveAndOrphans
+pub mod SoundAndOthers

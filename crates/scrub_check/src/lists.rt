@@ -5,6 +5,7 @@ pub mod candidate;
 pub(crate) mod chunk_uuids;
 pub(crate) mod chunks;
 pub(crate) mod cursor;
+pub(crate) mod drawn;
 pub(crate) mod extent_set;
 pub mod kept_chunk;
 pub(crate) mod live;

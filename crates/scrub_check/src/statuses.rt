@@ -8,5 +8,6 @@ pub(crate) mod extents;
 pub(crate) mod nearby;
 pub(crate) mod open_place;
 pub mod searching;
+pub(crate) mod sound_and_others;
 pub mod status;
 pub(crate) mod whole_scan;

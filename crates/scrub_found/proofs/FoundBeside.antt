@@ -1,4 +1,5 @@
--- What is found beside judged locators: with lists that follow from them, and that there are such lists.
+-- What is found beside judged locators, or by what was drawn from them: with lists that follow from them, and that there are such
+-- lists.
 use Rattle.std.proofs.Common.{ℕ, List, Option, None}
 use Rattle.std.specs.List.Sorted.{IsStrictlyIncreasing}
 use Rattle.scrub_disk.specs.Image.{Image}
@@ -10,8 +11,11 @@ use Rattle.scrub_check.specs.Candidates.{AreCandidates, CandidateValue}
 use Rattle.scrub_check.specs.Checked.{AreBrokenShards}
 use Rattle.scrub_check.specs.Shared.{AreShared}
 use Rattle.scrub_check.proofs.ListsThere.{some_broken, some_candidates, some_shared}
+use Rattle.scrub_check.specs.declared.statuses.checked.Checked.{Checked}
+use Rattle.scrub_found.specs.declared.judging.DrawnScan.{DrawnScan}
 use Rattle.scrub_found.specs.declared.judging.Judged.{Judged}
-use Rattle.scrub_found.specs.Judged.{AreJudgedBut, AreJudgedFrom, Beside, IsFoundBut, IsFoundFrom}
+use Rattle.scrub_found.specs.Judged.{AreJudgedBut, AreJudgedFrom, Beside, IsDrawnFrom, IsFoundBut, IsFoundFrom, found_by}
+use Rattle.scrub_found.specs.Scrubbed.{IsScrubbed}
 use Rattle.scrub_found.proofs.GivenPlans.{rising_from}
 
 module _ {D : Type 0} (given : Option (List Locator)) (resets : List ℕ) (image : Image) (j : Judged D) (are : AreJudgedFrom given resets image j) where
@@ -89,3 +93,31 @@ module _ {D : Type 0} (resets : List ℕ) (image : Image) (j : Judged D) (are : 
   -- With the lists of `all_beside`, the judged locators are what is found in the image.
   pub found_beside : IsFoundBut resets image j all_beside
   found_beside = found_beside_from None resets image j are
+
+-- ---- by what is drawn from the named locators
+
+module _ {D : Type 0} (image : Image) (checked : List Checked) (d : DrawnScan D) (are : IsDrawnFrom image checked d) where
+  -- these lists beside them, and the broken shards that were drawn
+  abbrev pub beside_drawn : List SharedPlace → List CandidateValue → Beside
+  beside_drawn shared candidates = record {
+    read = are.read;
+    shared = shared;
+    broken = d.drawn.broken.items;
+    candidates = candidates;
+  }
+
+  -- with lists that follow from the checked locators, what is found
+  pub found_drawn : (shared : List SharedPlace) (candidates : List CandidateValue) → AreShared checked shared →
+      AreCandidates d.scan.plan d.scan.all.extents checked d.in_doubt candidates →
+      IsScrubbed image (found_by d.scan d.map checked (beside_drawn shared candidates))
+  found_drawn shared candidates x z = record {
+    choice = are.scanned.chosen;
+    plan = are.scanned.planned;
+    all = are.scanned.scanned;
+    read = are.read_are;
+    bindings = are.map_is;
+    checked = are.checked_are;
+    shared = x;
+    broken = are.lists.broken_are;
+    candidates = rw are.doubt at z;
+  }

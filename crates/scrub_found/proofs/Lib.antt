@@ -4,7 +4,7 @@
 pub mod OneReader
 pub mod ResetPlans
 pub mod GivenPlans
--- one list of runs, one of checked locators, and one record of all that is found
+-- one list of runs, and one record of all that is found
 pub mod OneIndex
 pub mod OneScrub
 -- each image has all that is found

@@ -1,13 +1,10 @@
--- By its plan an image has one list of index runs, and one list of named locators with their statuses.
+-- By its plan an image has one list of index runs.
 use Rattle.std.proofs.Common.{◌≡◌, ℕ, zero, suc, Option, Some, None, List, [], ◌∷◌, length, map, arith, refl, sym, ◌∙◌, ap, subst}
-use Rattle.std.proofs.Math.Path.{ap₂}
 use Rattle.std.specs.List.{AllZip, slice_get, zip}
-use Rattle.std.proofs.lemmas.List.Elements.{All-head, All-tail}
 use Rattle.std.proofs.lemmas.Map.Made.{keys_of-zip}
 use Rattle.std.proofs.lemmas.Option.{none-some, same_Some}
 use Rattle.list_facts.proofs.Zips.{AllZip-same_seconds}
 use Rattle.std.proofs.lemmas.Slice.Zip.{seconds-zip}
-use Rattle.list_facts.proofs.Elements.{nil_has_no_first, same_behind_first, same_first}
 use Rattle.scrub_disk.specs.Image.{Image}
 use Rattle.scrub_frame.specs.declared.locator.Locator.{Locator}
 use Rattle.scrub_super.specs.Plan.{PlanValue}
@@ -16,13 +13,9 @@ use Rattle.scrub_run.specs.Run.{IsRun}
 use Rattle.scrub_run.proofs.Runs.{one_run_lem}
 use Rattle.scrub_merge.specs.Binding.{Runs}
 use Rattle.scrub_merge.specs.ShardMap.{AreRuns}
-use Rattle.scrub_check.specs.declared.statuses.checked.Checked.{Checked}
-use Rattle.scrub_check.specs.declared.named.Named.{Named}
 use Rattle.scrub_check.specs.declared.runs.RunState.{RunState}
 use Rattle.scrub_check.specs.declared.runs.RunState.TheVariants.{Read, BadChunk, NotARun}
-use Rattle.scrub_check.specs.Checked.{AreChecked, HaveStatuses, named_of}
 use Rattle.scrub_check.specs.Runs.{AreReadRuns, HasRunIn, NamesChunkIn, ReadRunsValue}
-use Rattle.scrub_check.specs.Status.{HasStatusIn}
 use Rattle.scrub_check.proofs.OneStatus.{one_in_plan}
 use Rattle.scrub_check.proofs.Payloads.{same_payload}
 
@@ -100,33 +93,3 @@ read_of image plan r x k es here = read_at image plan es plan.runs r.runs r.stat
 pub read_runs_are_runs : (image : Image) (plan : PlanValue) (r : ReadRunsValue) → AreReadRuns image plan r →
     AreRuns r.runs
 read_runs_are_runs image plan r x k es here = (read_of image plan r x k es here).run.entries_of_run
-
--- ---- one list of checked locators
-
-same_one : (c d : Checked) → named_of c ≡ named_of d → c.status ≡ d.status → c ≡ d
-same_one c d hn hs = λ i. record { owner = (hn i).owner; locator = (hn i).locator; status = hs i }
-
-abbrev HasOwn : Image → PlanValue → Checked → Type 0
-HasOwn image plan c = HasStatusIn image plan c.locator c.status
-
-one_checked : (image : Image) (plan : PlanValue) (c d : Checked) → named_of c ≡ named_of d → HasOwn image plan c →
-    HasOwn image plan d → c ≡ d
-one_checked image plan c d same x y =
-    same_one c d same
-    ((one_in_plan image plan d.locator).one c.status d.status (subst (λ (n : Named). HasStatusIn image plan n.locator c.status) same x) y)
-
-same_checked : (image : Image) (plan : PlanValue) (cs ds : List Checked) → map named_of cs ≡ map named_of ds →
-    HaveStatuses image plan cs → HaveStatuses image plan ds → cs ≡ ds
-same_checked image plan [] [] e x y = refl
-same_checked image plan [] (d ∷ ds) e x y = absurd (nil_has_no_first (named_of d) (map named_of ds) e)
-same_checked image plan (c ∷ cs) [] e x y = absurd (nil_has_no_first (named_of c) (map named_of cs) (sym e))
-same_checked image plan (c ∷ cs) (d ∷ ds) e x y =
-    ap₂ (λ h hs. h ∷ hs)
-    (one_checked image plan c d (same_first (named_of c) (named_of d) (map named_of cs) (map named_of ds) e) (All-head (HasOwn image plan) c cs x) (All-head (HasOwn image plan) d ds y))
-    (same_checked image plan cs ds (same_behind_first (named_of c) (named_of d) (map named_of cs) (map named_of ds) e) (All-tail (HasOwn image plan) c cs x) (All-tail (HasOwn image plan) d ds y))
-
--- By a plan of an image, named locators have at most one list of statuses.
-pub one_list_of_checked : (image : Image) (plan : PlanValue) (names : List Named) (cs ds : List Checked) →
-    AreChecked image plan names cs → AreChecked image plan names ds → cs ≡ ds
-one_list_of_checked image plan names cs ds x y =
-    same_checked image plan cs ds (x.same ∙ sym y.same) x.statuses y.statuses

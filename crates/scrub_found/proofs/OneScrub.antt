@@ -12,7 +12,8 @@ use Rattle.scrub_found.specs.Takings.{ArePlannedExtents}
 use Rattle.scrub_found.specs.Resets.{IsScrubbedBut}
 use Rattle.scrub_found.specs.GivenRuns.{IsScrubbedFrom}
 use Rattle.scrub_found.specs.Scrubbed.{Scrubbed, IsScrubbed, is_in_doubt}
-use Rattle.scrub_found.proofs.OneIndex.{one_list_of_runs, one_list_of_checked, read_runs_are_runs}
+use Rattle.scrub_check.proofs.CheckedLists.{one_list_of_checked}
+use Rattle.scrub_found.proofs.OneIndex.{one_list_of_runs, read_runs_are_runs}
 use Rattle.scrub_found.proofs.OneReader.{one_plan, one_reader}
 use Rattle.scrub_found.proofs.GivenPlans.{one_plan_from}
 

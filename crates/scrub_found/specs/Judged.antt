@@ -8,6 +8,7 @@ use Rattle.scrub_super.specs.Plan.{PlanValue}
 use Rattle.scrub_scan.specs.Scanned.{Scanned}
 use Rattle.scrub_scan.specs.AllFindings.{AreAllFindings}
 use Rattle.scrub_run.specs.declared.shard_id.ShardId.{ShardId}
+use Rattle.scrub_merge.specs.Binding.{BindingValue}
 use Rattle.scrub_merge.specs.ShardMap.{IsShardMap}
 use Rattle.scrub_check.specs.declared.runs.RunState.{RunState}
 use Rattle.scrub_check.specs.Runs.{AreReadRuns, ReadRunsValue}
@@ -17,10 +18,12 @@ use Rattle.scrub_check.specs.Candidates.{AreCandidates, CandidateValue}
 use Rattle.scrub_check.specs.declared.statuses.checked.Checked.{Checked}
 use Rattle.scrub_check.specs.Checked.{AreChecked}
 use Rattle.scrub_check.specs.Chunks.{orphans}
+use Rattle.scrub_check.specs.Drawn.{AreDrawnFrom}
 use Rattle.scrub_check.specs.Live.{live_bytes}
 use Rattle.scrub_check.specs.Named.{named_locators}
 use Rattle.scrub_check.specs.Shared.{AreShared}
 use Rattle.scrub_check.specs.WholeScan.{IsWholeScan}
+use Rattle.scrub_found.specs.declared.judging.DrawnScan.{DrawnScan}
 use Rattle.scrub_found.specs.declared.judging.Judged.{Judged}
 use Rattle.scrub_found.specs.declared.runs.RunRow.{RunRow}
 use Rattle.scrub_found.specs.declared.scanning.Scan.{Scan}
@@ -78,6 +81,18 @@ module _ {D : Type 0} where
   abbrev pub AreJudgedBut : List ℕ → Image → Judged D → Type 0
   AreJudgedBut resets image j = AreJudgedFrom None resets image j
 
+  -- the rows, the shard map and the lists are as they are in an image, in which these are the named locators with their
+  -- statuses
+  pub record IsDrawnFrom (image : Image) (checked : List Checked) (d : DrawnScan D) : Type 0 where
+    pub read : ReadRunsValue
+    pub rows : AreRowsOf d.scan.plan.runs read d.runs.items
+    pub doubt : d.in_doubt ≡ is_in_doubt d.scan.chosen read
+    pub scanned : IsScan image d.scan
+    pub read_are : AreReadRuns image d.scan.plan read
+    pub map_is : IsShardMap read.runs d.map
+    pub checked_are : AreChecked image d.scan.plan (named_locators d.scan.plan.runs d.map) checked
+    pub lists : AreDrawnFrom checked d.drawn
+
   -- what follows from which of its chunks are live
   abbrev pub IsLivenessOf : Judged D → Liveness → Type 0
   IsLivenessOf j l = IsLivenessBy j.scan.plan j.scan.all.extents j.checked.items j.in_doubt l
@@ -91,19 +106,23 @@ pub record Beside : Type 0 where
   pub candidates : List CandidateValue
 
 module _ {D : Type 0} where
-  -- all that is found on the disk
-  abbrev pub found_in : Judged D → Beside → Scrubbed
-  found_in j b = record {
-    choice = j.scan.chosen;
-    plan = j.scan.plan;
-    all = j.scan.all.extents;
+  -- all that is found on a scanned disk with this shard map and these checked locators
+  abbrev pub found_by : Scan D → List BindingValue → List Checked → Beside → Scrubbed
+  found_by s bindings checked b = record {
+    choice = s.chosen;
+    plan = s.plan;
+    all = s.all.extents;
     read = b.read;
-    bindings = j.map;
-    checked = j.checked.items;
+    bindings = bindings;
+    checked = checked;
     shared = b.shared;
     broken = b.broken;
     candidates = b.candidates;
   }
+
+  -- all that is found on the disk
+  abbrev pub found_in : Judged D → Beside → Scrubbed
+  found_in j b = found_by j.scan j.map j.checked.items b
 
   -- with these beside them, the judged locators are what is found in the image, with the plan by these index runs, if they are given,
   -- or else by the choice as if these extents had been reset; and the rows are those of the runs that were read

@@ -10,15 +10,16 @@ ghost use Rattle.scrub_check.specs.declared.statuses.checked.Checked.{Checked};
 ghost use Rattle.scrub_check.specs.Chunks.{twins};
 ghost use Rattle.scrub_check.specs.WholeScan.{IsWholeScan};
 ghost use Rattle.scrub_check.specs.steps.LocatorIndex.{IsLocatorIndex};
-ghost use Rattle.scrub_found.specs.Judged.{AreJudgedFrom, IsLivenessBy, IsLivenessOf, IsScanFrom};
+ghost use Rattle.scrub_found.specs.Judged.{AreJudgedFrom, IsDrawnFrom, IsLivenessBy, IsLivenessOf};
+ghost use Rattle.scrub_found.specs.Judged.{IsScan, IsScanFrom};
 ghost use Rattle.scrub_found.specs.Resets.{IsScrubbedBut};
 ghost use Rattle.scrub_found.specs.Scrubbed.{Scrubbed, is_in_doubt};
 
 use crate::runs::{RunRow, run_rows};
 use crate::scanning::Scan;
 use scrub_check::{
-    Checked, Liveness, LocatorIndex, Place, ReadRuns, check_named, liveness_by, read_all_runs,
-    twins_by_threads,
+    Checked, Drawn, Liveness, LocatorIndex, Place, ReadRuns, check_named, draw_named, liveness_by,
+    read_all_runs, twins_by_threads,
 };
 use scrub_disk::{OutOfMemory, PageSource};
 use scrub_merge::{ShardMap, merge_by_threads};
@@ -87,6 +88,46 @@ pub fn judged_of<'d, R: Threads + Sync, D: PageSource>(
         runs,
         map,
         checked,
+    })
+}
+
+/// What was found on a disk, with what is drawn from the named locators in place of a list of them.
+#[derive(Drop)]
+pub struct DrawnScan<'d, D: PageSource> {
+    /// What was scanned.
+    pub scan: Scan<'d, D>,
+    /// Whether a newer superblock or a newer binding may have been lost.
+    pub in_doubt: bool,
+    /// The index runs of the plan, in its order.
+    pub runs: Vec<RunRow>,
+    /// The shard map of the runs that were read.
+    pub map: ShardMap,
+    /// What is drawn from the named locators.
+    pub drawn: Drawn,
+}
+
+/// What is found on a scanned disk, as `judged_of` finds it, up to what a report needs of the named locators:
+/// no list of all of them is made.
+pub fn drawn_scan<'d, R: Threads + Sync, D: PageSource>(
+    rt: &R,
+    alloc: Global,
+    scan: Scan<'d, D>,
+) -> Result<DrawnScan<'d, D>, OutOfMemory>
+    requires { IsScan (D.image scan.disk.now) scan }
+    ensures { IfOk result (λ found. (checked : List Checked) ×
+        IsDrawnFrom (D.image scan.entry.disk.now) checked found) }
+{
+    let (read, statuses) = read_all_runs(rt, alloc, scan.disk, &scan.plan, &scan.all)?;
+    let in_doubt = is_in_doubt(&scan.chosen, &read);
+    let runs = run_rows(alloc, scan.plan.runs(), &read)?;
+    let map = merged(rt, alloc, read)?;
+    let drawn = draw_named(rt, alloc, scan.disk, &scan.plan, &scan.all, &statuses, &map)?;
+    Ok(DrawnScan {
+        scan,
+        in_doubt,
+        runs,
+        map,
+        drawn,
     })
 }
 

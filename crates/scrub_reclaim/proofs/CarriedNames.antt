@@ -26,7 +26,8 @@ use Rattle.scrub_check.specs.Status.{HasStatusIn}
 use Rattle.scrub_check.proofs.OneList.{one_broken, one_shared}
 use Rattle.scrub_found.specs.Resets.{IsScrubbedBut}
 use Rattle.scrub_found.specs.Scrubbed.{Scrubbed}
-use Rattle.scrub_found.proofs.OneIndex.{one_list_of_runs, one_list_of_checked, read_runs_are_runs}
+use Rattle.scrub_check.proofs.CheckedLists.{one_list_of_checked}
+use Rattle.scrub_found.proofs.OneIndex.{one_list_of_runs, read_runs_are_runs}
 use Rattle.scrub_reclaim.specs.Reset.{NameTheSame}
 
 -- ---- lists

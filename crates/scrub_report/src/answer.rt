@@ -7,21 +7,22 @@ ghost use Rattle.scrub_run.specs.Entry.{IsBelow};
 ghost use Rattle.scrub_run.specs.Run.{IsRun, run_bytes};
 ghost use Rattle.scrub_check.specs.declared.statuses.checked.Checked.{Checked};
 ghost use Rattle.scrub_check.specs.Checked.{AreBrokenShards};
-ghost use Rattle.scrub_found.specs.declared.judging.Judged.{Judged};
-ghost use Rattle.scrub_found.specs.Judged.{AreJudgedBut, IsScan};
+ghost use Rattle.scrub_found.specs.declared.judging.DrawnScan.{DrawnScan};
+ghost use Rattle.scrub_found.specs.Judged.{IsDrawnFrom, IsScan};
 ghost use Rattle.scrub_found.specs.Scrubbed.{IsScrubbed, Scrubbed};
 ghost use Rattle.scrub_found.specs.Takings.{ArePlannedExtents, AreTakingsBy};
 ghost use Rattle.scrub_report.specs.Answer.{AnswerValue, IsScrubAnswer};
 ghost use Rattle.scrub_report.specs.Index.{index_entries};
-ghost use Rattle.scrub_report.specs.steps.Lists.{AreShardsOf, IsReportBy, unlisted};
+ghost use Rattle.scrub_report.specs.steps.Lists.{AreOfSome, AreShardsOf, IsReportBy, unlisted};
 
 use crate::index::index_bytes;
 use crate::listed::{Unlisted, is_clean_listed, listed_of};
 use crate::report::report_text;
 use crate::shards::{Shards, shards_of};
-use scrub_check::broken_shards;
+use scrub_check::Drawn;
 use scrub_disk::{OutOfMemory, PageSource};
-use scrub_found::{Judged, Scan, ScrubFault, judged_of, scan_by, scan_by_one};
+use scrub_found::{DrawnScan, Scan, ScrubFault, drawn_scan, scan_by, scan_by_one};
+use scrub_merge::ShardMap;
 use scrub_pool::{Gate, Takings};
 use scrub_run::ShardId;
 use std::alloc::Global;
@@ -90,10 +91,11 @@ fn report_of<R: Threads + Sync, D: PageSource>(
     shards: Shards,
     broken: &[ShardId],
 ) -> Result<(Vec<u8>, bool), OutOfMemory>
-    ensures { (image : Image) (judged : Judged D) → AreJudgedBut [] image judged →
-        rest.entry ≡ unlisted judged →
-        AreShardsOf judged.map shards → AreBrokenShards judged.checked.items broken.now →
-        IfOk result (λ r. IsReportBy image judged r.0.items r.1) }
+    requires { AreOfSome rest }
+    ensures { (image : Image) (checked : List Checked) (found : DrawnScan D) →
+        IsDrawnFrom image checked found → rest.entry ≡ unlisted found → AreShardsOf found.map shards →
+        broken.now ≡ found.drawn.broken.items →
+        IfOk result (λ r. IsReportBy image found.map checked r.0.items r.1) }
 {
     let listed = listed_of(rt, alloc, rest, shards)?;
     let is_clean = is_clean_listed(&listed);
@@ -107,32 +109,22 @@ fn report_of<R: Threads + Sync, D: PageSource>(
 fn index_and_report<R: Threads + Sync, D: PageSource>(
     rt: &R,
     alloc: Global,
-    judged: Judged<'_, D>,
+    map: ShardMap,
+    rest: Unlisted<'_, D>,
     shards: Shards,
     broken: &[ShardId],
 ) -> Result<(Vec<u8>, (Vec<u8>, bool)), OutOfMemory>
-    requires broken { AreBrokenShards judged.checked.items broken.now }
-    requires few { All (λ b. length b.locators ≤ 64) judged.map }
-    requires count { length judged.map < 2 ^ 32 }
-    ensures index { IfOk result (λ r.
-        r.0.items ≡ run_bytes (index_entries judged.entry.checked.items judged.entry.map)) }
-    ensures report { (image : Image) → AreJudgedBut [] image judged.entry →
-        AreShardsOf judged.entry.map shards →
-        IfOk result (λ r. IsReportBy image judged.entry r.1.0.items r.1.1) }
+    requires sorted { AllPairs IsBelow broken.now }
+    requires few { All (λ b. length b.locators ≤ 64) map }
+    requires count { length map < 2 ^ 32 }
+    requires drawn { AreOfSome rest }
+    ensures index { (checked : List Checked) → AreBrokenShards checked broken.now →
+        IfOk result (λ r. r.0.items ≡ run_bytes (index_entries checked map)) }
+    ensures report { (image : Image) (checked : List Checked) (found : DrawnScan D) →
+        IsDrawnFrom image checked found → rest.entry ≡ unlisted found → AreShardsOf found.map shards →
+        broken.now ≡ found.drawn.broken.items →
+        IfOk result (λ r. IsReportBy image found.map checked r.1.0.items r.1.1) }
 {
-    let Judged {
-        scan,
-        in_doubt,
-        runs,
-        map,
-        checked,
-    } = judged;
-    let rest = Unlisted {
-        scan,
-        in_doubt,
-        runs,
-        checked,
-    };
     let (index, report) = join(
         rt,
         move || -> Result<Vec<u8>, OutOfMemory>
@@ -143,10 +135,11 @@ fn index_and_report<R: Threads + Sync, D: PageSource>(
                 IfOk result (λ bytes. bytes.items ≡ run_bytes (index_entries checked map)) }
         { index_bytes(alloc, map, broken) },
         move || -> Result<(Vec<u8>, bool), OutOfMemory>
-            ensures report { (image : Image) (judged : Judged D) → AreJudgedBut [] image judged →
-                rest.entry ≡ unlisted judged →
-                AreShardsOf judged.map shards → AreBrokenShards judged.checked.items broken.entry.now →
-                IfOk result (λ r. IsReportBy image judged r.0.items r.1) }
+            requires drawn { AreOfSome rest }
+            ensures report { (image : Image) (checked : List Checked) (found : DrawnScan D) →
+                IsDrawnFrom image checked found → rest.entry ≡ unlisted found →
+                AreShardsOf found.map shards → broken.entry.now ≡ found.drawn.broken.items →
+                IfOk result (λ r. IsReportBy image found.map checked r.0.items r.1) }
         { report_of(rt, alloc, rest, shards, broken) },
     );
     Ok((index?, report?))
@@ -161,10 +154,29 @@ fn answer_of<R: Threads + Sync, D: PageSource>(
     requires { IsScan (D.image scan.disk.now) scan }
     ensures { IfOk result (IsScrubAnswer (D.image scan.entry.disk.now)) }
 {
-    let judged = judged_of(rt, alloc, scan)?;
-    let shards = shards_of(alloc, &judged.map)?;
-    let broken = broken_shards(alloc, &judged.checked)?;
-    let (index, (report, is_clean)) = index_and_report(rt, alloc, judged, shards, &broken)?;
+    let DrawnScan {
+        scan,
+        in_doubt,
+        runs,
+        map,
+        drawn,
+    } = drawn_scan(rt, alloc, scan)?;
+    let shards = shards_of(alloc, &map)?;
+    let Drawn {
+        locators,
+        dangling,
+        hidden,
+        broken,
+    } = drawn;
+    let rest = Unlisted {
+        scan,
+        in_doubt,
+        runs,
+        locators,
+        dangling,
+        hidden,
+    };
+    let (index, (report, is_clean)) = index_and_report(rt, alloc, map, rest, shards, &broken)?;
     Ok(ScrubAnswer {
         report,
         index,

@@ -1,17 +1,18 @@
-//! What the report lists of a disk, drawn from the judged locators. `report` writes it.
+//! What the report lists of a disk, by what was drawn from the named locators. `report` writes it.
 
 ghost use Rattle.std.specs.Prelude.{◌≡◌, IfOk};
-ghost use Rattle.scrub_report.specs.steps.Lists.{AreDrawnFrom, AreListsOf, is_clean_listed};
+ghost use Rattle.scrub_report.specs.steps.Lists.{AreListsOf, is_clean_listed};
 
 use crate::shards::Shards;
-use scrub_check::{Checked, Liveness, LocatorIndex, Place, dangling, hidden};
+use scrub_check::{Checked, Liveness, LocatorIndex, Place};
 use scrub_disk::{OutOfMemory, PageSource};
 use scrub_found::judging::liveness_and_twins_by;
 use scrub_found::{RunRow, Scan, is_clean};
 use std::alloc::Global;
 use std::thread::Threads;
 
-/// What the report is made of, without the shard map, of which the index is made meanwhile.
+/// What the report is made of, without the shard map and the broken shards, of which the index is made
+/// meanwhile.
 #[derive(Drop)]
 pub(crate) struct Unlisted<'d, D: PageSource> {
     /// What was scanned.
@@ -20,12 +21,16 @@ pub(crate) struct Unlisted<'d, D: PageSource> {
     pub in_doubt: bool,
     /// The index runs of the plan, in its order.
     pub runs: Vec<RunRow>,
-    /// The named locators, each with its status.
-    pub checked: Vec<Checked>,
+    /// What the named locators say of places and extents.
+    pub locators: LocatorIndex,
+    /// The dangling locators, in their order.
+    pub dangling: Vec<Checked>,
+    /// The hidden locators, in their order.
+    pub hidden: Vec<Checked>,
 }
 
-/// What the report lists of a disk, but for the broken shards. Neither the shard map is here nor the checked
-/// locators: only what is drawn from them.
+/// What the report lists of a disk, but for the broken shards. Neither the shard map is here nor what the named
+/// locators say: only what follows from them.
 #[derive(Drop)]
 pub(crate) struct Listed<'d, D: PageSource> {
     /// What was scanned.
@@ -44,33 +49,7 @@ pub(crate) struct Listed<'d, D: PageSource> {
     pub twins: Vec<Place>,
 }
 
-/// What is drawn from checked locators, so that they needn't be kept.
-#[derive(Drop)]
-pub(crate) struct Drawn {
-    /// What they say of places and extents.
-    pub locators: LocatorIndex,
-    /// The dangling ones, in their order.
-    pub dangling: Vec<Checked>,
-    /// The hidden ones, in their order.
-    pub hidden: Vec<Checked>,
-}
-
-/// What is drawn from these checked locators, which are freed.
-fn drawn_from<R: Threads + Sync>(
-    rt: &R,
-    alloc: Global,
-    checked: Vec<Checked>,
-) -> Result<Drawn, OutOfMemory>
-    ensures { IfOk result (AreDrawnFrom checked.items) }
-{
-    Ok(Drawn {
-        locators: LocatorIndex::by_threads(rt, alloc, &checked)?,
-        dangling: dangling(alloc, &checked)?,
-        hidden: hidden(alloc, &checked)?,
-    })
-}
-
-/// What the report lists. The checked locators are freed before the chunks are looked through.
+/// What the report lists.
 pub(crate) fn listed_of<'d, R: Threads + Sync, D: PageSource>(
     rt: &R,
     alloc: Global,
@@ -83,16 +62,17 @@ pub(crate) fn listed_of<'d, R: Threads + Sync, D: PageSource>(
         scan,
         in_doubt,
         runs,
-        checked,
+        locators,
+        dangling,
+        hidden,
     } = rest;
-    let drawn = drawn_from(rt, alloc, checked)?;
-    let (liveness, twins) = liveness_and_twins_by(rt, alloc, &scan, &drawn.locators, in_doubt)?;
+    let (liveness, twins) = liveness_and_twins_by(rt, alloc, &scan, &locators, in_doubt)?;
     Ok(Listed {
         scan,
         runs,
         shards,
-        dangling: drawn.dangling,
-        hidden: drawn.hidden,
+        dangling,
+        hidden,
         liveness,
         twins,
     })

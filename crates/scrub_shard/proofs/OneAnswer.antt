@@ -25,7 +25,8 @@ use Rattle.scrub_check.specs.Named.{named_by_shard}
 use Rattle.scrub_loose.specs.Loose.{LooseValue, copies_for}
 use Rattle.scrub_loose.proofs.OneLoose.{one_loose}
 use Rattle.scrub_check.proofs.Payloads.{one_payload}
-use Rattle.scrub_found.proofs.OneIndex.{one_list_of_checked, one_list_of_runs, read_runs_are_runs}
+use Rattle.scrub_check.proofs.CheckedLists.{one_list_of_checked}
+use Rattle.scrub_found.proofs.OneIndex.{one_list_of_runs, read_runs_are_runs}
 use Rattle.scrub_found.proofs.GivenPlans.{one_plan_from}
 use Rattle.scrub_found.proofs.OneReader.{one_reader}
 use Rattle.scrub_shard.specs.Bytes.{BytesValue}

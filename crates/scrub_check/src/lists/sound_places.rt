@@ -3,7 +3,7 @@
 
 ghost use Rattle.std.specs.Prelude.{◌≡◌, ◌↔◌, IsTrue, IfOk};
 ghost use Rattle.std.specs.List.{count_by};
-ghost use Rattle.std.specs.List.Sorted.{IsSorted, IsStrictlySortedBy};
+ghost use Rattle.std.specs.List.Sorted.{IsPermutation, IsSorted, IsStrictlySortedBy};
 ghost use Rattle.scrub_check.specs.steps.Distinct.{AreDistinct};
 ghost use Rattle.scrub_check.specs.steps.Places.{chunk_at_cmp, is_place};
 ghost use Rattle.scrub_check.specs.steps.SoundPlaces.{sound_places, AreSoundPlaces};
@@ -57,15 +57,15 @@ impl SoundPlaces {
         Ok(SoundPlaces { starts })
     }
 
-    /// The same, sorted by threads.
-    pub(crate) fn by_threads<R: Threads + Sync>(
+    /// These places, sorted by threads.
+    pub(crate) fn of_starts<R: Threads + Sync>(
         rt: &R,
         alloc: Global,
-        checked: &[Checked],
+        starts: Vec<ChunkAt>,
     ) -> Result<SoundPlaces, OutOfMemory>
-        ensures { IfOk result (AreSoundPlaces checked.now) }
+        ensures { IfOk result (λ sound. IsPermutation starts.items sound) }
     {
-        let starts = into_sorted_by_threads(rt, alloc, starts_of(alloc, checked)?)?;
+        let starts = into_sorted_by_threads(rt, alloc, starts)?;
         Ok(SoundPlaces { starts })
     }
 

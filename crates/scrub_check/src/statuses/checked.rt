@@ -130,7 +130,7 @@ fn settle<R: Threads + Sync, D: PageSource>(
 }
 
 /// Named locators with their statuses, in their order, if some are known.
-fn check_others<R: Threads + Sync, D: PageSource>(
+pub(crate) fn check_others<R: Threads + Sync, D: PageSource>(
     rt: &R,
     alloc: Global,
     scan: &WholeScan<'_, D>,

@@ -4,13 +4,11 @@ use Rattle.scrub_disk.specs.Image.{Image}
 use Rattle.scrub_run.specs.declared.shard_id.ShardId.{ShardId}
 use Rattle.scrub_merge.specs.Binding.{BindingValue}
 use Rattle.scrub_check.specs.declared.statuses.checked.Checked.{Checked}
-use Rattle.scrub_check.specs.Checked.{dangling, hidden}
 use Rattle.scrub_check.specs.Chunks.{twins}
 use Rattle.scrub_check.specs.steps.LocatorIndex.{IsLocatorIndex}
-use Rattle.scrub_report.specs.declared.listed.Drawn.{Drawn}
 use Rattle.scrub_report.specs.declared.listed.Listed.{Listed}
 use Rattle.scrub_report.specs.declared.listed.Unlisted.{Unlisted}
-use Rattle.scrub_found.specs.declared.judging.Judged.{Judged}
+use Rattle.scrub_found.specs.declared.judging.DrawnScan.{DrawnScan}
 use Rattle.scrub_report.specs.declared.shards.Shards.{Shards}
 use Rattle.scrub_found.specs.Judged.{IsLivenessBy, is_clean_by}
 use Rattle.scrub_report.specs.Report.{report_text}
@@ -25,37 +23,44 @@ pub record AreShardsOf (bindings : List BindingValue) (s : Shards) : Type 0 wher
   pub count_is : s.count ≡ length bindings
   pub doubtful_are : s.doubtful.items ≡ doubtful_ids bindings
 
--- what these locators say of places and extents, and those of them that dangle or are hidden
-pub record AreDrawnFrom (checked : List Checked) (d : Drawn) : Type 0 where
-  pub locators_are : IsLocatorIndex checked d.locators
-  pub dangling_are : d.dangling.items ≡ dangling checked
-  pub hidden_are : d.hidden.items ≡ hidden checked
-
 module _ {D : Type 0} where
-  -- judged locators without their shard map
-  abbrev pub unlisted : Judged D → Unlisted D
-  unlisted j = record { scan = j.scan; in_doubt = j.in_doubt; runs = j.runs; checked = j.checked }
+  -- a drawn scan without its shard map and its broken shards
+  abbrev pub unlisted : DrawnScan D → Unlisted D
+  unlisted d = record {
+    scan = d.scan;
+    in_doubt = d.in_doubt;
+    runs = d.runs;
+    locators = d.drawn.locators;
+    dangling = d.drawn.dangling;
+    hidden = d.drawn.hidden;
+  }
 
-  -- the text and the verdict are those of what is found in an image, with the bindings and the checked locators that were judged
-  pub record IsReportBy (image : Image) (j : Judged D) (text : List ℕ) (clean : Bool) : Type 0 where
-    pub found : Scrubbed
-    pub scrubbed : IsScrubbed image found
-    pub bindings_are : found.bindings ≡ j.map
-    pub checked_are : found.checked ≡ j.checked.items
-    pub text_is : text ≡ report_text found
-    pub verdict : clean ≡ is_clean_disk found
+  -- the locators say what some checked ones do
+  abbrev pub AreOfSome : Unlisted D → Type 0
+  AreOfSome d = (checked : List Checked) × IsLocatorIndex checked d.locators
 
-  -- the lists are those of the judged locators, and what is said of the shard map is kept
-  pub record AreListsOf (j : Unlisted D) (s : Shards) (l : Listed D) : Type 0 where
-    pub scan_is : l.scan ≡ j.scan
-    pub runs_are : l.runs.items ≡ j.runs.items
+  -- the lists are those that were drawn, what follows from which chunks are live is that of the locators, and what is said of the shard
+  -- map is kept
+  pub record AreListsOf (d : Unlisted D) (s : Shards) (l : Listed D) : Type 0 where
+    pub scan_is : l.scan ≡ d.scan
+    pub runs_are : l.runs.items ≡ d.runs.items
     pub shards_are : l.shards ≡ s
-    pub dangling_are : l.dangling.items ≡ dangling j.checked.items
-    pub hidden_are : l.hidden.items ≡ hidden j.checked.items
-    pub liveness_is : IsLivenessBy j.scan.plan j.scan.all.extents j.checked.items j.in_doubt l.liveness
-    pub twins_are : l.twins.items ≡ twins j.scan.all.extents
+    pub dangling_are : l.dangling.items ≡ d.dangling.items
+    pub hidden_are : l.hidden.items ≡ d.hidden.items
+    pub liveness_is : (checked : List Checked) → IsLocatorIndex checked d.locators →
+        IsLivenessBy d.scan.plan d.scan.all.extents checked d.in_doubt l.liveness
+    pub twins_are : l.twins.items ≡ twins d.scan.all.extents
 
   -- whether the lists are clean
   abbrev pub is_clean_listed : Listed D → Bool
   is_clean_listed l =
       is_clean_by l.scan l.runs.items (length l.dangling.items == 0 && length l.hidden.items == 0) l.liveness.shared.items
+
+-- the text and the verdict are those of what is found in an image, with these bindings and these checked locators
+pub record IsReportBy (image : Image) (bindings : List BindingValue) (checked : List Checked) (text : List ℕ) (clean : Bool) : Type 0 where
+  pub found : Scrubbed
+  pub scrubbed : IsScrubbed image found
+  pub bindings_are : found.bindings ≡ bindings
+  pub checked_are : found.checked ≡ checked
+  pub text_is : text ≡ report_text found
+  pub verdict : clean ≡ is_clean_disk found

@@ -1,4 +1,4 @@
--- What was drawn from the locators says what follows from them.
+-- What was drawn says what follows from the locators that it was drawn from.
 use Rattle.std.proofs.Common.{refl}
 use Rattle.scrub_report.proofs.listed.listed_of.Goals as goal
 
@@ -7,8 +7,8 @@ returns g c = record {
   scan_is = refl;
   runs_are = refl;
   shards_are = refl;
-  dangling_are = c.in_ok-drawn.ensures.dangling_are;
-  hidden_are = c.in_ok-drawn.ensures.hidden_are;
-  liveness_is = c.in_ok-liveness.ensures.liveness c.args.rest.checked.items c.in_ok-drawn.ensures.locators_are;
+  dangling_are = refl;
+  hidden_are = refl;
+  liveness_is = c.in_ok-liveness.ensures.liveness;
   twins_are = c.in_ok-liveness.ensures.twins;
 }
