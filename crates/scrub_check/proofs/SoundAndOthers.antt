@@ -179,7 +179,7 @@ hidden_unsound : (s : Status) → is_hidden s ≡ true → not (is_sound s) ≡ 
 hidden_unsound s is = by (is_sound s) refl
   where
     by : (b : Bool) → is_sound s ≡ b → not (is_sound s) ≡ true
-    by true sound = absurd (false≢true (ap is_hidden (Sound_from_is_sound s sound) ∙ is))
+    by true sound = absurd (false≢true (sym (ap is_hidden (Sound_from_is_sound s sound)) ∙ is))
     by false other = ap not other
 
 broken_unsound : (id : ShardId) (c : Checked) → (is_owned_by id c.owner && is_dangling c.status) ≡ true → not (is_sound c.status) ≡ true

@@ -19,7 +19,7 @@ loop-block-preserved c = λ image plan named parts start are.
     let i = c.loop-block.block-index in
     let long : length blocks ≡ length parts = AllZip-long (IsApart image plan) parts blocks are in
     let inside : i < length parts = omega (arith, long, c.loop-block-test.true) in
-    let here : IsApart image plan (get_or parts i []) c.block-item.result.now =
+    let here : IsApart image plan (get_or parts i []) c.block-item.result =
     subst (IsApart image plan (get_or parts i [])) (sym c.block-item.is) (AllZip-at (IsApart image plan) parts blocks i [] _ inside are) in
     subst (λ (ns : List Named). IsApart image plan ns c.append.new.self)
     (append_assoc named (flat_map (λ part. part) (take i parts)) (get_or parts i []) ∙ ap (λ ns. named ++ ns) (sym (parts_more parts i inside)))
