@@ -6,36 +6,20 @@ ghost use Rattle.scrub_scan.specs.Scanned.{scanned};
 ghost use Rattle.scrub_report.specs.Report.{extent_data};
 ghost use Rattle.scrub_report.specs.steps.Tokens.{ArePieces, extent_values, piece_text, value_tokens};
 
-use crate::json_values::WriteJson;
+use crate::items::ITEM_ROOM;
 use crate::object::{Value, write_object};
 use crate::pieces::comma_if;
 use json::Writer;
 use scrub_disk::{OutOfMemory, PageSource};
-use scrub_scan::{AllFindings, ExtentResult, Item, item_line};
+use scrub_scan::{AllFindings, ExtentResult};
 use std::alloc::Global;
 use std::thread::{Threads, available_parallelism, map_indices};
 
 /// With fewer items than this, one thread writes them all.
 const WORTH_THREADS: usize = 4_096;
 
-/// Room for an item: its line has 76 bytes at most, and two quotes and a comma beside it.
-const ITEM_ROOM: usize = 80;
-
 /// Room for an extent without its items, as most need it.
 const EXTENT_ROOM: usize = 160;
-
-/// The line of an item.
-impl WriteJson for Item {
-    ghost use Rattle.serde_json.specs.Data.{string};
-    ghost use Rattle.scrub_scan.specs.Line.{line_of};
-
-    ghost shown = { λ item. string (line_of item) };
-
-    fn write_json(&self, alloc: Global, out: &mut Writer) -> Result<(), OutOfMemory> {
-        let line = item_line(alloc, self)?;
-        out.string(&line)
-    }
-}
 
 /// Writes one of `extents`, with its live bytes.
 fn write_extent<D: PageSource>(

@@ -6,6 +6,7 @@ pub mod answer;
 mod chunks;
 mod extents;
 mod index;
+mod items;
 mod json_values;
 mod keys;
 mod listed;

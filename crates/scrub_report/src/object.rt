@@ -4,6 +4,7 @@ ghost use Rattle.std.specs.Prelude.{◌≡◌, ◌++◌, OnOk, map};
 ghost use Rattle.scrub_report.specs.Json.{with_keys};
 ghost use Rattle.scrub_report.specs.steps.Tokens.{members_tokens, value_tokens};
 
+use crate::items::write_items;
 use crate::json_values::{WriteJson, write_list};
 use json::Writer;
 use scrub_check::{Owner, RunState, Status};
@@ -63,7 +64,7 @@ impl WriteJson for Value<'_> {
                 out.string(uuid.hyphenated().encode_lower(&mut buffer))
             }
             Value::Numbers(numbers) => write_list(alloc, out, numbers),
-            Value::Items(items) => write_list(alloc, out, items),
+            Value::Items(items) => write_items(alloc, out, items),
         }
     }
 }

@@ -15,9 +15,13 @@ use Rattle.scrub_found.specs.declared.runs.RunRow.{RunRow}
 use Rattle.scrub_report.specs.declared.object.Value.{Value}
 use Rattle.scrub_report.specs.declared.object.Value.TheVariants.{Number, Optional, Optional32, Flag, Owner, Status, State, Uuid, Numbers, Items}
 
+-- the line of an item
+abbrev pub item_data : Item → Data
+item_data item = string (line_of item)
+
 -- a list of the lines of items
 abbrev pub items_data : List Item → Data
-items_data items = list (map (λ item. string (line_of item)) items)
+items_data items = list (map item_data items)
 
 -- the value of a member, as JSON
 abbrev pub value_data : Value → Data
