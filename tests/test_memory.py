@@ -27,6 +27,7 @@ SMALL = "--page 64 --pages 4 --extents 3 examples/one-shard.img"
 SEVERAL = "--page 64 --pages 16 --extents 5 examples/several-findings.img 3:1"
 RECLAIMED = "--page 64 --pages 8 --extents 5 examples/reclaimed-before.img"
 COPIED = "--page 64 --pages 8 --extents 4 examples/rotted.img examples/copied.img"
+DEAD = "--page 64 --pages 8 --extents 4 examples/dead-node.img"
 RESCUED = "--page 512 --pages 4 --extents 4 --map examples/rescued.map examples/rescued.img"
 # Disks that the tests make: see `retiring`, `large`, `many` and `behind_a_damaged_frame`.
 ROOM = "ROOM/"
@@ -48,6 +49,13 @@ COMMAND_LINES = {
     "locators": f"locators {SEVERAL}",
     "locators with 2 workers": f"locators --workers 2 {SEVERAL}",
     "shards": f"shards --workers 2 {SEVERAL}",
+    "partial archive": f"shards --partial --workers 0 {DEAD}",
+    "archive by given runs": f"shards --workers 2 --run 2:41 --run 3:0 {DEAD}",
+    "shard by a given run": f"{SHARD}1 --workers 0 --run 3:0 {DEAD}",
+    "manifest by given runs": f"manifest --workers 0 --run 2:41 --run 3:0 {DEAD}",
+    "runs": f"runs --workers 2 {DEAD}",
+    "runs without workers": f"runs --workers 0 {SEVERAL}",
+    "no such run": f"shards --run 3:1 {DEAD}",
     "shards with a spare": f"shards --workers 0 {RETIRING}",
     "locators with a spare": f"locators --workers 0 {RETIRING}",
     "superblocks": f"superblocks {SEVERAL}",
@@ -106,7 +114,7 @@ WITHOUT_REFERENCE = {"", "scan --help", "scan --workers 65"}
 WITH_THREADS = ["scan", "index with 2 workers", "locators", "locators with 2 workers", "reclaimable",
                 "reclaimable with the last generation", "manifest", "manifest with resets", "summary", "summary with 2 workers",
                 "locators by several readers", "scan of many items", "summary of many items",
-                "shard", "shards", "lost payload"]
+                "shard", "shards", "lost payload", "archive by given runs", "runs"]
 # Those in which each allocation of such a thread is refused. With many items there are thousands, so these aren't among them.
 WITH_WORKERS = [name for name in WITH_THREADS if "many items" not in name]
 OUT_OF_MEMORY = (4, b"", b"shardscrub: out of memory\n")

@@ -77,11 +77,11 @@ FIELDS = {
     "Section": "admin",
     "Priority": "optional",
 }
-# Runs of the installed program: its arguments, its output and its status.
+# Runs of the installed program: its arguments, its output, the error stream and its status.
 RUNS = [
-    (["--version"], None, 0),
-    (["sizes", "examples/one-shard.img"], "0 SSB1 1 64 4 3\n", 0),
-    (["sizes", "examples/no-superblock.img"], "", 1),
+    (["--version"], None, "", 0),
+    (["sizes", "examples/one-shard.img"], "0 SSB1 1 64 4 3\n", "", 0),
+    (["sizes", "examples/no-superblock.img"], "", "shardscrub: no superblock record in the first 64 MiB\n", 1),
 ]
 
 
@@ -173,11 +173,11 @@ class OfTheRelease(unittest.TestCase):
 
     def runs(self, program):
         version = f"shardscrub {newest()[0]}\n"
-        for words, output, status in RUNS:
+        for words, output, errors, status in RUNS:
             for cpu in ("", "x86-64-v2", *["x86-64-v3"] * has_v3()):
                 with self.subTest(words=words, cpu=cpu):
                     ended = run(program, *words, more={"SHARDSCRUB_CPU": cpu})
-                    wanted = (version if output is None else output, "", status)
+                    wanted = (version if output is None else output, errors, status)
                     self.assertEqual((ended.stdout, ended.stderr, ended.returncode), wanted)
 
 
@@ -238,7 +238,7 @@ class Install(OfTheRelease):
         page = (prefix / "share/doc/shardscrub/docs/READING.md").read_text(encoding="utf-8").partition("\n## What a message means\n")[2]
         manual = (prefix / "share/man/man1/shardscrub.1").read_text(encoding="utf-8").partition(".SH DIAGNOSTICS")[2]
         for words in (re.findall(r"^\| .* \| `([^`]*)` \| \[[^|]*\|$", page, re.M),
-                      [line.replace("\\%", "").replace("\\-", "-").replace("\\e", "\\")
+                      [line.replace("\\%", "").replace("\\-", "-").replace("\\(aq", "'").replace("\\e", "\\")
                        for line in re.findall(r"^\.B \\%shardscrub (.*)$", manual, re.M)]):
             ended = [run("sh", "-c", f"shardscrub {line}", cwd=self.folder, more={"PATH": f"{prefix}/bin:{os.environ['PATH']}"})
                      for line in words]

@@ -39,6 +39,7 @@ IN_RUNS = {
     "read_locators": "scan",
     "choose_with_pages": "superblocks",
     "Plan::with_resets": "manifest with resets",
+    "Plan::listing": "manifest by given runs",
     "find_superblocks": "sizes",
     "scan_extents_in": "scan",
     "push_item_line": "scan",
@@ -60,6 +61,9 @@ IN_RUNS = {
     "draw_named": "scan",
     "scan_by": "scan",
     "scan_chosen": "summary",
+    "scan_listed": "manifest by given runs",
+    "find_runs": "runs",
+    "run_at": "manifest by given runs",
     "judged_of": "locators",
     "drawn_scan": "scan",
     "liveness_and_twins": "summary",
@@ -75,6 +79,8 @@ IN_RUNS = {
     "append_form": "manifest",
     "append_place": "manifest",
     "list_manifest": "manifest",
+    "list_manifest_by_runs": "manifest by given runs",
+    "list_runs": "runs",
     "find_sizes": "shard without sizes",
     "list_sizes": "sizes",
     "list_summary": "summary",
@@ -90,6 +96,8 @@ IN_RUNS = {
     "compare": "compare",
     "read_shard": "shard",
     "read_shards": "shards",
+    "read_shard_by_runs": "shard by a given run",
+    "read_shards_by_runs": "archive by given runs",
 }
 # The crates whose public functions are in this account.
 LIBRARIES = ["sha_lanes"] + [
