@@ -35,6 +35,10 @@ RUNS = (
     ["shard", *SHARD, "several-findings.img"], ["shard", "--id", f"{3:032}", "several-findings.img"], ["shard", "--id", "1", "rotted.img"],
     ["shards", "several-findings.img"], ["sizes", "formatted-twice.img"], ["sizes", "--map", "failing.map", "failing.img"],
     ["items", "--extent", "1", "--pointer", "99", "behind.img"], ["items", "--extent", "9", "one-shard.img"],
+    ["runs", *MOVE, "dead-node.img"], ["shards", "--partial", *MOVE, "--run=2:41", "--run", "3:0", "dead-node.img"],
+    ["manifest", *MOVE, "--run", "3:1", "dead-node.img"], ["shard", *SHARD, *MOVE, "--run=3:512", "dead-node.img"],
+    ["scan", "--", "--page", "64", "one-shard.img"], ["scan", "--", "--not there.img"], ["scan", "one-shard.img", "--", "1:2"],
+    ["scan", "--workers=0", "--", "one-shard.img", "-1:2"], ["compare", *MOVE, "--", "rotted.img", "copied.img"],
 )
 
 
@@ -67,7 +71,10 @@ class Commands(RoomCase):
         """Words that are no arguments have the program's status. What is said of them is argparse's."""
         for words in ([*SMALL], ["scans"], ["scan"], ["scan", "--page", "64", "one-shard.img"], ["index", "one-shard.img"],
                       ["scan", "--last", "1", "one-shard.img"], ["scan", "--workers", "65", "one-shard.img"],
-                      ["summary", "--last", "-1", "one-shard.img"], ["sizes", "one-shard.img", "1:0"]):
+                      ["summary", "--last", "-1", "one-shard.img"], ["sizes", "one-shard.img", "1:0"],
+                      ["scan", "--workers", "1", "--workers=2", "one-shard.img"], ["scan", *SMALL, "--page=64", "one-shard.img"],
+                      ["shards", "--partial", "--partial", "one-shard.img"], ["scan", "--no such", "one-shard.img"],
+                      ["scan", "-no such.img"], ["manifest", *SMALL, "--reset=1", "--run=1:0", "one-shard.img"]):
             found, right = ran(sys.executable, "-I", REFERENCE, *words), ran(self.program, *words)
             self.same(" ".join(words), found[:2], right[:2])
             self.same(f"{' '.join(words)}: the status", right[0], 2)
