@@ -15,6 +15,16 @@ const LINE_ROOM: usize = 76;
 /// Room for an item: its line, and two quotes and a comma beside it.
 pub(crate) const ITEM_ROOM: usize = LINE_ROOM + 3;
 
+/// Writes the line of an item, by a text that was there for another one.
+fn write_line(line: &mut String, out: &mut Writer, item: &Item) -> Result<(), OutOfMemory>
+    ensures tokens { OnOk result (out.new.tokens ≡ out.old.tokens ++ value_tokens (item_data item.now)) }
+    ensures before { out.new.before ≡ out.old.before }
+{
+    line.clear();
+    push_item_line(line, item)?;
+    out.string(line)
+}
+
 /// Writes the lines of these items, one after another.
 fn write_lines(alloc: Global, out: &mut Writer, items: &[Item]) -> Result<(), OutOfMemory>
     ensures tokens { OnOk result (out.new.tokens ≡ out.old.tokens ++ shown_tokens item_data items.now) }
@@ -22,9 +32,7 @@ fn write_lines(alloc: Global, out: &mut Writer, items: &[Item]) -> Result<(), Ou
 {
     let mut line = String::with_capacity(alloc, LINE_ROOM)?;
     for item in items {
-        line.clear();
-        push_item_line(&mut line, item)?;
-        out.string(&line)?;
+        write_line(&mut line, out, item)?;
     }
     Ok(())
 }
