@@ -8,10 +8,10 @@ ghost use Rattle.scrub_check.specs.Spares.{AreSpares};
 ghost use Rattle.scrub_check.specs.steps.LocatorIndex.{IsLocatorIndex};
 ghost use Rattle.scrub_reclaim.specs.Doubts.{frame_bytes, is_at_risk, spare_doubt, spare_doubts};
 ghost use Rattle.scrub_reclaim.specs.Doubts.{spare_doubts_by, staying};
-ghost use Rattle.scrub_reclaim.specs.steps.Gathered.{AreLists};
+ghost use Rattle.scrub_reclaim.specs.steps.ReclaimParts.{AreLists};
 
 use crate::doubts::Doubt;
-use crate::gathered::Gathered;
+use crate::reclaim_parts::ReclaimParts;
 use scrub_check::{Checked, ExtentSet, LocatorIndex, Owner, Spares};
 use scrub_disk::{OutOfMemory, PageSource};
 use scrub_scan::Standing;
@@ -128,15 +128,15 @@ fn add_all(
 pub(crate) fn add_spares<D: PageSource>(
     alloc: Global,
     doubts: &mut Vec<Doubt>,
-    gathered: &Gathered<'_, D>,
+    parts: &ReclaimParts<'_, D>,
 ) -> Result<(), OutOfMemory>
-    requires { AreLists gathered.now }
-    ensures { (all : List Scanned) → AreSpares all gathered.now.judged.checked.items gathered.now.copies.spares →
+    requires { AreLists parts.now }
+    ensures { (all : List Scanned) → AreSpares all parts.now.judged.checked.items parts.now.copies.spares →
         OnOk result (doubts.new.items ≡ doubts.old.items ++
-        spare_doubts all gathered.now.judged.checked.items gathered.now.candidates.items) }
+        spare_doubts all parts.now.judged.checked.items parts.now.candidates.items) }
 {
-    let spares = gathered.copies.all_spares();
-    let safe = staying(alloc, &gathered.locators, &gathered.listed, spares.all())?;
+    let spares = parts.copies.all_spares();
+    let safe = staying(alloc, &parts.locators, &parts.listed, spares.all())?;
     let stay = Spares::among(safe)?;
-    add_all(doubts, spares, &stay, &gathered.judged.checked)
+    add_all(doubts, spares, &stay, &parts.judged.checked)
 }
