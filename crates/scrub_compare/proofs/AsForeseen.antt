@@ -12,7 +12,7 @@ use Rattle.scrub_check.specs.declared.statuses.checked.Checked.{Checked}
 use Rattle.scrub_loose.specs.Loose.{AreLoose, LooseValue}
 use Rattle.scrub_found.specs.Resets.{IsScrubbedBut}
 use Rattle.scrub_found.specs.Scrubbed.{Scrubbed, IsScrubbed}
-use Rattle.scrub_listings.specs.Manifest.{IsManifest, lost_runs, manifest_text, of_shards}
+use Rattle.scrub_listings.specs.Manifest.{IsManifest, lost_run_count, manifest_text, of_shards}
 use Rattle.scrub_reclaim.specs.Reset.{IsForeseen}
 use Rattle.scrub_reclaim.proofs.Reset.{best_as_foreseen, named_as_foreseen}
 use Rattle.scrub_compare.specs.Compare.{Compared, RowValue, are_alike, has_no_less, owned_by, row_in}
@@ -59,7 +59,7 @@ kept_more s t u ls ms ns one other = record {
 -- A reset that is foreseen keeps the manifest.
 pub kept_as_foreseen : (extents : List ℕ) (before after : Image) (found rest : Scrubbed) (loose others : LooseValue) →
     IsScrubbedBut extents before found → IsScrubbed after rest → AreLoose extents before found.plan loose → AreLoose [] after rest.plan others →
-    IsForeseen extents before after → found.plan.has_superblock ≡ true → lost_runs found ≡ 0 → AreKept found rest loose.frames others.frames
+    IsForeseen extents before after → found.plan.has_superblock ≡ true → lost_run_count found ≡ 0 → AreKept found rest loose.frames others.frames
 kept_as_foreseen extents before after found rest loose others x y l m f =
     kept_named found rest loose.frames others.frames (named_as_foreseen extents before after found rest x y f)
     (λ id n c is. best_as_foreseen extents before after found rest x y f loose others l m c)

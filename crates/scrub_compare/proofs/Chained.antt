@@ -16,7 +16,7 @@ use Rattle.scrub_check.specs.Spares.{frames, spares_of}
 use Rattle.scrub_loose.specs.Loose.{AreLoose, LooseValue, best_of, loose_of}
 use Rattle.scrub_found.specs.Resets.{IsScrubbedBut}
 use Rattle.scrub_found.specs.Scrubbed.{Scrubbed, IsScrubbed}
-use Rattle.scrub_listings.specs.Manifest.{IsManifest, lost_runs, manifest_text}
+use Rattle.scrub_listings.specs.Manifest.{IsManifest, lost_run_count, manifest_text}
 use Rattle.scrub_reclaim.specs.Copy.{rank}
 use Rattle.scrub_reclaim.specs.Reset.{IsForeseen, NameTheSame}
 use Rattle.scrub_reclaim.proofs.BestCopies.{as_good, first_of, loose_among, none_in_nil, not_nil}
@@ -132,7 +132,7 @@ module _ (resets : List ℕ) (image : Image) (kept_there rest : Scrubbed) (loose
       (one.0, one.1, loose_was one.0 (loose_among c kept_there.all rest.all loose.frames loose_now.frames one.0 one.1).2))
 
   -- Without the resets the manifest is kept.
-  pub without_resets : kept_there.plan.has_superblock ≡ true → lost_runs kept_there ≡ 0 → AreKept kept_there rest loose.frames loose_now.frames
+  pub without_resets : kept_there.plan.has_superblock ≡ true → lost_run_count kept_there ≡ 0 → AreKept kept_there rest loose.frames loose_now.frames
   without_resets = kept_named kept_there rest loose.frames loose_now.frames named_back (λ id n c is. no_worse c)
 
 -- ---- two steps

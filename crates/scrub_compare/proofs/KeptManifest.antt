@@ -27,7 +27,7 @@ use Rattle.scrub_check.specs.Named.{named_by_shard}
 use Rattle.scrub_found.specs.Resets.{IsScrubbedBut}
 use Rattle.scrub_found.specs.Scrubbed.{Scrubbed}
 use Rattle.scrub_found.proofs.ResetPlans.{plan_before}
-use Rattle.scrub_listings.specs.Manifest.{after_status_in, hidden_runs, lost_runs, manifest_text, numbered_line, of_shards, retired_line, runs_line, shard_lines, text_by, total_line}
+use Rattle.scrub_listings.specs.Manifest.{after_status_in, hidden_runs, lost_run_count, manifest_text, numbered_line, of_shards, retired_line, runs_line, shard_lines, text_by, total_line}
 use Rattle.scrub_listings.proofs.ShardLines.{along_runs, shards_part}
 use Rattle.scrub_reclaim.specs.Copy.{IsSameButRisen, IsSameOrRisen}
 use Rattle.scrub_compare.specs.Compare.{AreCompared, Compared, HasBinding, are_alike, both_of, generation_of, lost_line, new_line, owned_by, retired_change, row_in, runs_change, shard_change, shard_changes}
@@ -135,8 +135,8 @@ pub record AreKept (s t : Scrubbed) (loose loose_now : List Standing) : Type 0 w
   pub has : s.plan.has_superblock ≡ true
   pub has_now : t.plan.has_superblock ≡ true
   pub retired : t.plan.retired ≡ s.plan.retired
-  pub read : lost_runs s ≡ 0
-  pub read_now : lost_runs t ≡ 0
+  pub read : lost_run_count s ≡ 0
+  pub read_now : lost_run_count t ≡ 0
   pub fewer : hidden_runs t ≤ hidden_runs s
   pub ids : map (λ b. b.id) s.bindings ≡ map (λ b. b.id) t.bindings
   pub sizes : (id : ShardId) → HasBinding s.bindings id →
@@ -197,12 +197,12 @@ module _ (resets others : List ℕ) (image other : Image) (s t : Scrubbed) (loos
     fewer = k.fewer;
     each = zipped;
     a_is =
-        ap (λ (b : Bool). text_by (after_status_in s.all loose) b s.plan.retired (lost_runs s) (hidden_runs s) s.bindings (of_shards s.checked)) k.has
-        ∙ ap (λ (u : List ℕ). retired_line s.plan.retired ++ runs_line (lost_runs s) (hidden_runs s) ++ u ++ total_line (length s.bindings) (length (of_shards s.checked))) (lines_by_ids resets image s x loose ids refl)
+        ap (λ (b : Bool). text_by (after_status_in s.all loose) b s.plan.retired (lost_run_count s) (hidden_runs s) s.bindings (of_shards s.checked)) k.has
+        ∙ ap (λ (u : List ℕ). retired_line s.plan.retired ++ runs_line (lost_run_count s) (hidden_runs s) ++ u ++ total_line (length s.bindings) (length (of_shards s.checked))) (lines_by_ids resets image s x loose ids refl)
         ∙ ap (λ (n : ℕ). retired_line s.plan.retired ++ runs_line n (hidden_runs s) ++ flat_map (λ part. part) parts ++ total_line (length s.bindings) (length (of_shards s.checked))) k.read;
     b_is =
-        ap (λ (b : Bool). text_by (after_status_in t.all loose_now) b t.plan.retired (lost_runs t) (hidden_runs t) t.bindings (of_shards t.checked)) k.has_now
-        ∙ ap (λ (u : List ℕ). retired_line t.plan.retired ++ runs_line (lost_runs t) (hidden_runs t) ++ u ++ total_line (length t.bindings) (length (of_shards t.checked))) (lines_by_ids others other t y loose_now ids (sym k.ids))
+        ap (λ (b : Bool). text_by (after_status_in t.all loose_now) b t.plan.retired (lost_run_count t) (hidden_runs t) t.bindings (of_shards t.checked)) k.has_now
+        ∙ ap (λ (u : List ℕ). retired_line t.plan.retired ++ runs_line (lost_run_count t) (hidden_runs t) ++ u ++ total_line (length t.bindings) (length (of_shards t.checked))) (lines_by_ids others other t y loose_now ids (sym k.ids))
         ∙ (λ i. retired_line (k.retired i) ++ runs_line (k.read_now i) (hidden_runs t) ++ flat_map (λ part. part) parts_now ++ total_line (bindings_count i) (locators_count i));
   }
 
@@ -239,23 +239,23 @@ module _ (resets : List ℕ) (before after : Image) (c : Compared) (are : AreCom
   abbrev shards_now : List Checked
   shards_now = of_shards c.kept.checked
 
-  no_changes : (runs_change (lost_runs c.found) (hidden_runs c.found) (lost_runs c.kept) (hidden_runs c.kept) ≡ [])
+  no_changes : (runs_change (lost_run_count c.found) (hidden_runs c.found) (lost_run_count c.kept) (hidden_runs c.kept) ≡ [])
       × (shard_changes (row_in c.found c.loose.frames) (row_in c.kept c.loose_now.frames) shards shards_now c.ids ≡ [])
   no_changes =
-      let front = both_nil (retired_change c.found.plan.retired c.kept.plan.retired ++ runs_change (lost_runs c.found) (hidden_runs c.found) (lost_runs c.kept) (hidden_runs c.kept)) (shard_changes (row_in c.found c.loose.frames) (row_in c.kept c.loose_now.frames) shards shards_now c.ids) none.manifest in
-      let first = both_nil (retired_change c.found.plan.retired c.kept.plan.retired) (runs_change (lost_runs c.found) (hidden_runs c.found) (lost_runs c.kept) (hidden_runs c.kept)) front.0 in
+      let front = both_nil (retired_change c.found.plan.retired c.kept.plan.retired ++ runs_change (lost_run_count c.found) (hidden_runs c.found) (lost_run_count c.kept) (hidden_runs c.kept)) (shard_changes (row_in c.found c.loose.frames) (row_in c.kept c.loose_now.frames) shards shards_now c.ids) none.manifest in
+      let first = both_nil (retired_change c.found.plan.retired c.kept.plan.retired) (runs_change (lost_run_count c.found) (hidden_runs c.found) (lost_run_count c.kept) (hidden_runs c.kept)) front.0 in
       (first.1, front.1)
 
   not_true : (b : Bool) → not b ≡ true → b ≡ false
   not_true true e = absurd (false≢true e)
   not_true false e = refl
 
-  counts : (lost_runs c.kept ≡ lost_runs c.found) × (hidden_runs c.kept ≤ hidden_runs c.found)
+  counts : (lost_run_count c.kept ≡ lost_run_count c.found) × (hidden_runs c.kept ≤ hidden_runs c.found)
   counts =
-      let word = lost_line (runs_line (lost_runs c.found) (hidden_runs c.found)) in
-      let both = passed ((lost_runs c.kept == lost_runs c.found) && not (nat_lt (hidden_runs c.found) (hidden_runs c.kept))) word (new_line (runs_line (lost_runs c.kept) (hidden_runs c.kept))) (omega (arith, length-append (codes "lost ") (runs_line (lost_runs c.found) (hidden_runs c.found)))) no_changes.0 in
-      let parts = and_parts (lost_runs c.kept == lost_runs c.found) (not (nat_lt (hidden_runs c.found) (hidden_runs c.kept))) both in (
-        eqb-true (lost_runs c.kept) (lost_runs c.found) parts.0,
+      let word = lost_line (runs_line (lost_run_count c.found) (hidden_runs c.found)) in
+      let both = passed ((lost_run_count c.kept == lost_run_count c.found) && not (nat_lt (hidden_runs c.found) (hidden_runs c.kept))) word (new_line (runs_line (lost_run_count c.kept) (hidden_runs c.kept))) (omega (arith, length-append (codes "lost ") (runs_line (lost_run_count c.found) (hidden_runs c.found)))) no_changes.0 in
+      let parts = and_parts (lost_run_count c.kept == lost_run_count c.found) (not (nat_lt (hidden_runs c.found) (hidden_runs c.kept))) both in (
+        eqb-true (lost_run_count c.kept) (lost_run_count c.found) parts.0,
         ltb-false (hidden_runs c.found) (hidden_runs c.kept) (not_true (nat_lt (hidden_runs c.found) (hidden_runs c.kept)) parts.1),
       )
 

@@ -16,7 +16,7 @@ use Rattle.scrub_reclaim.proofs.Reset.{among_cases}
 use Rattle.std.specs.Str.{bytes_eq}
 use Rattle.std.proofs.lemmas.Slice.Eq.{bytes_eq-Decides}
 use Rattle.scrub_listings.specs.Locators.{locator_line}
-use Rattle.scrub_listings.specs.Manifest.{hidden_runs, lost_runs, of_shards, retired_line}
+use Rattle.scrub_listings.specs.Manifest.{hidden_runs, lost_run_count, of_shards, retired_line}
 use Rattle.scrub_compare.specs.Compare.{Compared, IsComparison, changes, doubts_of_both, extent_lines, generation_line, generations_in, is_reset, is_safe, is_safe_by, lines_in, lost_line, manifest_changes, named_line, named_lines, new_line, retired_change, row_in, runs_change, shard_changes, written_line}
 use Rattle.scrub_compare.specs.Laws.{NonePointsInto}
 
@@ -91,12 +91,12 @@ same_retired resets c none =
     sym ((bytes_eq-Decides c.found.plan.retired c.kept.plan.retired).0
     (passed (bytes_eq c.found.plan.retired c.kept.plan.retired) (lost_line (retired_line c.found.plan.retired)) (new_line (retired_line c.kept.plan.retired)) (omega arith) first.0))
   where
-    front : (retired_change c.found.plan.retired c.kept.plan.retired ++ runs_change (lost_runs c.found) (hidden_runs c.found) (lost_runs c.kept) (hidden_runs c.kept) ≡ [])
+    front : (retired_change c.found.plan.retired c.kept.plan.retired ++ runs_change (lost_run_count c.found) (hidden_runs c.found) (lost_run_count c.kept) (hidden_runs c.kept) ≡ [])
         × (shard_changes (row_in c.found c.loose.frames) (row_in c.kept c.loose_now.frames) (of_shards c.found.checked) (of_shards c.kept.checked) c.ids ≡ [])
-    front = both_nil (retired_change c.found.plan.retired c.kept.plan.retired ++ runs_change (lost_runs c.found) (hidden_runs c.found) (lost_runs c.kept) (hidden_runs c.kept)) (shard_changes (row_in c.found c.loose.frames) (row_in c.kept c.loose_now.frames) (of_shards c.found.checked) (of_shards c.kept.checked) c.ids) none.manifest
+    front = both_nil (retired_change c.found.plan.retired c.kept.plan.retired ++ runs_change (lost_run_count c.found) (hidden_runs c.found) (lost_run_count c.kept) (hidden_runs c.kept)) (shard_changes (row_in c.found c.loose.frames) (row_in c.kept c.loose_now.frames) (of_shards c.found.checked) (of_shards c.kept.checked) c.ids) none.manifest
 
-    first : (retired_change c.found.plan.retired c.kept.plan.retired ≡ []) × (runs_change (lost_runs c.found) (hidden_runs c.found) (lost_runs c.kept) (hidden_runs c.kept) ≡ [])
-    first = both_nil (retired_change c.found.plan.retired c.kept.plan.retired) (runs_change (lost_runs c.found) (hidden_runs c.found) (lost_runs c.kept) (hidden_runs c.kept)) front.0
+    first : (retired_change c.found.plan.retired c.kept.plan.retired ≡ []) × (runs_change (lost_run_count c.found) (hidden_runs c.found) (lost_run_count c.kept) (hidden_runs c.kept) ≡ [])
+    first = both_nil (retired_change c.found.plan.retired c.kept.plan.retired) (runs_change (lost_run_count c.found) (hidden_runs c.found) (lost_run_count c.kept) (hidden_runs c.kept)) front.0
 
 -- ---- named locators
 

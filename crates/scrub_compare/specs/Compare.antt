@@ -24,7 +24,7 @@ use Rattle.scrub_loose.specs.Loose.{AreLoose, LooseValue, best_of}
 use Rattle.scrub_found.specs.Resets.{IsScrubbedBut}
 use Rattle.scrub_found.specs.Scrubbed.{Scrubbed, IsScrubbed}
 use Rattle.scrub_listings.specs.Locators.{locator_line}
-use Rattle.scrub_listings.specs.Manifest.{copy_word, form_text, hidden_runs, looked_for, lost_runs, numbered_text, of_shards, retired_line, runs_line}
+use Rattle.scrub_listings.specs.Manifest.{copy_word, form_text, hidden_runs, looked_for, lost_run_count, numbered_text, of_shards, retired_line, runs_line}
 use Rattle.scrub_reclaim.specs.declared.doubts.Doubt.{Doubt}
 use Rattle.scrub_reclaim.specs.Copy.{rank}
 use Rattle.scrub_reclaim.specs.Doubts.{choice_doubts, doubt_text, page_doubts, run_doubts, superblock_lost}
@@ -213,7 +213,7 @@ row_in s loose = row_by (best_of s.all loose) s.all
 abbrev pub manifest_changes : Scrubbed → Scrubbed → List Standing → List Standing → List ShardId → List ℕ
 manifest_changes found kept loose loose_now ids =
     retired_change found.plan.retired kept.plan.retired
-    ++ runs_change (lost_runs found) (hidden_runs found) (lost_runs kept) (hidden_runs kept)
+    ++ runs_change (lost_run_count found) (hidden_runs found) (lost_run_count kept) (hidden_runs kept)
     ++ shard_changes (row_in found loose) (row_in kept loose_now) (of_shards found.checked) (of_shards kept.checked) ids
 
 -- one of these bindings has the identifier

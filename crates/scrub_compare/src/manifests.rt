@@ -21,7 +21,7 @@ use crate::rows::{Side, append_shards};
 use scrub_check::Checked;
 use scrub_disk::{OutOfMemory, PageSource};
 use scrub_found::Judged;
-use scrub_listings::manifest::{append_retired, append_runs, hidden_runs, lost_runs};
+use scrub_listings::manifest::{append_retired, append_runs, hidden_runs, lost_run_count};
 use scrub_loose::Copies;
 use scrub_run::ShardId;
 use std::alloc::Global;
@@ -63,7 +63,7 @@ fn run_counts<D: PageSource>(judged: &Judged<'_, D>) -> RunCounts
         judged.now.checked.items }
 {
     RunCounts {
-        lost: lost_runs(&judged.runs),
+        lost: lost_run_count(&judged.runs),
         hidden: hidden_runs(&judged.runs, &judged.checked),
     }
 }

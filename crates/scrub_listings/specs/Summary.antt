@@ -28,7 +28,7 @@ use Rattle.scrub_listings.specs.declared.summary.Counted.{Counted}
 use Rattle.scrub_listings.specs.declared.summary.Counted.TheVariants.{UnreadablePages, Chunks, ChunkBytes, TornItems, NoiseItems, LostItems, Tails, TailBytes}
 use Rattle.scrub_listings.specs.declared.summary.Verdict.{Verdict}
 use Rattle.scrub_listings.specs.declared.summary.Verdict.TheVariants.{Sound, InDoubt, Wrong}
-use Rattle.scrub_listings.specs.Manifest.{lost_runs}
+use Rattle.scrub_listings.specs.Manifest.{lost_run_count}
 
 -- ---- the verdict
 
@@ -213,7 +213,7 @@ verdict_line v = codes "verdict" ++ spaced (verdict_text v) ++ 10 ∷ []
 
 -- the verdict, and the numbers of what was found, by the loose frames
 abbrev pub summary_text : Option ℕ → List SuperblockPage → Scrubbed → List Standing → List ℕ
-summary_text last pages s loose = verdict_line (verdict last s pages) ++ number_lines (numbers_by pages s loose (lost_runs s))
+summary_text last pages s loose = verdict_line (verdict last s pages) ++ number_lines (numbers_by pages s loose (lost_run_count s))
 
 -- the text is the summary of what is found in an image, by the generation of the last superblock that was written, if that is
 -- given, and the truth value says whether the verdict is that it is sound

@@ -27,7 +27,7 @@ ghost use Rattle.scrub_listings.specs.Summary.{reading_numbers, shard_numbers, s
 ghost use Rattle.scrub_listings.specs.Summary.{verdict, verdict_by, verdict_line, verdict_text};
 
 use crate::listing::Listing;
-use crate::manifest::lost_runs;
+use crate::manifest::lost_run_count;
 use scrub_check::{Candidate, Checked, Liveness, Place, broken_shards, is_chunk, size_of};
 use scrub_disk::{OutOfMemory, PageSource};
 use scrub_found::judging::{are_sound, liveness_and_twins};
@@ -585,7 +585,7 @@ fn append_all<D: PageSource>(
         all,
         ..
     } = &judged.scan;
-    let lost = lost_runs(&judged.runs);
+    let lost = lost_run_count(&judged.runs);
     let live = &lists.liveness.live;
     let orphan_count = lists.liveness.orphans.len();
     let shared = lists.liveness.shared.len();

@@ -41,7 +41,7 @@ use Rattle.scrub_found.specs.Scrubbed.{IsScrubbed, Scrubbed, is_clean_disk, is_c
 use Rattle.scrub_found.proofs.CleanLists.{sound_alone}
 use Rattle.scrub_found.proofs.OneScrub.{one_scrub}
 use Rattle.scrub_report.specs.Answer.{AnswerValue, IsScrubAnswer}
-use Rattle.scrub_listings.specs.Manifest.{IsManifest, hidden_runs, is_of_read_run, is_of_shard, is_whole, lost_runs}
+use Rattle.scrub_listings.specs.Manifest.{IsManifest, hidden_runs, is_of_read_run, is_of_shard, is_whole, lost_run_count}
 use Rattle.scrub_listings.specs.Summary.{IsSummary, counts_as, is_behind, is_sound_verdict, one_if, verdict, verdict_by}
 use Rattle.scrub_reclaim.specs.declared.doubts.Doubt.{Doubt}
 use Rattle.scrub_reclaim.specs.declared.doubts.Doubt.TheVariants.{Last, NoSuperblock, Tail, Tie}
@@ -302,8 +302,8 @@ module _ (image : Image) (pages : List SuperblockPage) (found : Scrubbed) (x : I
       by None e p = absurd (false≢true e)
       by (Some c) e p = p.has
 
-  none_lost_runs : (lost_runs found == 0) ≡ true
-  none_lost_runs = eq-eqb (lost_runs found) 0 (none_counted is_none found.read.runs (all_weaker is_some (λ r. not (is_none r)) found.read.runs read_has runs_are))
+  none_lost_runs : (lost_run_count found == 0) ≡ true
+  none_lost_runs = eq-eqb (lost_run_count found) 0 (none_counted is_none found.read.runs (all_weaker is_some (λ r. not (is_none r)) found.read.runs read_has runs_are))
 
   none_hidden_runs : (hidden_runs found == 0) ≡ true
   none_hidden_runs =

@@ -2,7 +2,7 @@
 use Rattle.std.proofs.Common.{◌≡◌, ◌++◌, ℕ, List, ap, ◌∙◌, append_assoc}
 use Rattle.std.specs.Prelude.{string_bytes}
 use Rattle.scrub_found.specs.Judged.{found_in}
-use Rattle.scrub_listings.specs.Manifest.{hidden_runs, lost_runs, of_shards}
+use Rattle.scrub_listings.specs.Manifest.{hidden_runs, lost_run_count, of_shards}
 use Rattle.scrub_compare.specs.Compare.{AreBoundIds, retired_change, row_in, runs_change, shard_changes}
 use Rattle.scrub_compare.proofs.ExtentLines.{on_ok}
 use Rattle.scrub_compare.proofs.ManifestCounts.{hidden_is, lost_is}
@@ -15,7 +15,7 @@ returns g c b d loose loose_now rows rows_now best best_now =
     let ids = c.in_ok-ids.ids.items in
     let old = string_bytes c.args.text.now in
     let retired = retired_change found.plan.retired kept.plan.retired in
-    let runs = runs_change (lost_runs found) (hidden_runs found) (lost_runs kept) (hidden_runs kept) in
+    let runs = runs_change (lost_run_count found) (hidden_runs found) (lost_run_count kept) (hidden_runs kept) in
     let shards = shard_changes (row_in found loose) (row_in kept loose_now) (of_shards found.checked) (of_shards kept.checked) ids in
     let bound : AreBoundIds c.args.old.now.map c.args.new.now.map ids = rw (c.bindings.ensures.bindings, c.bindings-2.ensures.bindings) at c.in_ok-ids.ensures in
     let first : string_bytes c.append_retired_change.new.text ≡ old ++ retired =
