@@ -77,17 +77,17 @@ pub(crate) enum Counted {
 }
 
 /// Whether a page of extent 0 is damaged or stray.
-fn is_odd(page: &SuperblockPage) -> bool
+fn is_suspect(page: &SuperblockPage) -> bool
     ensures { result ≡ is_odd page.now }
 {
     page.is_damaged() || page.is_stray()
 }
 
 /// Whether one of these pages is damaged or stray.
-fn has_odd_page(pages: &[SuperblockPage]) -> bool
+fn has_suspect_page(pages: &[SuperblockPage]) -> bool
     ensures { result ≡ list_any is_odd pages.now }
 {
-    pages.iter().any(|page| is_odd(page))
+    pages.iter().any(|page| is_suspect(page))
 }
 
 /// Whether a superblock counts, and has this generation.
@@ -115,7 +115,7 @@ fn is_behind(last: Option<u64>, chosen: &Chosen) -> bool
 fn has_doubt(last: Option<u64>, chosen: &Chosen, pages: &[SuperblockPage]) -> bool
     ensures { result ≡ list_any is_odd pages.now || is_behind last chosen.now }
 {
-    has_odd_page(pages) || is_behind(last, chosen)
+    has_suspect_page(pages) || is_behind(last, chosen)
 }
 
 /// The verdict on a disk that is clean or isn't, by whether there is a doubt.
