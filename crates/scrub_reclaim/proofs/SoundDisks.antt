@@ -45,7 +45,7 @@ use Rattle.scrub_listings.specs.Manifest.{IsManifest, hidden_runs, is_of_read_ru
 use Rattle.scrub_listings.specs.Summary.{IsSummary, counts_as, is_behind, is_sound_verdict, one_if, verdict, verdict_by}
 use Rattle.scrub_reclaim.specs.declared.doubts.Doubt.{Doubt}
 use Rattle.scrub_reclaim.specs.declared.doubts.Doubt.TheVariants.{Last, NoSuperblock, Tail, Tie}
-use Rattle.scrub_reclaim.specs.Doubts.{Acceptance, choice_doubts, crowded_doubt, crowded_doubts, doubts, ends_past, is_accepted, is_last, is_named, last_doubt, last_doubts, loose_doubt, loose_doubts_of, outside, page_ranges, range_doubts, run_lost, spare_doubt, spare_doubts_of, staying, superblock_damaged, superblock_lost, superblock_stray, tail_doubts, tail_lost_doubts}
+use Rattle.scrub_reclaim.specs.Doubts.{Acceptance, choice_doubts, crowded_doubt, crowded_doubts, doubts, ends_past, is_accepted, is_last, is_named, last_doubt, last_doubts, loose_doubt, loose_doubts_of, outside, page_ranges, range_doubts, run_lost, spare_doubt, spare_doubts_of, safe_spares, superblock_damaged, superblock_lost, superblock_stray, tail_doubts, tail_lost_doubts}
 use Rattle.scrub_reclaim.specs.AllRight.{IsAllRight, is_quiet, is_tail}
 use Rattle.scrub_reclaim.specs.Reclaimable.{AreReclaimLines, accepted_in, doubts_for, is_clear}
 use Rattle.scrub_super.proofs.PageLaws.{held_unless_odd, one_list_of_pages}
@@ -132,7 +132,7 @@ no_spare_doubt all checked extents c e =
     let none : spares_of all c ≡ [] = ap
     (λ (t : Status). if is_dangling t && nat_lt 0 c.locator.length then copies_of all c.locator else [])
     (sound_only c.status e) in
-    ap (λ (ss : List Standing). spare_doubt c.owner ss (staying checked extents ss)) none
+    ap (λ (ss : List Standing). spare_doubt c.owner ss (safe_spares checked extents ss)) none
 
 -- nor is its payload gone
 not_gone : (all : List Scanned) (c : Checked) → is_sound c.status ≡ true → is_gone all c ≡ false

@@ -7,7 +7,7 @@ ghost use Rattle.scrub_check.specs.declared.statuses.checked.Checked.{Checked};
 ghost use Rattle.scrub_check.specs.Spares.{AreSpares};
 ghost use Rattle.scrub_check.specs.steps.LocatorIndex.{IsLocatorIndex};
 ghost use Rattle.scrub_reclaim.specs.Doubts.{frame_bytes, is_at_risk, spare_doubt, spare_doubts};
-ghost use Rattle.scrub_reclaim.specs.Doubts.{spare_doubts_by, staying};
+ghost use Rattle.scrub_reclaim.specs.Doubts.{safe_spares, spare_doubts_by};
 ghost use Rattle.scrub_reclaim.specs.steps.ReclaimParts.{AreLists};
 
 use crate::doubts::Doubt;
@@ -34,14 +34,14 @@ fn is_at_risk(locators: &LocatorIndex, extents: &ExtentSet, spare: &Standing) ->
 }
 
 /// Adds a chunk, unless a reset of these extents might take it.
-fn add_staying(
+fn add_safe_spare(
     stay: &mut Vec<Standing>,
     locators: &LocatorIndex,
     extents: &ExtentSet,
     spare: &Standing,
 ) -> Result<(), OutOfMemory>
     ensures { (checked : List Checked) → IsLocatorIndex checked locators.now →
-        OnOk result (stay.new.items ≡ stay.old.items ++ staying checked extents.now (spare.now ∷ [])) }
+        OnOk result (stay.new.items ≡ stay.old.items ++ safe_spares checked extents.now (spare.now ∷ [])) }
 {
     if is_at_risk(locators, extents, spare) {
         return Ok(());
@@ -51,18 +51,18 @@ fn add_staying(
 }
 
 /// Those of some chunks that no reset of these extents takes, in their order.
-fn staying(
+fn safe_spares(
     alloc: Global,
     locators: &LocatorIndex,
     extents: &ExtentSet,
     some: &[Standing],
 ) -> Result<Vec<Standing>, OutOfMemory>
     ensures { (checked : List Checked) → IsLocatorIndex checked locators.now →
-        IfOk result (λ v. v.items ≡ staying checked extents.now some.now) }
+        IfOk result (λ v. v.items ≡ safe_spares checked extents.now some.now) }
 {
     let mut stay = Vec::new(alloc);
     for spare in some {
-        add_staying(&mut stay, locators, extents, spare)?;
+        add_safe_spare(&mut stay, locators, extents, spare)?;
     }
     Ok(stay)
 }
@@ -136,7 +136,7 @@ pub(crate) fn add_spares<D: PageSource>(
         spare_doubts all parts.now.judged.checked.items parts.now.candidates.items) }
 {
     let spares = parts.copies.all_spares();
-    let safe = staying(alloc, &parts.locators, &parts.listed, spares.all())?;
+    let safe = safe_spares(alloc, &parts.locators, &parts.listed, spares.all())?;
     let stay = Spares::among(safe)?;
     add_all(doubts, spares, &stay, &parts.judged.checked)
 }
