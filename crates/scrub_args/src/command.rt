@@ -126,11 +126,11 @@ pub fn command_line<'a>(alloc: Global) -> Result<Command<'a>, AllocError>
 {
     bare_program(alloc)?
         .subcommand(summary_command(alloc)?)?
-        .subcommand(looking_command(alloc, SCAN, SCAN_ABOUT, SCAN_AFTER_HELP)?)?
+        .subcommand(command_without_sizes(alloc, SCAN, SCAN_ABOUT, SCAN_AFTER_HELP)?)?
         .subcommand(shard_command(alloc)?)?
         .subcommand(shards_command(alloc)?)?
         .subcommand(disk_command(alloc, INDEX, INDEX_ABOUT, INDEX_AFTER_HELP)?)?
-        .subcommand(looking_command(alloc, LOCATORS, LOCATORS_ABOUT, LOCATORS_AFTER_HELP)?)?
+        .subcommand(command_without_sizes(alloc, LOCATORS, LOCATORS_ABOUT, LOCATORS_AFTER_HELP)?)?
         .subcommand(manifest_command(alloc)?)?
         .subcommand(disk_command(alloc, RUNS, RUNS_ABOUT, RUNS_AFTER_HELP)?)?
         .subcommand(reclaimable_command(alloc)?)?
@@ -169,7 +169,7 @@ fn disk_command<'a>(
 }
 
 /// The same for a command that is only looked at, so that the sizes may be left out.
-fn looking_command<'a>(
+fn command_without_sizes<'a>(
     alloc: Global,
     name: &'a str,
     about: &'a str,
