@@ -17,7 +17,7 @@ ghost use Rattle.scrub_compare.specs.Compare.{runs_change, shard_changes};
 ghost use Rattle.scrub_compare.specs.steps.Rows.{AreBestBy, AreByOwner, AreNamedBy};
 
 use crate::ids::bound_ids;
-use crate::rows::{Side, append_shards};
+use crate::rows::{ManifestLines, append_shards};
 use scrub_check::Checked;
 use scrub_disk::{OutOfMemory, PageSource};
 use scrub_found::Judged;
@@ -139,12 +139,12 @@ fn append_shard_changes<D: PageSource, E: PageSource>(
         (row_by (best_of new.now.scan.all.extents loose_now) new.now.scan.all.extents)
         (of_shards old.now.checked.items) (of_shards new.now.checked.items) ids.now) }
 {
-    let before = Side {
+    let before = ManifestLines {
         all: &old.scan.all,
         copies,
         shards: shards_of(old),
     };
-    let after = Side {
+    let after = ManifestLines {
         all: &new.scan.all,
         copies: copies_now,
         shards: shards_of(new),

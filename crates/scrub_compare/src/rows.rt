@@ -24,7 +24,7 @@ use std::marker::Model;
 
 /// What the lines of a disk's shards are made from.
 #[derive(Drop)]
-pub(crate) struct Side<'p, 'd, D: PageSource> {
+pub(crate) struct ManifestLines<'p, 'd, D: PageSource> {
     /// What was scanned.
     pub all: &'p AllFindings<'d, D>,
     /// The copies of all named locators.
@@ -114,30 +114,30 @@ fn best_copy(copies: &Copies, one: &Checked) -> Option<BestCopy>
 /// The line of a shard's locator of this number.
 fn row_of<D: PageSource>(
     alloc: Global,
-    side: &Side<'_, '_, D>,
+    lines: &ManifestLines<'_, '_, D>,
     number: usize,
     one: &Checked,
 ) -> Result<Row, OutOfMemory>
     ensures { IfOk result (λ row. row ≡
-        row_among side.now.all.now.extents side.now.copies.now number one.now) }
+        row_among lines.now.all.now.extents lines.now.copies.now number one.now) }
 {
-    let stem = stem_of(alloc, side.all, number, one)?;
-    let best = best_copy(side.copies, one);
+    let stem = stem_of(alloc, lines.all, number, one)?;
+    let best = best_copy(lines.copies, one);
     Ok(Row { stem, best })
 }
 
 /// The line of this number, if a shard has such a locator.
 fn numbered<D: PageSource>(
     alloc: Global,
-    side: &Side<'_, '_, D>,
+    lines: &ManifestLines<'_, '_, D>,
     own: &[Checked],
     number: usize,
 ) -> Result<Option<Row>, OutOfMemory>
     ensures { IfOk result (λ row. row ≡
-        numbered (row_among side.now.all.now.extents side.now.copies.now) own.now number) }
+        numbered (row_among lines.now.all.now.extents lines.now.copies.now) own.now number) }
 {
     match own.get(number) {
-        Some(one) => Ok(Some(row_of(alloc, side, number, one)?)),
+        Some(one) => Ok(Some(row_of(alloc, lines, number, one)?)),
         None => Ok(None),
     }
 }
@@ -289,8 +289,8 @@ fn append_change(text: &mut String, old: &Option<Row>, new: &Option<Row>) -> Res
 fn append_number<D: PageSource, E: PageSource>(
     alloc: Global,
     text: &mut String,
-    before: &Side<'_, '_, D>,
-    after: &Side<'_, '_, E>,
+    before: &ManifestLines<'_, '_, D>,
+    after: &ManifestLines<'_, '_, E>,
     own: &[Checked],
     own_now: &[Checked],
     number: usize,
@@ -308,8 +308,8 @@ fn append_number<D: PageSource, E: PageSource>(
 fn append_shard<D: PageSource, E: PageSource>(
     alloc: Global,
     text: &mut String,
-    before: &Side<'_, '_, D>,
-    after: &Side<'_, '_, E>,
+    before: &ManifestLines<'_, '_, D>,
+    after: &ManifestLines<'_, '_, E>,
     own: &[Checked],
     own_now: &[Checked],
 ) -> Result<(), OutOfMemory>
@@ -327,8 +327,8 @@ fn append_shard<D: PageSource, E: PageSource>(
 pub(crate) fn append_shards<D: PageSource, E: PageSource>(
     alloc: Global,
     text: &mut String,
-    before: &Side<'_, '_, D>,
-    after: &Side<'_, '_, E>,
+    before: &ManifestLines<'_, '_, D>,
+    after: &ManifestLines<'_, '_, E>,
     ids: &[ShardId],
 ) -> Result<(), OutOfMemory>
     requires before { AreByOwner before.now.shards.now }
