@@ -234,61 +234,61 @@ module _ (resets others : List ℕ) (image other : Image) (s t : Scrubbed) (loos
 
 module _ (resets : List ℕ) (before after : Image) (c : Compared) (are : AreCompared resets before after c) (none : HasNoLine resets c) where
   abbrev shards : List Checked
-  shards = of_shards c.found.checked
+  shards = of_shards c.before.checked
 
   abbrev shards_now : List Checked
-  shards_now = of_shards c.kept.checked
+  shards_now = of_shards c.after_resets.checked
 
-  no_changes : (runs_change (lost_run_count c.found) (hidden_runs c.found) (lost_run_count c.kept) (hidden_runs c.kept) ≡ [])
-      × (shard_changes (row_in c.found c.loose.frames) (row_in c.kept c.loose_now.frames) shards shards_now c.ids ≡ [])
+  no_changes : (runs_change (lost_run_count c.before) (hidden_runs c.before) (lost_run_count c.after_resets) (hidden_runs c.after_resets) ≡ [])
+      × (shard_changes (row_in c.before c.loose.frames) (row_in c.after_resets c.loose_now.frames) shards shards_now c.ids ≡ [])
   no_changes =
-      let front = both_nil (retired_change c.found.plan.retired c.kept.plan.retired ++ runs_change (lost_run_count c.found) (hidden_runs c.found) (lost_run_count c.kept) (hidden_runs c.kept)) (shard_changes (row_in c.found c.loose.frames) (row_in c.kept c.loose_now.frames) shards shards_now c.ids) none.manifest in
-      let first = both_nil (retired_change c.found.plan.retired c.kept.plan.retired) (runs_change (lost_run_count c.found) (hidden_runs c.found) (lost_run_count c.kept) (hidden_runs c.kept)) front.0 in
+      let front = both_nil (retired_change c.before.plan.retired c.after_resets.plan.retired ++ runs_change (lost_run_count c.before) (hidden_runs c.before) (lost_run_count c.after_resets) (hidden_runs c.after_resets)) (shard_changes (row_in c.before c.loose.frames) (row_in c.after_resets c.loose_now.frames) shards shards_now c.ids) none.manifest in
+      let first = both_nil (retired_change c.before.plan.retired c.after_resets.plan.retired) (runs_change (lost_run_count c.before) (hidden_runs c.before) (lost_run_count c.after_resets) (hidden_runs c.after_resets)) front.0 in
       (first.1, front.1)
 
   not_true : (b : Bool) → not b ≡ true → b ≡ false
   not_true true e = absurd (false≢true e)
   not_true false e = refl
 
-  counts : (lost_run_count c.kept ≡ lost_run_count c.found) × (hidden_runs c.kept ≤ hidden_runs c.found)
+  counts : (lost_run_count c.after_resets ≡ lost_run_count c.before) × (hidden_runs c.after_resets ≤ hidden_runs c.before)
   counts =
-      let word = lost_line (runs_line (lost_run_count c.found) (hidden_runs c.found)) in
-      let both = passed ((lost_run_count c.kept == lost_run_count c.found) && not (nat_lt (hidden_runs c.found) (hidden_runs c.kept))) word (new_line (runs_line (lost_run_count c.kept) (hidden_runs c.kept))) (omega (arith, length-append (codes "lost ") (runs_line (lost_run_count c.found) (hidden_runs c.found)))) no_changes.0 in
-      let parts = and_parts (lost_run_count c.kept == lost_run_count c.found) (not (nat_lt (hidden_runs c.found) (hidden_runs c.kept))) both in (
-        eqb-true (lost_run_count c.kept) (lost_run_count c.found) parts.0,
-        ltb-false (hidden_runs c.found) (hidden_runs c.kept) (not_true (nat_lt (hidden_runs c.found) (hidden_runs c.kept)) parts.1),
+      let word = lost_line (runs_line (lost_run_count c.before) (hidden_runs c.before)) in
+      let both = passed ((lost_run_count c.after_resets == lost_run_count c.before) && not (nat_lt (hidden_runs c.before) (hidden_runs c.after_resets))) word (new_line (runs_line (lost_run_count c.after_resets) (hidden_runs c.after_resets))) (omega (arith, length-append (codes "lost ") (runs_line (lost_run_count c.before) (hidden_runs c.before)))) no_changes.0 in
+      let parts = and_parts (lost_run_count c.after_resets == lost_run_count c.before) (not (nat_lt (hidden_runs c.before) (hidden_runs c.after_resets))) both in (
+        eqb-true (lost_run_count c.after_resets) (lost_run_count c.before) parts.0,
+        ltb-false (hidden_runs c.before) (hidden_runs c.after_resets) (not_true (nat_lt (hidden_runs c.before) (hidden_runs c.after_resets)) parts.1),
       )
 
-  unchanged : (id : ShardId) → Contains c.ids id → shard_change (row_in c.found c.loose.frames) (row_in c.kept c.loose_now.frames) (owned_by id shards) (owned_by id shards_now) ≡ []
+  unchanged : (id : ShardId) → Contains c.ids id → shard_change (row_in c.before c.loose.frames) (row_in c.after_resets c.loose_now.frames) (owned_by id shards) (owned_by id shards_now) ≡ []
   unchanged id there =
-      All-contains (λ (i : ShardId). shard_change (row_in c.found c.loose.frames) (row_in c.kept c.loose_now.frames) (owned_by i shards) (owned_by i shards_now) ≡ []) c.ids id
-      (all_none (λ (i : ShardId). shard_change (row_in c.found c.loose.frames) (row_in c.kept c.loose_now.frames) (owned_by i shards) (owned_by i shards_now)) c.ids no_changes.1) there
+      All-contains (λ (i : ShardId). shard_change (row_in c.before c.loose.frames) (row_in c.after_resets c.loose_now.frames) (owned_by i shards) (owned_by i shards_now) ≡ []) c.ids id
+      (all_none (λ (i : ShardId). shard_change (row_in c.before c.loose.frames) (row_in c.after_resets c.loose_now.frames) (owned_by i shards) (owned_by i shards_now)) c.ids no_changes.1) there
 
-  sizes_same : (id : ShardId) → Contains c.ids id → size [] before c.found are.found id ≡ size resets after c.kept are.kept id
-  sizes_same id there = same_length (row_in c.found c.loose.frames) (row_in c.kept c.loose_now.frames) (owned_by id shards) (owned_by id shards_now) (unchanged id there)
+  sizes_same : (id : ShardId) → Contains c.ids id → size [] before c.before are.scrubbed_before id ≡ size resets after c.after_resets are.scrubbed_after_resets id
+  sizes_same id there = same_length (row_in c.before c.loose.frames) (row_in c.after_resets c.loose_now.frames) (owned_by id shards) (owned_by id shards_now) (unchanged id there)
 
   -- the same shards are bound
-  old_ids : map (λ b. b.id) c.found.bindings ≡ c.ids
+  old_ids : map (λ b. b.id) c.before.bindings ≡ c.ids
   old_ids =
-      one_rising (map (λ b. b.id) c.found.bindings) c.ids (ids_rise [] before c.found are.found) are.ids.rising
+      one_rising (map (λ b. b.id) c.before.bindings) c.ids (ids_rise [] before c.before are.scrubbed_before) are.ids.rising
       (λ id there. (are.ids.exact id).1 (inl there))
       (λ id there. elim ((are.ids.exact id).0 there) [
         | inl bound ↦ bound
-        | inr bound ↦ some_bound [] before c.found are.found id (omega (arith, sizes_same id there, bound_some resets after c.kept are.kept id bound))
+        | inr bound ↦ some_bound [] before c.before are.scrubbed_before id (omega (arith, sizes_same id there, bound_some resets after c.after_resets are.scrubbed_after_resets id bound))
       ])
 
-  new_ids : map (λ b. b.id) c.kept.bindings ≡ c.ids
+  new_ids : map (λ b. b.id) c.after_resets.bindings ≡ c.ids
   new_ids =
-      one_rising (map (λ b. b.id) c.kept.bindings) c.ids (ids_rise resets after c.kept are.kept) are.ids.rising
+      one_rising (map (λ b. b.id) c.after_resets.bindings) c.ids (ids_rise resets after c.after_resets are.scrubbed_after_resets) are.ids.rising
       (λ id there. (are.ids.exact id).1 (inr there))
       (λ id there. elim ((are.ids.exact id).0 there) [
-        | inl bound ↦ some_bound resets after c.kept are.kept id (omega (arith, sizes_same id there, bound_some [] before c.found are.found id bound))
+        | inl bound ↦ some_bound resets after c.after_resets are.scrubbed_after_resets id (omega (arith, sizes_same id there, bound_some [] before c.before are.scrubbed_before id bound))
         | inr bound ↦ bound
       ])
 
   -- both have a superblock
-  both_there : (generation_of c.found.choice ≡ Some none.old) × (generation_of c.rest.choice ≡ Some none.new)
-  both_there = by (generation_of c.found.choice) (generation_of c.rest.choice) none.count
+  both_there : (generation_of c.before.choice ≡ Some none.old) × (generation_of c.after.choice ≡ Some none.new)
+  both_there = by (generation_of c.before.choice) (generation_of c.after.choice) none.count
     where
       by : (o p : Option ℕ) → both_of o p ≡ Some (none.old, none.new) → (o ≡ Some none.old) × (p ≡ Some none.new)
       by None p e = absurd (none-some (none.old, none.new) e)
@@ -297,17 +297,17 @@ module _ (resets : List ℕ) (before after : Image) (c : Compared) (are : AreCom
           let pair : (a, b) ≡ (none.old, none.new) = same_Some (a, b) (none.old, none.new) e in
           (ap (λ (q : ℕ × ℕ). Some q.0) pair, ap (λ (q : ℕ × ℕ). Some q.1) pair)
 
-  has_before : c.found.plan.has_superblock ≡ true
-  has_before = has_superblock c.found.choice c.found.plan none.old are.found.plan both_there.0
+  has_before : c.before.plan.has_superblock ≡ true
+  has_before = has_superblock c.before.choice c.before.plan none.old are.scrubbed_before.plan both_there.0
 
-  has_kept : c.kept.plan.has_superblock ≡ true
+  has_kept : c.after_resets.plan.has_superblock ≡ true
   has_kept =
-      let plain = plan_before resets c.kept.choice c.kept.plan are.kept.plan in
-      let choice : c.rest.choice ≡ c.kept.choice = one_choice_lem after c.rest.choice c.kept.choice are.rest.choice are.kept.choice in
-      plain.4 ∙ has_superblock c.kept.choice plain.0 none.new plain.1 (sym (ap generation_of choice) ∙ both_there.1)
+      let plain = plan_before resets c.after_resets.choice c.after_resets.plan are.scrubbed_after_resets.plan in
+      let choice : c.after.choice ≡ c.after_resets.choice = one_choice_lem after c.after.choice c.after_resets.choice are.scrubbed_after.choice are.scrubbed_after_resets.choice in
+      plain.4 ∙ has_superblock c.after_resets.choice plain.0 none.new plain.1 (sym (ap generation_of choice) ∙ both_there.1)
 
   -- Without a line of `compare` the superblock, retired extents, runs and shards of the manifest are kept.
-  pub kept : AreKept c.found c.kept c.loose.frames c.loose_now.frames
+  pub kept : AreKept c.before c.after_resets c.loose.frames c.loose_now.frames
   kept = record {
     has = has_before;
     has_now = has_kept;
@@ -317,8 +317,8 @@ module _ (resets : List ℕ) (before after : Image) (c : Compared) (are : AreCom
     fewer = counts.1;
     ids = old_ids ∙ sym new_ids;
     sizes = λ id bound. sizes_same id (among id bound);
-    alike = λ id bound. alike_at (row_in c.found c.loose.frames) (row_in c.kept c.loose_now.frames) (owned_by id shards) (owned_by id shards_now) (unchanged id (among id bound));
+    alike = λ id bound. alike_at (row_in c.before c.loose.frames) (row_in c.after_resets c.loose_now.frames) (owned_by id shards) (owned_by id shards_now) (unchanged id (among id bound));
   }
     where
-      among : (id : ShardId) → HasBinding c.found.bindings id → Contains c.ids id
+      among : (id : ShardId) → HasBinding c.before.bindings id → Contains c.ids id
       among id bound = (are.ids.exact id).1 (inl bound)

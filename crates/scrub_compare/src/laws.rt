@@ -36,18 +36,18 @@ pub fn nothing_is_lost_in_two_steps()
 /// source has, each chunk in the tiling of an extent that isn't to be reset still is one, at its place and of
 /// its form, with its UUID, length and digest.
 pub fn nothing_was_overwritten()
-    ensures bytes { (resets : List ℕ) (before after : Image) (found : Scrubbed) → IsSafe resets before after →
-        IsScrubbed before found → KeepsBytes before after found }
-    ensures chunks { (resets : List ℕ) (before after : Image) (found rest : Scrubbed) → HasWholePages before →
-        IsSafe resets before after → IsScrubbed before found → IsScrubbed after rest →
-        KeepsChunks resets found rest }
+    ensures bytes { (resets : List ℕ) (before after : Image) (found_before : Scrubbed) →
+        IsSafe resets before after → IsScrubbed before found_before → KeepsBytes before after found_before }
+    ensures chunks { (resets : List ℕ) (before after : Image) (found_before found_after : Scrubbed) →
+        HasWholePages before → IsSafe resets before after → IsScrubbed before found_before →
+        IsScrubbed after found_after → KeepsChunks resets found_before found_after }
 {}
 
 /// A law: if what was written between two images is safe, no named locator of the later one points into an
 /// extent that is to be reset.
 pub fn nothing_points_into_resets()
-    ensures { (resets : List ℕ) (before after : Image) (rest : Scrubbed) → IsSafe resets before after →
-        IsScrubbed after rest → NonePointsInto resets rest.checked }
+    ensures { (resets : List ℕ) (before after : Image) (found_after : Scrubbed) → IsSafe resets before after →
+        IsScrubbed after found_after → NonePointsInto resets found_after.checked }
 {}
 
 /// A law: if what was written between two images is safe, it can be undone. Take an image with the bytes of

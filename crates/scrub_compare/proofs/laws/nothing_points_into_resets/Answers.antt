@@ -3,4 +3,4 @@ use Rattle.scrub_compare.proofs.Safe.{none_points}
 use Rattle.scrub_compare.proofs.laws.nothing_points_into_resets.Goals as goal
 
 pub returns : goal.returns
-returns c resets before after rest s = none_points resets before after s.text rest s.safe
+returns c resets before after found_after s = none_points resets before after s.text found_after s.safe
