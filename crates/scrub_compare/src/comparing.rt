@@ -48,8 +48,8 @@ fn judged_with_pages<'d, D: PageSource, G: Gate, R: Threads + Wait + Sync>(
     Ok((judged, pages, takings))
 }
 
-/// What is found on a disk as if these extents, which are ascending, had been reset; `found_after` is what is found
-/// without resets.
+/// What is found on a disk as if these extents, which are ascending, had been reset, by what is found without
+/// resets.
 fn judged_after<'d, D: PageSource, G: Gate, R: Threads + Wait + Sync>(
     rt: &R,
     alloc: Global,

@@ -115,8 +115,8 @@ fn append_extent<D: PageSource, E: PageSource>(
         (room_of_extent found_before.now.scan.plan.geometry found_before.now.scan.all.extents checked extent)
         (pointer_in plan.now extent) extent) first ×
         (string_bytes text.new ≡ string_bytes text.old ++ lines_of_extent resets.now
-        (room_of_extent found_before.now.scan.plan.geometry found_before.now.scan.all.extents checked extent) extent
-        (pointer_in found_before.now.scan.plan extent) (pointer_in plan.now extent) first)) }
+        (room_of_extent found_before.now.scan.plan.geometry found_before.now.scan.all.extents checked extent)
+        extent (pointer_in found_before.now.scan.plan extent) (pointer_in plan.now extent) first)) }
 {
     let scan = &found_before.scan;
     let room = room_of_extent(scan.plan.geometry(), &scan.all, barred, extent);
