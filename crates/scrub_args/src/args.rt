@@ -388,7 +388,6 @@ fn shards_args<'a>(alloc: Global, matches: &ArgMatches<'a>) -> Result<ShardsArgs
     })
 }
 
-/// Whether a flag was given.
 fn flag(matches: &ArgMatches<'_>, name: &str) -> bool
     requires { HasFlag (rows_of (found_of matches.now)) name.now }
     ensures { IsFlagOf (rows_of (found_of matches.now)) name.now result }

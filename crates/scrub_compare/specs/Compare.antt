@@ -77,7 +77,7 @@ written_line x (Some p) = codes "written" ++ spaced (decimal x) ++ spaced (decim
 abbrev pub lines_of_extent : List ℕ → Option ℕ → ℕ → ℕ → ℕ → Option ℕ → List ℕ
 lines_of_extent resets room x old new first = pointer_line resets room x old new ++ written_line x first
 
--- the same by what is found in both images
+-- the lines of extent x by what is found in both images
 abbrev pub lines_in : List ℕ → Scrubbed → Scrubbed → ℕ → Option ℕ → List ℕ
 lines_in resets before after x first =
     lines_of_extent resets (room_at before x) x (pointer_in before.plan x) (pointer_in after.plan x) first
@@ -179,7 +179,7 @@ row_change old new =
     if are_alike old new then []
     else (if has_fallen old new then fallen_word old.best ++ row_line old else lost_line (row_line old) ++ new_line (row_line new))
 
--- the same where one of them may be missing
+-- the lines of what became of a line that one of the two manifests may lack
 abbrev pub change : Option RowValue → Option RowValue → List ℕ
 change None None = []
 change (Some old) None = lost_line (row_line old)

@@ -43,7 +43,7 @@ room_of g checked f = if has_room g checked f then Some (place_in g f) else None
 abbrev pub room_of_extent : Geometry → List Scanned → List Checked → ℕ → Option ℕ
 room_of_extent g all checked x = option_and_then (room_of g checked) (entry_of all x)
 
--- the same by what is found on a disk
+-- the place where extent x has room, if it has, by what is found on a disk
 abbrev pub room_at : Scrubbed → ℕ → Option ℕ
 room_at found x = room_of_extent found.plan.geometry found.all found.checked x
 

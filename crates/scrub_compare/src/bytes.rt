@@ -71,7 +71,6 @@ fn byte_at(extent: &BufferedExtent, page: usize, place: usize) -> Option<u8>
     }
 }
 
-/// Whether bytes are the same.
 fn are_same(old: &[u8], new: &[u8]) -> bool
     ensures { result ≡ bytes_eq old.now new.now }
 {

@@ -170,7 +170,7 @@ fn append_generation(text: &mut String, old: u64, new: u64) -> Result<(), OutOfM
     writeln!(text, " {new}")
 }
 
-/// Appends the last line.
+/// Appends the last line: `safe` with both generations, or `unsafe`.
 fn append_last(text: &mut String, is_safe: bool, old: u64, new: u64) -> Result<(), OutOfMemory>
     ensures { OnOk result (string_bytes text.new ≡ string_bytes text.old ++
         (if is_safe then safe_line old new else unsafe_line)) }

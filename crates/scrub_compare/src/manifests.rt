@@ -28,7 +28,6 @@ use std::alloc::Global;
 use std::fmt::Write;
 use std::thread::Threads;
 
-/// Whether two lists of extents are the same.
 fn are_same(old: &[u32], new: &[u32]) -> bool
     ensures { result ≡ bytes_eq old.now new.now }
 {

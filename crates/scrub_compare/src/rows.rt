@@ -179,7 +179,6 @@ fn append_new(text: &mut String, row: &Row) -> Result<(), OutOfMemory>
     append_row(text, row)
 }
 
-/// Whether two texts are the same.
 fn is_same_text(old: &str, new: &str) -> bool
     ensures { result ≡ bytes_eq old.now new.now }
 {
@@ -273,7 +272,7 @@ fn append_row_change(text: &mut String, old: &Row, new: &Row) -> Result<(), OutO
     append_new(text, new)
 }
 
-/// Appends the same where one of the lines may be missing.
+/// Appends the lines of what became of a line that one of the two manifests may lack.
 fn append_change(text: &mut String, old: &Option<Row>, new: &Option<Row>) -> Result<(), OutOfMemory>
     ensures { OnOk result (string_bytes text.new ≡ string_bytes text.old ++ change old.now new.now) }
 {

@@ -162,11 +162,11 @@ pub record IsManifestFrom (given : Option (List Locator)) (resets : List ℕ) (i
   pub text_is : text ≡ manifest_text found loose.frames
   pub verdict : whole ≡ is_whole found
 
--- the same by the superblock that counts
+-- it is the manifest by the superblock that counts
 abbrev pub IsManifestBut : List ℕ → Image → List ℕ → Bool → Type 0
 IsManifestBut resets image text whole = IsManifestFrom None resets image text whole
 
--- the same without resets
+-- it is that manifest without resets
 abbrev pub IsManifest : Image → List ℕ → Bool → Type 0
 IsManifest image text whole = IsManifestBut [] image text whole
 

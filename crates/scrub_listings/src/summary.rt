@@ -149,7 +149,6 @@ fn verdict_text(verdict: Verdict) -> &'static str
     }
 }
 
-/// Appends the line of the verdict.
 fn append_verdict(text: &mut String, verdict: Verdict) -> Result<(), OutOfMemory>
     ensures { OnOk result (string_bytes text.new ≡ string_bytes text.old ++ verdict_line verdict) }
 {
@@ -175,21 +174,18 @@ fn append_numbers(text: &mut String, numbers: &[(&str, u128)]) -> Result<(), Out
     Ok(())
 }
 
-/// Whether an item is torn.
 fn is_torn(item: &Item) -> bool
     ensures { result ≡ is_torn item.now }
 {
     matches!(item, Item::Torn { .. })
 }
 
-/// Whether an item is noise.
 fn is_noise(item: &Item) -> bool
     ensures { result ≡ is_noise item.now }
 {
     matches!(item, Item::Noise { .. })
 }
 
-/// Whether an item is lost.
 fn is_lost(item: &Item) -> bool
     ensures { result ≡ is_lost item.now }
 {
@@ -208,28 +204,24 @@ fn chunk_bytes(items: &[Item]) -> u32
         .sum()
 }
 
-/// How many items are chunks.
 fn chunk_count(items: &[Item]) -> usize
     ensures { result ≡ count_by is_chunk items.now }
 {
     items.iter().filter(|item| is_chunk(item)).count()
 }
 
-/// How many items are torn.
 fn torn_count(items: &[Item]) -> usize
     ensures { result ≡ count_by is_torn items.now }
 {
     items.iter().filter(|item| is_torn(item)).count()
 }
 
-/// How many items are noise.
 fn noise_count(items: &[Item]) -> usize
     ensures { result ≡ count_by is_noise items.now }
 {
     items.iter().filter(|item| is_noise(item)).count()
 }
 
-/// How many items are lost.
 fn lost_count(items: &[Item]) -> usize
     ensures { result ≡ count_by is_lost items.now }
 {

@@ -150,7 +150,7 @@ spare_doubts_of all checked extents c = spare_doubt c.owner (spares_of all c) (s
 abbrev pub spare_doubts : List Scanned → List Checked → List CandidateValue → List Doubt
 spare_doubts all checked candidates = flat_map (spare_doubts_of all checked (map (λ a. a.extent) candidates)) checked
 
--- the same of one locator by the chunks among which its spares are, and those that stay
+-- the doubts that the spares of one locator make, by the chunks among which its spares are, and those that stay
 abbrev pub spare_doubts_by : List Standing → List Standing → Checked → List Doubt
 spare_doubts_by found stay c = spare_doubt c.owner (spares_by found c) (spares_by stay c)
 

@@ -22,7 +22,7 @@ pub(crate) struct ReclaimParts<'d, D: PageSource> {
     pub locators: LocatorIndex,
     /// The extents that may be reclaimed, by what is freed, falling, and then by number.
     pub candidates: Vec<Candidate>,
-    /// The same extents by number.
+    /// The extents of the candidates, by number.
     pub listed: ExtentSet,
     /// The spares and the loose copies of these locators, and the crowded extents.
     pub copies: Copies,

@@ -67,7 +67,7 @@ fn safe_spares(
     Ok(stay)
 }
 
-/// How many bytes a frame takes.
+/// How many bytes a frame takes: its payload, and what its form adds.
 pub(crate) fn frame_bytes(spare: &Standing) -> u64
     ensures { result ≡ frame_bytes spare.now }
 {
