@@ -318,7 +318,7 @@ class Laws(RoomCase):
         rotten(choice, drive)
         found = scrub(drive.image())
         own = [word for place in places_of(found.choice["runs"]) for word in ("--run", place)]
-        if not own or found.lost_runs() or superblock_remarks(drive.image()):
+        if not own or found.lost_run_count() or superblock_remarks(drive.image()):
             return
         crowded = loose_frames(drive.image(), range(1, drive.extents))[1]
         today, then = (dict(files_of(self.ran("shards", drive, *words)[1])) for words in ((), own))

@@ -18,8 +18,8 @@ use Rattle.clap.specs.declared.error.kind.ErrorKind.TheVariants.{DisplayVersion,
 use Rattle.clap.proofs.OnLiterals.{clap_on_literals}
 use Rattle.clap.proofs.WalkLemmas.{one_text-rows, raw_values-rows}
 use Rattle.clap_walk.specs.Rows.{HasNumberTo}
-use Rattle.scrub_args.specs.declared.args.Wanted.{Wanted}
-use Rattle.scrub_args.specs.declared.args.Wanted.TheVariants.{Report, Index, Locators, Runs, Summary, Reclaimable}
+use Rattle.scrub_args.specs.declared.args.ScanOutput.{ScanOutput}
+use Rattle.scrub_args.specs.declared.args.ScanOutput.TheVariants.{Report, Index, Locators, Runs, Summary, Reclaimable}
 use Rattle.scrub_args.specs.declared.args.ArgsFault.{ArgsFault}
 use Rattle.scrub_args.specs.declared.args.ArgsFault.TheVariants.{Refused, Help, OutOfMemory}
 use Rattle.scrub_args.specs.CommandLine.{shardscrub_app}
@@ -211,11 +211,11 @@ module _ (command : Option (Text × List Row)) (name : Text) (found : List Row) 
       go (Some met) whole named has = rw (same_Some _ _ named, same_Some _ _ has) whole
 
   -- A command that lists the whole disk has an image, sizes or none, and at most 64 workers.
-  pub disk_of_whole : (wanted : Wanted) → name ≡ command_of wanted → HasScan found
+  pub disk_of_whole : (wanted : ScanOutput) → name ≡ command_of wanted → HasScan found
   unfolding clap_on_literals
   disk_of_whole wanted is = go wanted (met_whole (command_of wanted) is)
     where
-      go : (wanted : Wanted) → IsWholeCommand (command_of wanted) found → HasScan found
+      go : (wanted : ScanOutput) → IsWholeCommand (command_of wanted) found → HasScan found
       go Report has = has
       go Index has = has
       go Locators has = has

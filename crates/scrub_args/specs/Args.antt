@@ -18,9 +18,9 @@ use Rattle.scrub_args.specs.declared.args.ShardArgs.{ShardArgs}
 use Rattle.scrub_args.specs.declared.args.ShardsArgs.{ShardsArgs}
 use Rattle.scrub_args.specs.declared.args.SizesArgs.{SizesArgs}
 use Rattle.scrub_args.specs.declared.args.Request.{Request}
-use Rattle.scrub_args.specs.declared.args.Request.TheVariants.{Demo, Items, Disk, Manifest, Compare, Shard, Shards, Superblocks, Sizes}
-use Rattle.scrub_args.specs.declared.args.Wanted.{Wanted}
-use Rattle.scrub_args.specs.declared.args.Wanted.TheVariants.{Report, Index, Locators, Runs, Summary, Reclaimable}
+use Rattle.scrub_args.specs.declared.args.Request.TheVariants.{Demo, Items, Scan, Manifest, Compare, Shard, Shards, Superblocks, Sizes}
+use Rattle.scrub_args.specs.declared.args.ScanOutput.{ScanOutput}
+use Rattle.scrub_args.specs.declared.args.ScanOutput.TheVariants.{Report, Index, Locators, Runs, Summary, Reclaimable}
 use Rattle.scrub_args.specs.declared.args.ArgsFault.{ArgsFault}
 use Rattle.scrub_args.specs.declared.args.ArgsFault.TheVariants.{Refused, Help, OutOfMemory}
 use Rattle.scrub_args.specs.Accepting.{first_unacceptable, refusal_of}
@@ -137,7 +137,7 @@ pub record AreAccepted (found : List Row) (accepted : List (List ℕ)) : Type 0 
   pub acceptable : first_unacceptable (accepted_of found) ≡ None
 
 -- the command by which this is wanted of a disk
-abbrev pub command_of : Wanted → Text
+abbrev pub command_of : ScanOutput → Text
 command_of Report = codes "scan"
 command_of Index = codes "index"
 command_of Locators = codes "locators"
@@ -150,7 +150,7 @@ abbrev pub IsLastOf : List Row → Option ℕ → Type 0
 IsLastOf found last = MatchOption last (one_of (codes "last") found ≡ None) (IsLongNumberOf found (codes "last"))
 
 -- what is wanted has the values that were found: the generation of the last superblock, and the doubts that are accepted
-abbrev pub IsWantedWith : List Row → Wanted → Type 0
+abbrev pub IsWantedWith : List Row → ScanOutput → Type 0
 IsWantedWith found (Summary last) = IsLastOf found last
 IsWantedWith found (Reclaimable accepted last) = AreAccepted found accepted × IsLastOf found last
 IsWantedWith found wanted = Unit {0}
@@ -170,7 +170,7 @@ pub record AreItemsArgs (found : List Row) (args : ItemsArgs) : Type 0 where
 abbrev pub IsAskedBy : Option (Text × List Row) → Request → Type 0
 IsAskedBy command Demo = (command ≡ None) ⊎ ((found : List Row) × (command ≡ Some (codes "demo", found)))
 IsAskedBy command (Items args) = (found : List Row) × (command ≡ Some (codes "items", found)) × AreItemsArgs found args
-IsAskedBy command (Disk wanted args) =
+IsAskedBy command (Scan wanted args) =
     (found : List Row) × (command ≡ Some (command_of wanted, found)) × IsWantedWith found wanted × AreScanArgs found args
 IsAskedBy command (Manifest args) =
     (found : List Row) × (command ≡ Some (codes "manifest", found)) × AreManifestArgs found args

@@ -33,7 +33,7 @@ pub enum Request<'a> {
     /// List the items of one extent.
     Items(ItemsArgs<'a>),
     /// Print what is wanted of a whole disk.
-    Disk(Wanted<'a>, ScanArgs<'a>),
+    Scan(ScanOutput<'a>, ScanArgs<'a>),
     /// List what a disk holds, wherever it lies.
     Manifest(ManifestArgs<'a>),
     /// Say whether what was written to a disk between two images lost anything.
@@ -50,7 +50,7 @@ pub enum Request<'a> {
 
 /// What a command on the whole disk prints, other than `manifest`, `compare`, `shard` and `shards`.
 #[derive(Debug, Drop)]
-pub enum Wanted<'a> {
+pub enum ScanOutput<'a> {
     /// The report.
     Report,
     /// The index that can be recovered.
@@ -246,7 +246,7 @@ fn request_of<'a>(alloc: Global, matches: &ArgMatches<'a>) -> Result<Request<'a>
         Some((command::SIZES, matches)) => Ok(Request::Sizes(sizes_args(matches))),
         Some((name, matches)) => {
             let wanted = wanted_by(alloc, name, matches)?;
-            Ok(Request::Disk(wanted, scan_args(alloc, matches)?))
+            Ok(Request::Scan(wanted, scan_args(alloc, matches)?))
         }
     }
 }
@@ -256,7 +256,7 @@ fn wanted_by<'a>(
     alloc: Global,
     name: &str,
     matches: &ArgMatches<'a>,
-) -> Result<Wanted<'a>, ArgsFault>
+) -> Result<ScanOutput<'a>, ArgsFault>
     requires disk { is_disk_command name.now ≡ true }
     requires last { is_dated_command name.now ≡ true →
         MayHaveLongNumber (rows_of (found_of matches.now)) (codes "last") }
@@ -265,14 +265,14 @@ fn wanted_by<'a>(
         (IsRowsFault (Some (name.now, rows_of (found_of matches.now)))) }
 {
     match name {
-        command::SCAN => Ok(Wanted::Report),
-        command::INDEX => Ok(Wanted::Index),
-        command::LOCATORS => Ok(Wanted::Locators),
-        command::RUNS => Ok(Wanted::Runs),
-        command::SUMMARY => Ok(Wanted::Summary(last(matches))),
+        command::SCAN => Ok(ScanOutput::Report),
+        command::INDEX => Ok(ScanOutput::Index),
+        command::LOCATORS => Ok(ScanOutput::Locators),
+        command::RUNS => Ok(ScanOutput::Runs),
+        command::SUMMARY => Ok(ScanOutput::Summary(last(matches))),
         command::RECLAIMABLE => {
             let accepted = accepted_doubts(alloc, matches)?;
-            Ok(Wanted::Reclaimable(accepted, last(matches)))
+            Ok(ScanOutput::Reclaimable(accepted, last(matches)))
         }
         _ => unreachable!(),
     }
@@ -388,7 +388,6 @@ fn shards_args<'a>(alloc: Global, matches: &ArgMatches<'a>) -> Result<ShardsArgs
     })
 }
 
-/// Whether a flag was given.
 fn flag(matches: &ArgMatches<'_>, name: &str) -> bool
     requires { HasFlag (rows_of (found_of matches.now)) name.now }
     ensures { IsFlagOf (rows_of (found_of matches.now)) name.now result }

@@ -126,11 +126,11 @@ pub fn command_line<'a>(alloc: Global) -> Result<Command<'a>, AllocError>
 {
     bare_program(alloc)?
         .subcommand(summary_command(alloc)?)?
-        .subcommand(looking_command(alloc, SCAN, SCAN_ABOUT, SCAN_AFTER_HELP)?)?
+        .subcommand(command_without_sizes(alloc, SCAN, SCAN_ABOUT, SCAN_AFTER_HELP)?)?
         .subcommand(shard_command(alloc)?)?
         .subcommand(shards_command(alloc)?)?
         .subcommand(disk_command(alloc, INDEX, INDEX_ABOUT, INDEX_AFTER_HELP)?)?
-        .subcommand(looking_command(alloc, LOCATORS, LOCATORS_ABOUT, LOCATORS_AFTER_HELP)?)?
+        .subcommand(command_without_sizes(alloc, LOCATORS, LOCATORS_ABOUT, LOCATORS_AFTER_HELP)?)?
         .subcommand(manifest_command(alloc)?)?
         .subcommand(disk_command(alloc, RUNS, RUNS_ABOUT, RUNS_AFTER_HELP)?)?
         .subcommand(reclaimable_command(alloc)?)?
@@ -168,8 +168,8 @@ fn disk_command<'a>(
     with_image(alloc, command)
 }
 
-/// The same for a command that is only looked at, so that the sizes may be left out.
-fn looking_command<'a>(
+/// A command like those of `disk_command` whose sizes may be left out, since only a person reads what it prints.
+fn command_without_sizes<'a>(
     alloc: Global,
     name: &'a str,
     about: &'a str,
@@ -184,7 +184,6 @@ fn looking_command<'a>(
     with_image(alloc, command)
 }
 
-/// The command `manifest`.
 fn manifest_command<'a>(alloc: Global) -> Result<Command<'a>, AllocError>
     ensures { IfOk result (λ r. shape_of r ≡ manifest_shape) }
 {
@@ -224,7 +223,6 @@ fn run<'a>(alloc: Global) -> Arg<'a>
         .action(ArgAction::Append)
 }
 
-/// The command `shard`.
 fn shard_command<'a>(alloc: Global) -> Result<Command<'a>, AllocError>
     ensures { IfOk result (λ r. shape_of r ≡ shard_shape) }
 {
@@ -255,7 +253,6 @@ fn id<'a>(alloc: Global) -> Arg<'a>
         .required(true)
 }
 
-/// The command `shards`.
 fn shards_command<'a>(alloc: Global) -> Result<Command<'a>, AllocError>
     ensures { IfOk result (λ r. shape_of r ≡ shards_shape) }
 {
@@ -286,7 +283,6 @@ fn partial<'a>(alloc: Global) -> Arg<'a>
         .action(ArgAction::SetTrue)
 }
 
-/// The command `summary`.
 fn summary_command<'a>(alloc: Global) -> Result<Command<'a>, AllocError>
     ensures { IfOk result (λ r. shape_of r ≡ summary_shape) }
 {
@@ -311,7 +307,6 @@ fn last<'a>(alloc: Global) -> Arg<'a>
         .value_parser(value_parser!(u64))
 }
 
-/// The command `reclaimable`.
 fn reclaimable_command<'a>(alloc: Global) -> Result<Command<'a>, AllocError>
     ensures { IfOk result (λ r. shape_of r ≡ reclaimable_shape) }
 {
@@ -357,7 +352,6 @@ fn compare_command<'a>(alloc: Global) -> Result<Command<'a>, AllocError>
     with_images(alloc, command)
 }
 
-/// The command `superblocks`.
 fn superblocks_command<'a>(alloc: Global) -> Result<Command<'a>, AllocError>
     ensures { IfOk result (λ r. shape_of r ≡ superblocks_shape) }
 {
@@ -425,7 +419,7 @@ fn with_geometry<'a>(alloc: Global, command: Command<'a>) -> Result<Command<'a>,
         .arg(number(alloc, EXTENTS, "COUNT", EXTENTS_HELP).required(true))
 }
 
-/// Adds the same options, which may be left out.
+/// Adds the options for the sizes of the disk, which may be left out.
 fn with_free_geometry<'a>(alloc: Global, command: Command<'a>) -> Result<Command<'a>, AllocError>
     ensures { IfOk result (λ r. app_of r ≡ with_rules (app_of command.entry) free_size_rules) }
 {

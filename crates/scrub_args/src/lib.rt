@@ -12,7 +12,7 @@ pub mod pair;
 pub use accepting::AcceptedDoubts;
 pub use args::{
     ArgsFault, CompareArgs, GivenSizes, ImageArgs, ItemsArgs, ManifestArgs, Request, ScanArgs,
-    ShardArgs, ShardsArgs, SizesArgs, Wanted, read_args,
+    ScanOutput, ShardArgs, ShardsArgs, SizesArgs, read_args,
 };
 pub use command::VERSION;
 pub use id::shard_id;

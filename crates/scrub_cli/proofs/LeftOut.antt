@@ -11,7 +11,7 @@ use Rattle.scrub_args.specs.declared.args.GivenSizes.{GivenSizes}
 use Rattle.scrub_args.specs.declared.args.ImageArgs.{ImageArgs}
 use Rattle.scrub_args.specs.declared.args.ItemsArgs.{ItemsArgs}
 use Rattle.scrub_args.specs.declared.args.Request.{Request}
-use Rattle.scrub_args.specs.declared.args.Request.TheVariants.{Demo, Items, Disk, Manifest, Compare, Shard, Shards, Superblocks, Sizes as sizes_of_image}
+use Rattle.scrub_args.specs.declared.args.Request.TheVariants.{Demo, Items, Scan, Manifest, Compare, Shard, Shards, Superblocks, Sizes as sizes_of_image}
 use Rattle.scrub_args.specs.declared.args.ShardArgs.{ShardArgs}
 use Rattle.scrub_args.specs.declared.args.ShardsArgs.{ShardsArgs}
 use Rattle.scrub_shard.specs.declared.shard.ShardAnswer.{ShardAnswer}
@@ -318,7 +318,7 @@ answer_left_out known maps (Items args) text outcome x out = (
     listed = x.listed;
   },
 )
-answer_left_out known maps (Disk wanted args) text outcome x out = (
+answer_left_out known maps (Scan wanted args) text outcome x out = (
   given x.disk.geometry,
   found_for known maps args.image x.disk.geometry out x.disk.sizes,
   record { image = x.image; disk = disk_with known maps args.image out x.image x.disk; answered = x.answered },
@@ -357,7 +357,7 @@ pub fault_left_out : (known : List ℕ → KnownRaw) (maps : KnownMaps) (request
     ⊎ ((s : GivenSizes) × FindsSizes known maps request s × IsFaultOf known maps (request_with request s) fault)
 fault_left_out known maps Demo fault is out = absurd out
 fault_left_out known maps (Items args) fault is out = items_fault_with known maps args out fault is
-fault_left_out known maps (Disk wanted args) fault is out = scan_fault_with known maps args.image out fault is
+fault_left_out known maps (Scan wanted args) fault is out = scan_fault_with known maps args.image out fault is
 fault_left_out known maps (Manifest args) fault is out = absurd out
 fault_left_out known maps (Compare args) fault is out = absurd out
 fault_left_out known maps (Shard args) fault is out = shard_fault_with known maps args out fault is

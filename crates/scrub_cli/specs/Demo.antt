@@ -12,7 +12,7 @@ use Rattle.scrub_run.specs.Run.{run_bytes}
 use Rattle.scrub_super.specs.Contents.{Contents}
 use Rattle.scrub_super.specs.Record.{record_bytes}
 use Rattle.scrub_cli.specs.declared.process.outcome.Outcome.{Outcome}
-use Rattle.scrub_args.specs.declared.args.Wanted.TheVariants.{Report}
+use Rattle.scrub_args.specs.declared.args.ScanOutput.TheVariants.{Report}
 use Rattle.scrub_cli.specs.Scan.{IsDiskAnswer}
 
 -- the UUID of the demo's chunk: sixteen bytes 11 hexadecimal

@@ -20,7 +20,7 @@ pub record LosesPagesIn (blocks : List MapBlock) (e : ℕ) (before image : Image
   pub kept : (q : ℕ) → q < before.geometry.pages →
       ¬ IsLostBlock blocks before.geometry.page (page_number before.geometry e q) → image.page e q ≡ before.page e q
 
--- the same with a map; without one the image is as it was
+-- with a map the extent loses the pages that it lacks; without one the image is as it was
 abbrev pub LosesByMapIn : Option (List MapBlock) → ℕ → Image → Image → Type 0
 LosesByMapIn None e before image = image ≡ before
 LosesByMapIn (Some blocks) e before image = LosesPagesIn blocks e before image

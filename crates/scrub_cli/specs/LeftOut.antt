@@ -6,7 +6,7 @@ use Rattle.scrub_listings.specs.declared.sizes_listing.SizesFound.TheVariants.{C
 use Rattle.scrub_args.specs.declared.args.GivenSizes.{GivenSizes}
 use Rattle.scrub_args.specs.declared.args.ImageArgs.{ImageArgs}
 use Rattle.scrub_args.specs.declared.args.Request.{Request}
-use Rattle.scrub_args.specs.declared.args.Request.TheVariants.{Items, Disk, Shard, Shards, Superblocks}
+use Rattle.scrub_args.specs.declared.args.Request.TheVariants.{Items, Scan, Shard, Shards, Superblocks}
 use Rattle.scrub_cli.specs.declared.process.fault.Fault.{Fault}
 use Rattle.scrub_cli.specs.DiskGeometry.{AreSizesFound, IsGeometryFault}
 use Rattle.scrub_cli.specs.KnownFiles.{KnownMaps, KnownRaw}
@@ -14,7 +14,7 @@ use Rattle.scrub_cli.specs.KnownFiles.{KnownMaps, KnownRaw}
 -- the arguments on the disk and its image of a request whose sizes may be left out
 abbrev pub image_args : Request → Option ImageArgs
 image_args (Items args) = Some args.image
-image_args (Disk wanted args) = Some args.image
+image_args (Scan wanted args) = Some args.image
 image_args (Shard args) = Some args.scan.image
 image_args (Shards args) = Some args.scan.image
 image_args (Superblocks args) = Some args
@@ -27,7 +27,7 @@ with_sizes args s = record args { sizes = Some s }
 -- the same request with these sizes
 abbrev pub request_with : Request → GivenSizes → Request
 request_with (Items args) s = Items (record args { image = with_sizes args.image s })
-request_with (Disk wanted args) s = Disk wanted (record args { image = with_sizes args.image s })
+request_with (Scan wanted args) s = Scan wanted (record args { image = with_sizes args.image s })
 request_with (Shard args) s = Shard (record args { scan = record args.scan { image = with_sizes args.scan.image s } })
 request_with (Shards args) s = Shards (record args { scan = record args.scan { image = with_sizes args.scan.image s } })
 request_with (Superblocks args) s = Superblocks (with_sizes args s)

@@ -10,8 +10,8 @@ use Rattle.scrub_listings.specs.Locators.{IsLocatorListing}
 use Rattle.scrub_listings.specs.Summary.{IsSummary}
 use Rattle.scrub_reclaim.specs.Doubts.{Acceptance}
 use Rattle.scrub_reclaim.specs.Reclaimable.{AreReclaimLines}
-use Rattle.scrub_args.specs.declared.args.Wanted.{Wanted}
-use Rattle.scrub_args.specs.declared.args.Wanted.TheVariants.{Report, Index, Locators, Runs, Summary, Reclaimable}
+use Rattle.scrub_args.specs.declared.args.ScanOutput.{ScanOutput}
+use Rattle.scrub_args.specs.declared.args.ScanOutput.TheVariants.{Report, Index, Locators, Runs, Summary, Reclaimable}
 use Rattle.scrub_cli.specs.declared.process.fault.Fault.{Fault}
 use Rattle.scrub_cli.specs.declared.process.fault.Fault.TheVariants.{Geometry, NoSizes, UncertainSizes, NoMap, MapLine, NoImage, OutOfMemory}
 use Rattle.scrub_cli.specs.declared.process.outcome.Outcome.{Outcome}
@@ -29,7 +29,7 @@ acceptance lines last = record { lines = lines; last = last }
 -- the text is what is wanted of the image, with the outcome: its report or its index, and whether it is clean; the lines of its
 -- named locators; those of the index runs that are found, and whether each page can be read; its summary; or the lines of what may
 -- be reclaimed
-abbrev pub IsDiskAnswer : Wanted → Image → List ℕ → Outcome → Type 0
+abbrev pub IsDiskAnswer : ScanOutput → Image → List ℕ → Outcome → Type 0
 IsDiskAnswer Report image text outcome =
     (a : AnswerValue) × IsScrubAnswer image a × (text ≡ a.report) × (outcome ≡ outcome_of a.is_clean)
 IsDiskAnswer Index image text outcome =
@@ -41,7 +41,7 @@ IsDiskAnswer (Reclaimable lines last) image text outcome =
     (clear : Bool) × AreReclaimLines image (acceptance lines last) text clear × (outcome ≡ outcome_of clear)
 
 -- whether workers scan the disk for what is wanted: index runs are found without a scan
-abbrev pub is_scanned : Wanted → Bool
+abbrev pub is_scanned : ScanOutput → Bool
 is_scanned Runs = false
 is_scanned wanted = true
 
@@ -52,14 +52,14 @@ pub record IsDiskOf (known : KnownRaw) (maps : KnownMaps) (args : ImageArgs) (im
   pub loaded : IsLoadedDisk known maps args geometry image
 
 -- the text is what is wanted of an image that was loaded so, with its outcome
-pub record IsScanAnswer (wanted : Wanted) (known : KnownRaw) (maps : KnownMaps) (args : ImageArgs) (text : List ℕ)
+pub record IsScanAnswer (wanted : ScanOutput) (known : KnownRaw) (maps : KnownMaps) (args : ImageArgs) (text : List ℕ)
     (outcome : Outcome) : Type 0 where
   pub image : Image
   pub disk : IsDiskOf known maps args image
   pub answered : IsDiskAnswer wanted image text outcome
 
 -- the text is what is wanted of an image that was loaded so, and this is what the workers that were asked for took of it
-pub record AreTakingsOf (wanted : Wanted) (known : KnownRaw) (maps : KnownMaps) (args : ScanArgs) (text : List ℕ)
+pub record AreTakingsOf (wanted : ScanOutput) (known : KnownRaw) (maps : KnownMaps) (args : ScanArgs) (text : List ℕ)
     (outcome : Outcome) (takings : TakingsValue) : Type 0 where
   pub image : Image
   pub disk : IsDiskOf known maps args.image image

@@ -40,7 +40,7 @@ fn answer<'a, R: Threads + Wait + Sync, I: Images>(
     match request {
         Request::Demo => Ok(demo(rt, alloc)?.0),
         Request::Items(args) => items(alloc, &args, images),
-        Request::Disk(wanted, args) => on_disk(rt, alloc, &args, images, &wanted),
+        Request::Scan(wanted, args) => on_disk(rt, alloc, &args, images, &wanted),
         Request::Manifest(args) => Ok(manifest(rt, alloc, &args, images)?.0),
         Request::Compare(args) => Ok(compare(rt, alloc, &args, images)?.0),
         Request::Shard(args) => Ok(shard(rt, alloc, &args, images)?.0),

@@ -12,7 +12,7 @@ use Rattle.scrub_check.specs.declared.statuses.checked.Checked.{Checked}
 use Rattle.scrub_loose.specs.Loose.{AreLoose, LooseValue}
 use Rattle.scrub_found.specs.Resets.{IsScrubbedBut}
 use Rattle.scrub_found.specs.Scrubbed.{Scrubbed, IsScrubbed}
-use Rattle.scrub_listings.specs.Manifest.{IsManifest, lost_runs, manifest_text, of_shards}
+use Rattle.scrub_listings.specs.Manifest.{IsManifest, lost_run_count, manifest_text, of_shards}
 use Rattle.scrub_reclaim.specs.Reset.{IsForeseen}
 use Rattle.scrub_reclaim.proofs.Reset.{best_as_foreseen, named_as_foreseen}
 use Rattle.scrub_compare.specs.Compare.{Compared, RowValue, are_alike, has_no_less, owned_by, row_in}
@@ -59,7 +59,7 @@ kept_more s t u ls ms ns one other = record {
 -- A reset that is foreseen keeps the manifest.
 pub kept_as_foreseen : (extents : List ℕ) (before after : Image) (found rest : Scrubbed) (loose others : LooseValue) →
     IsScrubbedBut extents before found → IsScrubbed after rest → AreLoose extents before found.plan loose → AreLoose [] after rest.plan others →
-    IsForeseen extents before after → found.plan.has_superblock ≡ true → lost_runs found ≡ 0 → AreKept found rest loose.frames others.frames
+    IsForeseen extents before after → found.plan.has_superblock ≡ true → lost_run_count found ≡ 0 → AreKept found rest loose.frames others.frames
 kept_as_foreseen extents before after found rest loose others x y l m f =
     kept_named found rest loose.frames others.frames (named_as_foreseen extents before after found rest x y f)
     (λ id n c is. best_as_foreseen extents before after found rest x y f loose others l m c)
@@ -68,14 +68,14 @@ kept_as_foreseen extents before after found rest loose others x y l m f =
 pub nothing_lost : (resets : List ℕ) (before after other : Image) (a b : List ℕ) (v w : Bool) → IsSafe resets before after → IsForeseen resets after other →
     IsManifest before a v → IsManifest other b w → IsSameButMore a b
 nothing_lost resets before after other a b v w s f x y =
-    subst (λ (t : List ℕ). IsSameButMore t b) (sym (text_of_found before a v c.found c.loose x s.safe.are.found s.safe.are.loose))
-    (subst (λ (t : List ℕ). IsSameButMore (manifest_text c.found c.loose.frames) t) (sym y.text_is)
-    (kept_text [] [] before other c.found y.found c.loose.frames y.loose.frames s.safe.are.found y.scrubbed
-    (kept_more c.found c.kept y.found c.loose.frames c.loose_now.frames y.loose.frames first
-    (kept_as_foreseen resets after other c.kept y.found c.loose_now y.loose s.safe.are.kept y.scrubbed s.safe.are.loose_now y.are_loose f first.has_now first.read_now))))
+    subst (λ (t : List ℕ). IsSameButMore t b) (sym (text_of_found before a v c.before c.loose x s.safe.are.scrubbed_before s.safe.are.loose))
+    (subst (λ (t : List ℕ). IsSameButMore (manifest_text c.before c.loose.frames) t) (sym y.text_is)
+    (kept_text [] [] before other c.before y.found c.loose.frames y.loose.frames s.safe.are.scrubbed_before y.scrubbed
+    (kept_more c.before c.after_resets y.found c.loose.frames c.loose_now.frames y.loose.frames first
+    (kept_as_foreseen resets after other c.after_resets y.found c.loose_now y.loose s.safe.are.scrubbed_after_resets y.scrubbed s.safe.are.loose_now y.are_loose f first.has_now first.read_now))))
   where
     c : Compared
     c = s.safe.compared
 
-    first : AreKept c.found c.kept c.loose.frames c.loose_now.frames
+    first : AreKept c.before c.after_resets c.loose.frames c.loose_now.frames
     first = kept resets before after c s.safe.are (no_line resets c (sym s.safe.verdict))

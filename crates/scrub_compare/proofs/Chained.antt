@@ -16,7 +16,7 @@ use Rattle.scrub_check.specs.Spares.{frames, spares_of}
 use Rattle.scrub_loose.specs.Loose.{AreLoose, LooseValue, best_of, loose_of}
 use Rattle.scrub_found.specs.Resets.{IsScrubbedBut}
 use Rattle.scrub_found.specs.Scrubbed.{Scrubbed, IsScrubbed}
-use Rattle.scrub_listings.specs.Manifest.{IsManifest, lost_runs, manifest_text}
+use Rattle.scrub_listings.specs.Manifest.{IsManifest, lost_run_count, manifest_text}
 use Rattle.scrub_reclaim.specs.Copy.{rank}
 use Rattle.scrub_reclaim.specs.Reset.{IsForeseen, NameTheSame}
 use Rattle.scrub_reclaim.proofs.BestCopies.{as_good, first_of, loose_among, none_in_nil, not_nil}
@@ -132,7 +132,7 @@ module _ (resets : List ℕ) (image : Image) (kept_there rest : Scrubbed) (loose
       (one.0, one.1, loose_was one.0 (loose_among c kept_there.all rest.all loose.frames loose_now.frames one.0 one.1).2))
 
   -- Without the resets the manifest is kept.
-  pub without_resets : kept_there.plan.has_superblock ≡ true → lost_runs kept_there ≡ 0 → AreKept kept_there rest loose.frames loose_now.frames
+  pub without_resets : kept_there.plan.has_superblock ≡ true → lost_run_count kept_there ≡ 0 → AreKept kept_there rest loose.frames loose_now.frames
   without_resets = kept_named kept_there rest loose.frames loose_now.frames named_back (λ id n c is. no_worse c)
 
 -- ---- two steps
@@ -141,13 +141,13 @@ module _ (resets : List ℕ) (image : Image) (kept_there rest : Scrubbed) (loose
 pub nothing_lost_in_two : (resets others : List ℕ) (before after later other : Image) (a b : List ℕ) (v w : Bool) → IsSafe resets before after →
     IsSafe others after later → IsForeseen others later other → IsManifest before a v → IsManifest other b w → IsSameButMore a b
 nothing_lost_in_two resets others before after later other a b v w s t f x y =
-    subst (λ (u : List ℕ). IsSameButMore u b) (sym (text_of_found before a v c.found c.loose x s.safe.are.found s.safe.are.loose))
-    (subst (λ (u : List ℕ). IsSameButMore (manifest_text c.found c.loose.frames) u) (sym y.text_is)
-    (kept_text [] [] before other c.found y.found c.loose.frames y.loose.frames s.safe.are.found y.scrubbed
-    (kept_more c.found d.kept y.found c.loose.frames d.loose_now.frames y.loose.frames
-    (kept_more c.found d.found d.kept c.loose.frames d.loose.frames d.loose_now.frames
-    (kept_more c.found c.kept d.found c.loose.frames c.loose_now.frames d.loose.frames first middle) second)
-    (kept_as_foreseen others later other d.kept y.found d.loose_now y.loose t.safe.are.kept y.scrubbed t.safe.are.loose_now y.are_loose f second.has_now second.read_now))))
+    subst (λ (u : List ℕ). IsSameButMore u b) (sym (text_of_found before a v c.before c.loose x s.safe.are.scrubbed_before s.safe.are.loose))
+    (subst (λ (u : List ℕ). IsSameButMore (manifest_text c.before c.loose.frames) u) (sym y.text_is)
+    (kept_text [] [] before other c.before y.found c.loose.frames y.loose.frames s.safe.are.scrubbed_before y.scrubbed
+    (kept_more c.before d.after_resets y.found c.loose.frames d.loose_now.frames y.loose.frames
+    (kept_more c.before d.before d.after_resets c.loose.frames d.loose.frames d.loose_now.frames
+    (kept_more c.before c.after_resets d.before c.loose.frames c.loose_now.frames d.loose.frames first middle) second)
+    (kept_as_foreseen others later other d.after_resets y.found d.loose_now y.loose t.safe.are.scrubbed_after_resets y.scrubbed t.safe.are.loose_now y.are_loose f second.has_now second.read_now))))
   where
     c : Compared
     c = s.safe.compared
@@ -155,13 +155,13 @@ nothing_lost_in_two resets others before after later other a b v w s t f x y =
     d : Compared
     d = t.safe.compared
 
-    first : AreKept c.found c.kept c.loose.frames c.loose_now.frames
+    first : AreKept c.before c.after_resets c.loose.frames c.loose_now.frames
     first = kept resets before after c s.safe.are (no_line resets c (sym s.safe.verdict))
 
-    middle : AreKept c.kept d.found c.loose_now.frames d.loose.frames
+    middle : AreKept c.after_resets d.before c.loose_now.frames d.loose.frames
     middle =
-        without_resets resets after c.kept d.found c.loose_now d.loose s.safe.are.kept t.safe.are.found s.safe.are.loose_now t.safe.are.loose
-        (none_points resets before after s.text d.found s.safe t.safe.are.found) first.has_now first.read_now
+        without_resets resets after c.after_resets d.before c.loose_now d.loose s.safe.are.scrubbed_after_resets t.safe.are.scrubbed_before s.safe.are.loose_now t.safe.are.loose
+        (none_points resets before after s.text d.before s.safe t.safe.are.scrubbed_before) first.has_now first.read_now
 
-    second : AreKept d.found d.kept d.loose.frames d.loose_now.frames
+    second : AreKept d.before d.after_resets d.loose.frames d.loose_now.frames
     second = kept others after later d t.safe.are (no_line others d (sym t.safe.verdict))

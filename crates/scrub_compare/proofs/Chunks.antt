@@ -226,34 +226,34 @@ readable_all image whole e w found inside is none p here = by (image.page e q) r
 module _ (resets : List ℕ) (before after : Image) (sizes : after.geometry ≡ before.geometry) (c : Compared)
     (are : AreCompared resets before after c) (none : HasNoLine resets c) (whole : HasWholePages before) where
   -- the same extents are retired
-  pub retired_now : c.rest.plan.retired ≡ c.found.plan.retired
+  pub retired_now : c.after.plan.retired ≡ c.before.plan.retired
   retired_now =
-      let plain = plan_before resets c.kept.choice c.kept.plan are.kept.plan in
-      let choice : c.kept.choice ≡ c.rest.choice = one_choice_lem after c.kept.choice c.rest.choice are.kept.choice are.rest.choice in
-      let same : plain.0 ≡ c.rest.plan =
-      one_plan c.rest.choice plain.0 c.rest.plan (subst (λ (o : Choice). plain.0 ≡ plan_of o) choice plain.1) are.rest.plan in
+      let plain = plan_before resets c.after_resets.choice c.after_resets.plan are.scrubbed_after_resets.plan in
+      let choice : c.after_resets.choice ≡ c.after.choice = one_choice_lem after c.after_resets.choice c.after.choice are.scrubbed_after_resets.choice are.scrubbed_after.choice in
+      let same : plain.0 ≡ c.after.plan =
+      one_plan c.after.choice plain.0 c.after.plan (subst (λ (o : Choice). plain.0 ≡ plan_of o) choice plain.1) are.scrubbed_after.plan in
       ap (λ (p : PlanValue). p.retired) (sym same) ∙ sym plain.2 ∙ same_retired resets c none
 
-  numbers : extent_numbers c.rest.all ≡ extent_numbers c.found.all
-  numbers = same_numbers [] [] before after c.found c.rest sizes retired_now are.found are.rest
+  numbers : extent_numbers c.after.all ≡ extent_numbers c.before.all
+  numbers = same_numbers [] [] before after c.before c.after sizes retired_now are.scrubbed_before are.scrubbed_after
 
-  plan_was : IsPlanIn before c.found.plan
-  plan_was = record { choice = c.found.choice; chosen = are.found.choice; follows = are.found.plan }
+  plan_was : IsPlanIn before c.before.plan
+  plan_was = record { choice = c.before.choice; chosen = are.scrubbed_before.choice; follows = are.scrubbed_before.plan }
 
   -- an extent that isn't to be reset, and what was found in it before and now
-  module _ (f g : Scanned) (there : Contains c.found.all f) (number : g.extent ≡ f.extent) (was : IsScannedBy before c.found.plan f)
-      (is : IsScannedBy after c.rest.plan g) (apart : ¬ Contains resets f.extent) where
+  module _ (f g : Scanned) (there : Contains c.before.all f) (number : g.extent ≡ f.extent) (was : IsScannedBy before c.before.plan f)
+      (is : IsScannedBy after c.after.plan g) (apart : ¬ Contains resets f.extent) where
     abbrev e : ℕ
     e = f.extent
 
     inside : (e ≢ 0) × (e < before.geometry.extents)
-    inside = in_disk before c.found.plan plan_was e f.pointer was.0
+    inside = in_disk before c.before.plan plan_was e f.pointer was.0
 
-    pointer_was : pointer_in c.found.plan e ≡ f.pointer
+    pointer_was : pointer_in c.before.plan e ≡ f.pointer
     pointer_was = ap (λ (o : Option ℕ). unwrap_or o 0) was.0
 
-    pointer_is : pointer_in c.rest.plan e ≡ g.pointer
-    pointer_is = ap (λ (n : ℕ). pointer_in c.rest.plan n) (sym number) ∙ ap (λ (o : Option ℕ). unwrap_or o 0) is.0
+    pointer_is : pointer_in c.after.plan e ≡ g.pointer
+    pointer_is = ap (λ (n : ℕ). pointer_in c.after.plan n) (sym number) ∙ ap (λ (o : Option ℕ). unwrap_or o 0) is.0
 
     tiled_was : IsTiling (extent_of before e f.pointer) f.findings.items
     tiled_was = was.1.tiled
@@ -272,34 +272,34 @@ module _ (resets : List ℕ) (before after : Image) (sizes : after.geometry ≡ 
         (λ p below. bytes_stay resets before after sizes c are none e p (omega (arith, below, pointer_was))) f.findings.items tiled_was)
 
     -- from the place of room on
-    grown_from : (place : ℕ) → room_at c.found e ≡ Some place → place ≤ g.pointer →
+    grown_from : (place : ℕ) → room_at c.before e ≡ Some place → place ≤ g.pointer →
         Grown (extent_of after e g.pointer) place f.findings.items g.findings.items
     grown_from place at moved =
         grown (extent_of before e f.pointer) (extent_of after e g.pointer) place (omega (arith, before.geometry.page_least)) page_size
         kept zero above moved f.findings.items g.findings.items tiled_was tiled_is clean place_is
       where
-        room : IsRoomOf c.found e place
-        room = room_scanned c.found e place at
+        room : IsRoomOf c.before e place
+        room = room_scanned c.before e place at
 
         same : room.scanned ≡ f
         same =
-            one_scanned before c.found.plan room.scanned f (room_number c.found e place room)
-            (All-contains (λ (h : Scanned). pointer_of c.found.plan h.extent ≡ Some h.pointer) c.found.all room.scanned are.found.all.pointers room.among) was.0
-            (All-contains (λ (h : Scanned). IsFindings before h.extent h.pointer h.findings) c.found.all room.scanned are.found.all.findings room.among) was.1
+            one_scanned before c.before.plan room.scanned f (room_number c.before e place room)
+            (All-contains (λ (h : Scanned). pointer_of c.before.plan h.extent ≡ Some h.pointer) c.before.all room.scanned are.scrubbed_before.all.pointers room.among) was.0
+            (All-contains (λ (h : Scanned). IsFindings before h.extent h.pointer h.findings) c.before.all room.scanned are.scrubbed_before.all.findings room.among) was.1
 
-        fits : has_room c.found.plan.geometry c.found.checked f ≡ true
-        fits = ap (λ (h : Scanned). has_room c.found.plan.geometry c.found.checked h) (sym same) ∙ room.fits
+        fits : has_room c.before.plan.geometry c.before.checked f ≡ true
+        fits = ap (λ (h : Scanned). has_room c.before.plan.geometry c.before.checked h) (sym same) ∙ room.fits
 
-        shown : IsRoom before e f.pointer (place_in c.found.plan.geometry f)
+        shown : IsRoom before e f.pointer (place_in c.before.plan.geometry f)
         shown =
-            All-contains (λ (h : Scanned). has_room c.found.plan.geometry c.found.checked h ≡ true → IsRoom before h.extent h.pointer (place_in c.found.plan.geometry h)) c.found.all f
-            (shows_room before c.found are.found) there fits
+            All-contains (λ (h : Scanned). has_room c.before.plan.geometry c.before.checked h ≡ true → IsRoom before h.extent h.pointer (place_in c.before.plan.geometry h)) c.before.all f
+            (shows_room before c.before are.scrubbed_before) there fits
 
-        geometry : c.found.plan.geometry ≡ before.geometry
-        geometry = (plan_parts c.found.choice c.found.plan are.found.plan).geometry ∙ are.found.choice.geometry
+        geometry : c.before.plan.geometry ≡ before.geometry
+        geometry = (plan_parts c.before.choice c.before.plan are.scrubbed_before.plan).geometry ∙ are.scrubbed_before.choice.geometry
 
-        at_place : place ≡ place_in c.found.plan.geometry f
-        at_place = room.place_is ∙ ap (place_in c.found.plan.geometry) same
+        at_place : place ≡ place_in c.before.plan.geometry f
+        at_place = room.place_is ∙ ap (place_in c.before.plan.geometry) same
 
         place_is : place ≡ next_place before.geometry.page f.pointer f.findings.items
         place_is = at_place ∙ ap (λ (h : Geometry). place_in h f) geometry
@@ -309,11 +309,11 @@ module _ (resets : List ℕ) (before after : Image) (sizes : after.geometry ≡ 
             let low = place_above before.geometry.page f.pointer f.findings.items (omega (arith, before.geometry.page_least)) in
             omega (arith, low, place_is)
 
-        grows : (is_clean_extent f && has_sound_alone c.found.checked f) ≡ true
-        grows = (and_parts (may_grow c.found.checked f) (room_fits c.found.plan.geometry f) fits).0
+        grows : (is_clean_extent f && has_sound_alone c.before.checked f) ≡ true
+        grows = (and_parts (may_grow c.before.checked f) (room_fits c.before.plan.geometry f) fits).0
 
         clean_extent : is_clean_extent f ≡ true
-        clean_extent = (and_parts (is_clean_extent f) (has_sound_alone c.found.checked f) grows).0
+        clean_extent = (and_parts (is_clean_extent f) (has_sound_alone c.before.checked f) grows).0
 
         clean : All (λ (i : Item). is_clean_item i ≡ true) f.findings.items
         clean = all_pass is_clean_item f.findings.items (and_parts (length f.findings.bad_pages == 0) (list_all is_clean_item f.findings.items) clean_extent).1
@@ -323,10 +323,10 @@ module _ (resets : List ℕ) (before after : Image) (sizes : after.geometry ≡ 
             stays resets before after sizes c are none e p inside.0 inside.1
             (in_front resets before after sizes c are none e p (λ other o. omega (arith, below, same_Some place other (sym at ∙ o))))
 
-        space : 38 ≤ room_in c.found.plan.geometry f
+        space : 38 ≤ room_in c.before.plan.geometry f
         space =
-            let parts = and_parts (is_zero_to (place_in c.found.plan.geometry f) f) (not (nat_lt (room_in c.found.plan.geometry f) 38)) (and_parts (may_grow c.found.checked f) (room_fits c.found.plan.geometry f) fits).1 in
-            ltb-false (room_in c.found.plan.geometry f) 38 (not_true (nat_lt (room_in c.found.plan.geometry f) 38) parts.1)
+            let parts = and_parts (is_zero_to (place_in c.before.plan.geometry f) f) (not (nat_lt (room_in c.before.plan.geometry f) 38)) (and_parts (may_grow c.before.checked f) (room_fits c.before.plan.geometry f) fits).1 in
+            ltb-false (room_in c.before.plan.geometry f) 38 (not_true (nat_lt (room_in c.before.plan.geometry f) 38) parts.1)
           where
             not_true : (b : Bool) → not b ≡ true → b ≡ false
             not_true true t = absurd (false≢true t)
@@ -336,12 +336,12 @@ module _ (resets : List ℕ) (before after : Image) (sizes : after.geometry ≡ 
         zero p low high =
             zero_there (image_byte before e p) (shown.zeros p low (omega (arith, high, at_place)))
             (readable_all before whole e f.pointer f.findings inside.1 was.1 (eqb-true (length f.findings.bad_pages) 0 (and_parts (length f.findings.bad_pages == 0) (list_all is_clean_item f.findings.items) clean_extent).0) p
-            (let size : extent_bytes c.found.plan.geometry ≡ extent_bytes before.geometry = ap (λ (h : Geometry). extent_bytes h) geometry in
+            (let size : extent_bytes c.before.plan.geometry ≡ extent_bytes before.geometry = ap (λ (h : Geometry). extent_bytes h) geometry in
             omega (arith, high, at_place, space, size)))
 
     -- so each chunk is still one
     chunks_stay : (item : Item) → Contains f.findings.items item → is_chunk item ≡ true → Contains g.findings.items item
-    chunks_stay item inside_items chunk = elim (followed (room_at c.found e) (pointer_in c.found.plan e) (pointer_in c.rest.plan e) follows) [
+    chunks_stay item inside_items chunk = elim (followed (room_at c.before e) (pointer_in c.before.plan e) (pointer_in c.after.plan e) follows) [
       | inl same ↦
           subst (λ (items : List Item). Contains items item) (sym (same_pointer (sym pointer_is ∙ same ∙ pointer_was))) inside_items
       | inr (place, at, moved) ↦ (grown_from place at (omega (arith, moved, pointer_is))).chunks item inside_items chunk
@@ -353,28 +353,28 @@ module _ (resets : List ℕ) (before after : Image) (sizes : after.geometry ≡ 
           | inr (other, away) ↦ other
         ]
 
-        follows : may_follow false (room_at c.found e) (pointer_in c.found.plan e) (pointer_in c.rest.plan e) ≡ true
+        follows : may_follow false (room_at c.before e) (pointer_in c.before.plan e) (pointer_in c.after.plan e) ≡ true
         follows =
-            subst (λ (b : Bool). may_follow b (room_at c.found e) (pointer_in c.found.plan e) (pointer_in c.rest.plan e) ≡ true) out
+            subst (λ (b : Bool). may_follow b (room_at c.before e) (pointer_in c.before.plan e) (pointer_in c.after.plan e) ≡ true) out
             (may_follow_in resets before after sizes c are none e inside.0 inside.1)
 
-  chunks_kept : KeepsChunks resets c.found c.rest
+  chunks_kept : KeepsChunks resets c.before c.after
   chunks_kept i d below apart =
-      let f : Scanned = get_or c.found.all i d in
-      let there : Contains c.found.all f = All-contains_itself c.found.all i d below in
-      let m = made_of c.rest.all f.extent (subst (λ (ns : List ℕ). Contains ns f.extent) (sym numbers) (of_made c.found.all f there)) in
+      let f : Scanned = get_or c.before.all i d in
+      let there : Contains c.before.all f = All-contains_itself c.before.all i d below in
+      let m = made_of c.after.all f.extent (subst (λ (ns : List ℕ). Contains ns f.extent) (sym numbers) (of_made c.before.all f there)) in
       record {
         now = m.0;
         among = m.1;
         extent_is = m.2;
-        chunks = chunks_stay f m.0 there m.2 (All-contains (IsScannedBy before c.found.plan) c.found.all f (scanned_by before c.found.plan c.found.all are.found.all) there)
-            (All-contains (IsScannedBy after c.rest.plan) c.rest.all m.0 (scanned_by after c.rest.plan c.rest.all are.rest.all) m.1) apart;
+        chunks = chunks_stay f m.0 there m.2 (All-contains (IsScannedBy before c.before.plan) c.before.all f (scanned_by before c.before.plan c.before.all are.scrubbed_before.all) there)
+            (All-contains (IsScannedBy after c.after.plan) c.after.all m.0 (scanned_by after c.after.plan c.after.all are.scrubbed_after.all) m.1) apart;
       }
 
 -- After a safe step each extent that isn't reset still has each of its chunks.
 pub keeps_chunks : (resets : List ℕ) (before after : Image) (found rest : Scrubbed) → HasWholePages before → IsSafe resets before after →
     IsScrubbed before found → IsScrubbed after rest → KeepsChunks resets found rest
 keeps_chunks resets before after found rest whole s x y =
-    subst (λ (f : Scrubbed). KeepsChunks resets f rest) (one_scrub before s.safe.compared.found found s.safe.are.found x)
-    (subst (λ (r : Scrubbed). KeepsChunks resets s.safe.compared.found r) (one_scrub after s.safe.compared.rest rest s.safe.are.rest y)
+    subst (λ (f : Scrubbed). KeepsChunks resets f rest) (one_scrub before s.safe.compared.before found s.safe.are.scrubbed_before x)
+    (subst (λ (r : Scrubbed). KeepsChunks resets s.safe.compared.before r) (one_scrub after s.safe.compared.after rest s.safe.are.scrubbed_after y)
     (chunks_kept resets before after s.sizes s.safe.compared s.safe.are (no_line resets s.safe.compared (sym s.safe.verdict)) whole))

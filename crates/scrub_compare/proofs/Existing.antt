@@ -75,16 +75,16 @@ some_least P each top past = by (first_below P each top)
     by (inl (k, below, is, earlier)) = (Some k, (is, earlier))
     by (inr none) = (None, λ p is. elim (cases_lt p top) [ inl less ↦ none p less is | inr more ↦ past p more is ])
 
-module _ (before after : Image) (found rest : Scrubbed) where
+module _ (before after : Image) (found_before found_after : Scrubbed) where
   abbrev IsWritten : ℕ → ℕ → Type 0
-  IsWritten k = IsWrittenIn before after (room_at found (k + 1)) (pointer_in rest.plan (k + 1)) (k + 1)
+  IsWritten k = IsWrittenIn before after (room_at found_before (k + 1)) (pointer_in found_after.plan (k + 1)) (k + 1)
 
   first_in : (k : ℕ) → (o : Option ℕ) × IsLeastNumber (IsWritten k) o
   first_in k =
-      some_least (IsWritten k) (decided_in before after (room_at found (k + 1)) (pointer_in rest.plan (k + 1)) (k + 1))
+      some_least (IsWritten k) (decided_in before after (room_at found_before (k + 1)) (pointer_in found_after.plan (k + 1)) (k + 1))
       (end before after) (λ p past is. unchanged_past before after (k + 1) p past is.0)
 
-  some_firsts : (firsts : List (Option ℕ)) × AreFirstWritten before after found rest firsts
+  some_firsts : (firsts : List (Option ℕ)) × AreFirstWritten before after found_before found_after firsts
   some_firsts = (
     map first (range_with_len 0 n),
     record {
@@ -115,24 +115,24 @@ some_ids old new =
 
 some_compared : (resets : List ℕ) (before after : Image) → (c : Compared) × AreCompared resets before after c
 some_compared resets before after =
-    let found = some_scrub [] before in
-    let rest = some_scrub [] after in
-    let kept = some_scrub resets after in
+    let found_before = some_scrub [] before in
+    let found_after = some_scrub [] after in
+    let found_after_resets = some_scrub resets after in
     let loose =
-    some_loose [] before found.0.plan (plan_but_fits [] before found.0.choice found.0.plan found.1.choice found.1.plan) in
+    some_loose [] before found_before.0.plan (plan_but_fits [] before found_before.0.choice found_before.0.plan found_before.1.choice found_before.1.plan) in
     let loose_now =
-    some_loose resets after kept.0.plan (plan_but_fits resets after kept.0.choice kept.0.plan kept.1.choice kept.1.plan) in
+    some_loose resets after found_after_resets.0.plan (plan_but_fits resets after found_after_resets.0.choice found_after_resets.0.plan found_after_resets.1.choice found_after_resets.1.plan) in
     let pages = some_pages before in
     let pages_now = some_pages after in
     let first =
     some_least (IsWrittenInRecords before after) (decided_in_records before after) (end before after)
     (λ p past is. unchanged_past before after 0 p past is.0) in
-    let firsts = some_firsts before after found.0 rest.0 in
-    let ids = some_ids found.0.bindings kept.0.bindings in (
+    let firsts = some_firsts before after found_before.0 found_after.0 in
+    let ids = some_ids found_before.0.bindings found_after_resets.0.bindings in (
       record {
-        found = found.0;
-        rest = rest.0;
-        kept = kept.0;
+        before = found_before.0;
+        after = found_after.0;
+        after_resets = found_after_resets.0;
         loose = loose.0;
         loose_now = loose_now.0;
         pages = pages.0;
@@ -142,9 +142,9 @@ some_compared resets before after =
         ids = ids.0;
       },
       record {
-        found = found.1;
-        rest = rest.1;
-        kept = kept.1;
+        scrubbed_before = found_before.1;
+        scrubbed_after = found_after.1;
+        scrubbed_after_resets = found_after_resets.1;
         loose = loose.1;
         loose_now = loose_now.1;
         pages = pages.1;

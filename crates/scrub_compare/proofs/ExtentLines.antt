@@ -37,22 +37,22 @@ pushed (z ∷ xs) x (suc k) y is = elim (pushed xs x k y is) [
 -- ---- the lines so far
 
 -- the first bytes that changed and may not of the extents from 1 on up to n, and the lines of these extents
-pub record AreLinesTo (before after : Image) (resets : List ℕ) (found rest : Scrubbed) (old text : List ℕ) (n : ℕ) : Type 0 where
+pub record AreLinesTo (before after : Image) (resets : List ℕ) (found_before found_after : Scrubbed) (old text : List ℕ) (n : ℕ) : Type 0 where
   pub firsts : List (Option ℕ)
   pub count : length firsts + 1 ≡ n
   pub each : (k : ℕ) (first : Option ℕ) → slice_get firsts k ≡ Some first →
-      IsLeastNumber (IsWrittenIn before after (room_at found (k + 1)) (pointer_in rest.plan (k + 1)) (k + 1)) first
-  pub text_is : text ≡ old ++ extent_lines resets found rest firsts
+      IsLeastNumber (IsWrittenIn before after (room_at found_before (k + 1)) (pointer_in found_after.plan (k + 1)) (k + 1)) first
+  pub text_is : text ≡ old ++ extent_lines resets found_before found_after firsts
 
 -- one extent more
-pub record HasLinesOf (before after : Image) (resets : List ℕ) (found rest : Scrubbed) (mid text : List ℕ) (n : ℕ) : Type 0 where
+pub record HasLinesOf (before after : Image) (resets : List ℕ) (found_before found_after : Scrubbed) (mid text : List ℕ) (n : ℕ) : Type 0 where
   pub first : Option ℕ
-  pub least : IsLeastNumber (IsWrittenIn before after (room_at found n) (pointer_in rest.plan n) n) first
-  pub text_is : text ≡ mid ++ lines_in resets found rest n first
+  pub least : IsLeastNumber (IsWrittenIn before after (room_at found_before n) (pointer_in found_after.plan n) n) first
+  pub text_is : text ≡ mid ++ lines_in resets found_before found_after n first
 
-module _ (before after : Image) (resets : List ℕ) (found rest : Scrubbed) (old : List ℕ) where
+module _ (before after : Image) (resets : List ℕ) (found_before found_after : Scrubbed) (old : List ℕ) where
   -- Before extent 1 no line is added to the old text.
-  pub no_lines : AreLinesTo before after resets found rest old old 1
+  pub no_lines : AreLinesTo before after resets found_before found_after old old 1
   no_lines = record {
     firsts = [];
     count = omega arith;
@@ -61,8 +61,8 @@ module _ (before after : Image) (resets : List ℕ) (found rest : Scrubbed) (old
   }
 
   -- The lines before extent `n` and those of extent `n` are the lines before extent `n + 1`.
-  pub more_lines : (mid new : List ℕ) (n : ℕ) → AreLinesTo before after resets found rest old mid n →
-      HasLinesOf before after resets found rest mid new n → AreLinesTo before after resets found rest old new (n + 1)
+  pub more_lines : (mid new : List ℕ) (n : ℕ) → AreLinesTo before after resets found_before found_after old mid n →
+      HasLinesOf before after resets found_before found_after mid new n → AreLinesTo before after resets found_before found_after old new (n + 1)
   more_lines mid new n so_far one = record {
     firsts = firsts;
     count = omega (arith, length_push so_far.firsts one.first, so_far.count);
@@ -70,13 +70,13 @@ module _ (before after : Image) (resets : List ℕ) (found rest : Scrubbed) (old
       | inl before ↦ so_far.each k first before
       | inr (at, same) ↦
           let number : k + 1 ≡ n = omega (arith, at, so_far.count) in
-          subst (λ (o : Option ℕ). IsLeastNumber (IsWrittenIn before after (room_at found (k + 1)) (pointer_in rest.plan (k + 1)) (k + 1)) o) same
-          (subst (λ (m : ℕ). IsLeastNumber (IsWrittenIn before after (room_at found m) (pointer_in rest.plan m) m) one.first) (sym number) one.least)
+          subst (λ (o : Option ℕ). IsLeastNumber (IsWrittenIn before after (room_at found_before (k + 1)) (pointer_in found_after.plan (k + 1)) (k + 1)) o) same
+          (subst (λ (m : ℕ). IsLeastNumber (IsWrittenIn before after (room_at found_before m) (pointer_in found_after.plan m) m) one.first) (sym number) one.least)
     ];
     text_is =
         one.text_is
-        ∙ ap (λ (u : List ℕ). u ++ lines_in resets found rest n one.first) so_far.text_is
-        ∙ append_assoc old (extent_lines resets found rest so_far.firsts) (lines_in resets found rest n one.first)
+        ∙ ap (λ (u : List ℕ). u ++ lines_in resets found_before found_after n one.first) so_far.text_is
+        ∙ append_assoc old (extent_lines resets found_before found_after so_far.firsts) (lines_in resets found_before found_after n one.first)
         ∙ ap (λ (u : List ℕ). old ++ u) (sym lines);
   }
     where
@@ -84,23 +84,23 @@ module _ (before after : Image) (resets : List ℕ) (found rest : Scrubbed) (old
       firsts = so_far.firsts ++ one.first ∷ []
 
       line : ℕ × Option ℕ → List ℕ
-      line e = lines_in resets found rest (e.0 + 1) e.1
+      line e = lines_in resets found_before found_after (e.0 + 1) e.1
 
-      last : flat_map line ((0 + length so_far.firsts, one.first) ∷ []) ≡ lines_in resets found rest n one.first
+      last : flat_map line ((0 + length so_far.firsts, one.first) ∷ []) ≡ lines_in resets found_before found_after n one.first
       last =
           append-nil (line (0 + length so_far.firsts, one.first))
-          ∙ ap (λ (m : ℕ). lines_in resets found rest m one.first) (let e : 0 + length so_far.firsts + 1 ≡ n = omega (arith, so_far.count) in e)
+          ∙ ap (λ (m : ℕ). lines_in resets found_before found_after m one.first) (let e : 0 + length so_far.firsts + 1 ≡ n = omega (arith, so_far.count) in e)
 
-      lines : extent_lines resets found rest firsts ≡ extent_lines resets found rest so_far.firsts ++ lines_in resets found rest n one.first
+      lines : extent_lines resets found_before found_after firsts ≡ extent_lines resets found_before found_after so_far.firsts ++ lines_in resets found_before found_after n one.first
       lines =
           ap (flat_map line) (enumerate_push 0 so_far.firsts one.first)
           ∙ flat_map-append line (enumerate_from 0 so_far.firsts) ((0 + length so_far.firsts, one.first) ∷ [])
           ∙ ap (λ (u : List ℕ). flat_map line (enumerate_from 0 so_far.firsts) ++ u) last
 
   -- all of them
-  pub all_lines : (text : List ℕ) (n : ℕ) → n ≡ before.geometry.extents → AreLinesTo before after resets found rest old text n →
-      (firsts : List (Option ℕ)) × AreFirstWritten before after found rest firsts ×
-      (text ≡ old ++ extent_lines resets found rest firsts)
+  pub all_lines : (text : List ℕ) (n : ℕ) → n ≡ before.geometry.extents → AreLinesTo before after resets found_before found_after old text n →
+      (firsts : List (Option ℕ)) × AreFirstWritten before after found_before found_after firsts ×
+      (text ≡ old ++ extent_lines resets found_before found_after firsts)
   all_lines text n end so_far = (so_far.firsts, record { count = so_far.count ∙ end; each = so_far.each }, so_far.text_is)
 
 -- the write pointer of an extent

@@ -27,7 +27,7 @@ use Rattle.scrub_check.specs.Named.{named_by_shard}
 use Rattle.scrub_found.specs.Resets.{IsScrubbedBut}
 use Rattle.scrub_found.specs.Scrubbed.{Scrubbed}
 use Rattle.scrub_found.proofs.ResetPlans.{plan_before}
-use Rattle.scrub_listings.specs.Manifest.{after_status_in, hidden_runs, lost_runs, manifest_text, numbered_line, of_shards, retired_line, runs_line, shard_lines, text_by, total_line}
+use Rattle.scrub_listings.specs.Manifest.{after_status_in, hidden_runs, lost_run_count, manifest_text, numbered_line, of_shards, retired_line, runs_line, shard_lines, text_by, total_line}
 use Rattle.scrub_listings.proofs.ShardLines.{along_runs, shards_part}
 use Rattle.scrub_reclaim.specs.Copy.{IsSameButRisen, IsSameOrRisen}
 use Rattle.scrub_compare.specs.Compare.{AreCompared, Compared, HasBinding, are_alike, both_of, generation_of, lost_line, new_line, owned_by, retired_change, row_in, runs_change, shard_change, shard_changes}
@@ -135,8 +135,8 @@ pub record AreKept (s t : Scrubbed) (loose loose_now : List Standing) : Type 0 w
   pub has : s.plan.has_superblock ≡ true
   pub has_now : t.plan.has_superblock ≡ true
   pub retired : t.plan.retired ≡ s.plan.retired
-  pub read : lost_runs s ≡ 0
-  pub read_now : lost_runs t ≡ 0
+  pub read : lost_run_count s ≡ 0
+  pub read_now : lost_run_count t ≡ 0
   pub fewer : hidden_runs t ≤ hidden_runs s
   pub ids : map (λ b. b.id) s.bindings ≡ map (λ b. b.id) t.bindings
   pub sizes : (id : ShardId) → HasBinding s.bindings id →
@@ -197,12 +197,12 @@ module _ (resets others : List ℕ) (image other : Image) (s t : Scrubbed) (loos
     fewer = k.fewer;
     each = zipped;
     a_is =
-        ap (λ (b : Bool). text_by (after_status_in s.all loose) b s.plan.retired (lost_runs s) (hidden_runs s) s.bindings (of_shards s.checked)) k.has
-        ∙ ap (λ (u : List ℕ). retired_line s.plan.retired ++ runs_line (lost_runs s) (hidden_runs s) ++ u ++ total_line (length s.bindings) (length (of_shards s.checked))) (lines_by_ids resets image s x loose ids refl)
+        ap (λ (b : Bool). text_by (after_status_in s.all loose) b s.plan.retired (lost_run_count s) (hidden_runs s) s.bindings (of_shards s.checked)) k.has
+        ∙ ap (λ (u : List ℕ). retired_line s.plan.retired ++ runs_line (lost_run_count s) (hidden_runs s) ++ u ++ total_line (length s.bindings) (length (of_shards s.checked))) (lines_by_ids resets image s x loose ids refl)
         ∙ ap (λ (n : ℕ). retired_line s.plan.retired ++ runs_line n (hidden_runs s) ++ flat_map (λ part. part) parts ++ total_line (length s.bindings) (length (of_shards s.checked))) k.read;
     b_is =
-        ap (λ (b : Bool). text_by (after_status_in t.all loose_now) b t.plan.retired (lost_runs t) (hidden_runs t) t.bindings (of_shards t.checked)) k.has_now
-        ∙ ap (λ (u : List ℕ). retired_line t.plan.retired ++ runs_line (lost_runs t) (hidden_runs t) ++ u ++ total_line (length t.bindings) (length (of_shards t.checked))) (lines_by_ids others other t y loose_now ids (sym k.ids))
+        ap (λ (b : Bool). text_by (after_status_in t.all loose_now) b t.plan.retired (lost_run_count t) (hidden_runs t) t.bindings (of_shards t.checked)) k.has_now
+        ∙ ap (λ (u : List ℕ). retired_line t.plan.retired ++ runs_line (lost_run_count t) (hidden_runs t) ++ u ++ total_line (length t.bindings) (length (of_shards t.checked))) (lines_by_ids others other t y loose_now ids (sym k.ids))
         ∙ (λ i. retired_line (k.retired i) ++ runs_line (k.read_now i) (hidden_runs t) ++ flat_map (λ part. part) parts_now ++ total_line (bindings_count i) (locators_count i));
   }
 
@@ -234,61 +234,61 @@ module _ (resets others : List ℕ) (image other : Image) (s t : Scrubbed) (loos
 
 module _ (resets : List ℕ) (before after : Image) (c : Compared) (are : AreCompared resets before after c) (none : HasNoLine resets c) where
   abbrev shards : List Checked
-  shards = of_shards c.found.checked
+  shards = of_shards c.before.checked
 
   abbrev shards_now : List Checked
-  shards_now = of_shards c.kept.checked
+  shards_now = of_shards c.after_resets.checked
 
-  no_changes : (runs_change (lost_runs c.found) (hidden_runs c.found) (lost_runs c.kept) (hidden_runs c.kept) ≡ [])
-      × (shard_changes (row_in c.found c.loose.frames) (row_in c.kept c.loose_now.frames) shards shards_now c.ids ≡ [])
+  no_changes : (runs_change (lost_run_count c.before) (hidden_runs c.before) (lost_run_count c.after_resets) (hidden_runs c.after_resets) ≡ [])
+      × (shard_changes (row_in c.before c.loose.frames) (row_in c.after_resets c.loose_now.frames) shards shards_now c.ids ≡ [])
   no_changes =
-      let front = both_nil (retired_change c.found.plan.retired c.kept.plan.retired ++ runs_change (lost_runs c.found) (hidden_runs c.found) (lost_runs c.kept) (hidden_runs c.kept)) (shard_changes (row_in c.found c.loose.frames) (row_in c.kept c.loose_now.frames) shards shards_now c.ids) none.manifest in
-      let first = both_nil (retired_change c.found.plan.retired c.kept.plan.retired) (runs_change (lost_runs c.found) (hidden_runs c.found) (lost_runs c.kept) (hidden_runs c.kept)) front.0 in
+      let front = both_nil (retired_change c.before.plan.retired c.after_resets.plan.retired ++ runs_change (lost_run_count c.before) (hidden_runs c.before) (lost_run_count c.after_resets) (hidden_runs c.after_resets)) (shard_changes (row_in c.before c.loose.frames) (row_in c.after_resets c.loose_now.frames) shards shards_now c.ids) none.manifest in
+      let first = both_nil (retired_change c.before.plan.retired c.after_resets.plan.retired) (runs_change (lost_run_count c.before) (hidden_runs c.before) (lost_run_count c.after_resets) (hidden_runs c.after_resets)) front.0 in
       (first.1, front.1)
 
   not_true : (b : Bool) → not b ≡ true → b ≡ false
   not_true true e = absurd (false≢true e)
   not_true false e = refl
 
-  counts : (lost_runs c.kept ≡ lost_runs c.found) × (hidden_runs c.kept ≤ hidden_runs c.found)
+  counts : (lost_run_count c.after_resets ≡ lost_run_count c.before) × (hidden_runs c.after_resets ≤ hidden_runs c.before)
   counts =
-      let word = lost_line (runs_line (lost_runs c.found) (hidden_runs c.found)) in
-      let both = passed ((lost_runs c.kept == lost_runs c.found) && not (nat_lt (hidden_runs c.found) (hidden_runs c.kept))) word (new_line (runs_line (lost_runs c.kept) (hidden_runs c.kept))) (omega (arith, length-append (codes "lost ") (runs_line (lost_runs c.found) (hidden_runs c.found)))) no_changes.0 in
-      let parts = and_parts (lost_runs c.kept == lost_runs c.found) (not (nat_lt (hidden_runs c.found) (hidden_runs c.kept))) both in (
-        eqb-true (lost_runs c.kept) (lost_runs c.found) parts.0,
-        ltb-false (hidden_runs c.found) (hidden_runs c.kept) (not_true (nat_lt (hidden_runs c.found) (hidden_runs c.kept)) parts.1),
+      let word = lost_line (runs_line (lost_run_count c.before) (hidden_runs c.before)) in
+      let both = passed ((lost_run_count c.after_resets == lost_run_count c.before) && not (nat_lt (hidden_runs c.before) (hidden_runs c.after_resets))) word (new_line (runs_line (lost_run_count c.after_resets) (hidden_runs c.after_resets))) (omega (arith, length-append (codes "lost ") (runs_line (lost_run_count c.before) (hidden_runs c.before)))) no_changes.0 in
+      let parts = and_parts (lost_run_count c.after_resets == lost_run_count c.before) (not (nat_lt (hidden_runs c.before) (hidden_runs c.after_resets))) both in (
+        eqb-true (lost_run_count c.after_resets) (lost_run_count c.before) parts.0,
+        ltb-false (hidden_runs c.before) (hidden_runs c.after_resets) (not_true (nat_lt (hidden_runs c.before) (hidden_runs c.after_resets)) parts.1),
       )
 
-  unchanged : (id : ShardId) → Contains c.ids id → shard_change (row_in c.found c.loose.frames) (row_in c.kept c.loose_now.frames) (owned_by id shards) (owned_by id shards_now) ≡ []
+  unchanged : (id : ShardId) → Contains c.ids id → shard_change (row_in c.before c.loose.frames) (row_in c.after_resets c.loose_now.frames) (owned_by id shards) (owned_by id shards_now) ≡ []
   unchanged id there =
-      All-contains (λ (i : ShardId). shard_change (row_in c.found c.loose.frames) (row_in c.kept c.loose_now.frames) (owned_by i shards) (owned_by i shards_now) ≡ []) c.ids id
-      (all_none (λ (i : ShardId). shard_change (row_in c.found c.loose.frames) (row_in c.kept c.loose_now.frames) (owned_by i shards) (owned_by i shards_now)) c.ids no_changes.1) there
+      All-contains (λ (i : ShardId). shard_change (row_in c.before c.loose.frames) (row_in c.after_resets c.loose_now.frames) (owned_by i shards) (owned_by i shards_now) ≡ []) c.ids id
+      (all_none (λ (i : ShardId). shard_change (row_in c.before c.loose.frames) (row_in c.after_resets c.loose_now.frames) (owned_by i shards) (owned_by i shards_now)) c.ids no_changes.1) there
 
-  sizes_same : (id : ShardId) → Contains c.ids id → size [] before c.found are.found id ≡ size resets after c.kept are.kept id
-  sizes_same id there = same_length (row_in c.found c.loose.frames) (row_in c.kept c.loose_now.frames) (owned_by id shards) (owned_by id shards_now) (unchanged id there)
+  sizes_same : (id : ShardId) → Contains c.ids id → size [] before c.before are.scrubbed_before id ≡ size resets after c.after_resets are.scrubbed_after_resets id
+  sizes_same id there = same_length (row_in c.before c.loose.frames) (row_in c.after_resets c.loose_now.frames) (owned_by id shards) (owned_by id shards_now) (unchanged id there)
 
   -- the same shards are bound
-  old_ids : map (λ b. b.id) c.found.bindings ≡ c.ids
+  old_ids : map (λ b. b.id) c.before.bindings ≡ c.ids
   old_ids =
-      one_rising (map (λ b. b.id) c.found.bindings) c.ids (ids_rise [] before c.found are.found) are.ids.rising
+      one_rising (map (λ b. b.id) c.before.bindings) c.ids (ids_rise [] before c.before are.scrubbed_before) are.ids.rising
       (λ id there. (are.ids.exact id).1 (inl there))
       (λ id there. elim ((are.ids.exact id).0 there) [
         | inl bound ↦ bound
-        | inr bound ↦ some_bound [] before c.found are.found id (omega (arith, sizes_same id there, bound_some resets after c.kept are.kept id bound))
+        | inr bound ↦ some_bound [] before c.before are.scrubbed_before id (omega (arith, sizes_same id there, bound_some resets after c.after_resets are.scrubbed_after_resets id bound))
       ])
 
-  new_ids : map (λ b. b.id) c.kept.bindings ≡ c.ids
+  new_ids : map (λ b. b.id) c.after_resets.bindings ≡ c.ids
   new_ids =
-      one_rising (map (λ b. b.id) c.kept.bindings) c.ids (ids_rise resets after c.kept are.kept) are.ids.rising
+      one_rising (map (λ b. b.id) c.after_resets.bindings) c.ids (ids_rise resets after c.after_resets are.scrubbed_after_resets) are.ids.rising
       (λ id there. (are.ids.exact id).1 (inr there))
       (λ id there. elim ((are.ids.exact id).0 there) [
-        | inl bound ↦ some_bound resets after c.kept are.kept id (omega (arith, sizes_same id there, bound_some [] before c.found are.found id bound))
+        | inl bound ↦ some_bound resets after c.after_resets are.scrubbed_after_resets id (omega (arith, sizes_same id there, bound_some [] before c.before are.scrubbed_before id bound))
         | inr bound ↦ bound
       ])
 
   -- both have a superblock
-  both_there : (generation_of c.found.choice ≡ Some none.old) × (generation_of c.rest.choice ≡ Some none.new)
-  both_there = by (generation_of c.found.choice) (generation_of c.rest.choice) none.count
+  both_there : (generation_of c.before.choice ≡ Some none.old) × (generation_of c.after.choice ≡ Some none.new)
+  both_there = by (generation_of c.before.choice) (generation_of c.after.choice) none.count
     where
       by : (o p : Option ℕ) → both_of o p ≡ Some (none.old, none.new) → (o ≡ Some none.old) × (p ≡ Some none.new)
       by None p e = absurd (none-some (none.old, none.new) e)
@@ -297,17 +297,17 @@ module _ (resets : List ℕ) (before after : Image) (c : Compared) (are : AreCom
           let pair : (a, b) ≡ (none.old, none.new) = same_Some (a, b) (none.old, none.new) e in
           (ap (λ (q : ℕ × ℕ). Some q.0) pair, ap (λ (q : ℕ × ℕ). Some q.1) pair)
 
-  has_before : c.found.plan.has_superblock ≡ true
-  has_before = has_superblock c.found.choice c.found.plan none.old are.found.plan both_there.0
+  has_before : c.before.plan.has_superblock ≡ true
+  has_before = has_superblock c.before.choice c.before.plan none.old are.scrubbed_before.plan both_there.0
 
-  has_kept : c.kept.plan.has_superblock ≡ true
+  has_kept : c.after_resets.plan.has_superblock ≡ true
   has_kept =
-      let plain = plan_before resets c.kept.choice c.kept.plan are.kept.plan in
-      let choice : c.rest.choice ≡ c.kept.choice = one_choice_lem after c.rest.choice c.kept.choice are.rest.choice are.kept.choice in
-      plain.4 ∙ has_superblock c.kept.choice plain.0 none.new plain.1 (sym (ap generation_of choice) ∙ both_there.1)
+      let plain = plan_before resets c.after_resets.choice c.after_resets.plan are.scrubbed_after_resets.plan in
+      let choice : c.after.choice ≡ c.after_resets.choice = one_choice_lem after c.after.choice c.after_resets.choice are.scrubbed_after.choice are.scrubbed_after_resets.choice in
+      plain.4 ∙ has_superblock c.after_resets.choice plain.0 none.new plain.1 (sym (ap generation_of choice) ∙ both_there.1)
 
   -- Without a line of `compare` the superblock, retired extents, runs and shards of the manifest are kept.
-  pub kept : AreKept c.found c.kept c.loose.frames c.loose_now.frames
+  pub kept : AreKept c.before c.after_resets c.loose.frames c.loose_now.frames
   kept = record {
     has = has_before;
     has_now = has_kept;
@@ -317,8 +317,8 @@ module _ (resets : List ℕ) (before after : Image) (c : Compared) (are : AreCom
     fewer = counts.1;
     ids = old_ids ∙ sym new_ids;
     sizes = λ id bound. sizes_same id (among id bound);
-    alike = λ id bound. alike_at (row_in c.found c.loose.frames) (row_in c.kept c.loose_now.frames) (owned_by id shards) (owned_by id shards_now) (unchanged id (among id bound));
+    alike = λ id bound. alike_at (row_in c.before c.loose.frames) (row_in c.after_resets c.loose_now.frames) (owned_by id shards) (owned_by id shards_now) (unchanged id (among id bound));
   }
     where
-      among : (id : ShardId) → HasBinding c.found.bindings id → Contains c.ids id
+      among : (id : ShardId) → HasBinding c.before.bindings id → Contains c.ids id
       among id bound = (are.ids.exact id).1 (inl bound)

@@ -22,7 +22,7 @@ use Rattle.scrub_loose.specs.Loose.{AreLoose, LooseValue, best_of}
 use Rattle.scrub_loose.proofs.OneLoose.{one_loose}
 use Rattle.scrub_found.specs.Scrubbed.{Scrubbed, IsScrubbed}
 use Rattle.scrub_found.proofs.OneScrub.{one_scrub}
-use Rattle.scrub_listings.specs.Manifest.{IsManifest, form_text, hidden_runs, is_of_read_run, is_of_shard, looked_for, lost_runs, manifest_text, numbered_text, of_shards}
+use Rattle.scrub_listings.specs.Manifest.{IsManifest, form_text, hidden_runs, is_of_read_run, is_of_shard, looked_for, lost_run_count, manifest_text, numbered_text, of_shards}
 use Rattle.scrub_reclaim.specs.Copy.{rank}
 use Rattle.scrub_reclaim.specs.Reset.{NameTheSame}
 use Rattle.scrub_compare.specs.Compare.{are_alike, has_no_less, owned_by, row_in}
@@ -97,7 +97,7 @@ module _ (s t : Scrubbed) (loose loose_now : List Standing) (named : NameTheSame
   same_hidden = λ i. count_by (λ d. is_hidden d.status && is_of_read_run (named.read i).runs d.owner) (named.checked i)
 
   -- If a superblock counts on the first disk, and no run is lost, the manifest is kept.
-  pub kept_named : s.plan.has_superblock ≡ true → lost_runs s ≡ 0 → AreKept s t loose loose_now
+  pub kept_named : s.plan.has_superblock ≡ true → lost_run_count s ≡ 0 → AreKept s t loose loose_now
   kept_named has read = record {
     has = has;
     has_now = named.superblock ∙ has;

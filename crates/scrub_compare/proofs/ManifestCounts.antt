@@ -7,13 +7,13 @@ use Rattle.scrub_check.specs.declared.statuses.checked.Checked.{Checked}
 use Rattle.scrub_check.specs.Checked.{is_hidden}
 use Rattle.scrub_found.specs.declared.judging.Judged.{Judged}
 use Rattle.scrub_found.specs.Judged.{AreRowsOf, Beside, found_in}
-use Rattle.scrub_listings.specs.Manifest.{hidden_runs, lost_runs}
+use Rattle.scrub_listings.specs.Manifest.{hidden_runs, lost_run_count}
 use Rattle.scrub_listings.specs.steps.Manifest.{is_of_read_row}
 use Rattle.scrub_listings.proofs.ReadRows.{lost_found, read_found}
 
 module _ {D : Type 0} (j : Judged D) (b : Beside) (rows : AreRowsOf j.scan.plan.runs b.read j.runs.items) where
   -- As many index runs are lost as rows have no entries.
-  pub lost_is : count_by (λ r. is_none r.entries) j.runs.items ≡ lost_runs (found_in j b)
+  pub lost_is : count_by (λ r. is_none r.entries) j.runs.items ≡ lost_run_count (found_in j b)
   lost_is = lost_found j.scan.plan.runs b.read j.runs.items rows
 
   -- As many index runs are hidden as hidden locators belong to rows that were read.

@@ -23,19 +23,19 @@ same_elements (x ∷ xs) (y ∷ ys) long same =
     let rest : xs ≡ ys = same_elements xs ys (omega (arith, long)) (λ k. same (suc k)) in
     λ i. first i ∷ rest i
 
-one_list_of_firsts : (before after : Image) (found rest : Scrubbed) (xs ys : List (Option ℕ)) → AreFirstWritten before after found rest xs →
-    AreFirstWritten before after found rest ys → xs ≡ ys
-one_list_of_firsts before after found rest xs ys a b =
+one_list_of_firsts : (before after : Image) (found_before found_after : Scrubbed) (xs ys : List (Option ℕ)) → AreFirstWritten before after found_before found_after xs →
+    AreFirstWritten before after found_before found_after ys → xs ≡ ys
+one_list_of_firsts before after found_before found_after xs ys a b =
     same_elements xs ys (omega (arith, a.count, b.count))
     (λ k x y here there.
-    one_least (IsWrittenIn before after (room_at found (k + 1)) (pointer_in rest.plan (k + 1)) (k + 1)) x y (a.each k x here) (b.each k y there))
+    one_least (IsWrittenIn before after (room_at found_before (k + 1)) (pointer_in found_after.plan (k + 1)) (k + 1)) x y (a.each k x here) (b.each k y there))
 
 module _ (resets : List ℕ) (before after : Image) where
   one_compared : (c d : Compared) → AreCompared resets before after c → AreCompared resets before after d → c ≡ d
   one_compared c d x y = λ i. record {
-    found = found i;
-    rest = rest i;
-    kept = kept i;
+    before = found_before i;
+    after = found_after i;
+    after_resets = found_after_resets i;
     loose = loose i;
     loose_now = loose_now i;
     pages = one_list_of_pages before c.pages d.pages x.pages y.pages i;
@@ -45,37 +45,37 @@ module _ (resets : List ℕ) (before after : Image) where
     ids = ids i;
   }
     where
-      found : c.found ≡ d.found
-      found = one_scrub before c.found d.found x.found y.found
+      found_before : c.before ≡ d.before
+      found_before = one_scrub before c.before d.before x.scrubbed_before y.scrubbed_before
 
-      rest : c.rest ≡ d.rest
-      rest = one_scrub after c.rest d.rest x.rest y.rest
+      found_after : c.after ≡ d.after
+      found_after = one_scrub after c.after d.after x.scrubbed_after y.scrubbed_after
 
-      kept : c.kept ≡ d.kept
-      kept = one_scrub_but resets after c.kept d.kept x.kept y.kept
+      found_after_resets : c.after_resets ≡ d.after_resets
+      found_after_resets = one_scrub_but resets after c.after_resets d.after_resets x.scrubbed_after_resets y.scrubbed_after_resets
 
       loose : c.loose ≡ d.loose
       loose =
-          one_loose [] before d.found.plan c.loose d.loose
-          (subst (λ (f : Scrubbed). AreLoose [] before f.plan c.loose) found x.loose) y.loose
+          one_loose [] before d.before.plan c.loose d.loose
+          (subst (λ (f : Scrubbed). AreLoose [] before f.plan c.loose) found_before x.loose) y.loose
 
       loose_now : c.loose_now ≡ d.loose_now
       loose_now =
-          one_loose resets after d.kept.plan c.loose_now d.loose_now
-          (subst (λ (k : Scrubbed). AreLoose resets after k.plan c.loose_now) kept x.loose_now) y.loose_now
+          one_loose resets after d.after_resets.plan c.loose_now d.loose_now
+          (subst (λ (k : Scrubbed). AreLoose resets after k.plan c.loose_now) found_after_resets x.loose_now) y.loose_now
 
       firsts : c.firsts ≡ d.firsts
       firsts =
-          one_list_of_firsts before after d.found d.rest c.firsts d.firsts
-          (subst (λ (r : Scrubbed). AreFirstWritten before after d.found r c.firsts) rest
-          (subst (λ (f : Scrubbed). AreFirstWritten before after f c.rest c.firsts) found x.firsts))
+          one_list_of_firsts before after d.before d.after c.firsts d.firsts
+          (subst (λ (r : Scrubbed). AreFirstWritten before after d.before r c.firsts) found_after
+          (subst (λ (f : Scrubbed). AreFirstWritten before after f c.after c.firsts) found_before x.firsts))
           y.firsts
 
       ids : c.ids ≡ d.ids
       ids =
-          one_list_of_ids d.found.bindings d.kept.bindings c.ids d.ids
-          (subst (λ (k : Scrubbed). AreBoundIds d.found.bindings k.bindings c.ids) kept
-          (subst (λ (f : Scrubbed). AreBoundIds f.bindings c.kept.bindings c.ids) found x.ids))
+          one_list_of_ids d.before.bindings d.after_resets.bindings c.ids d.ids
+          (subst (λ (k : Scrubbed). AreBoundIds d.before.bindings k.bindings c.ids) found_after_resets
+          (subst (λ (f : Scrubbed). AreBoundIds f.bindings c.after_resets.bindings c.ids) found_before x.ids))
           y.ids
 
   -- Two images have at most one comparison with the same resets, and one verdict.

@@ -58,15 +58,15 @@ room_number found e place r = eqb-true r.scanned.extent e (find_passes (λ g. g.
 
 module _ (resets : List ℕ) (before after : Image) (sizes : after.geometry ≡ before.geometry) (c : Compared)
     (are : AreCompared resets before after c) (none : HasNoLine resets c) where
-  plan_was : IsPlanIn before c.found.plan
-  plan_was = record { choice = c.found.choice; chosen = are.found.choice; follows = are.found.plan }
+  plan_was : IsPlanIn before c.before.plan
+  plan_was = record { choice = c.before.choice; chosen = are.scrubbed_before.choice; follows = are.scrubbed_before.plan }
 
   -- an extent has neither of its lines
   no_lines_in : (k : ℕ) → k + 1 < before.geometry.extents →
-      (may_follow (is_reset resets (k + 1)) (room_at c.found (k + 1)) (pointer_in c.found.plan (k + 1)) (pointer_in c.rest.plan (k + 1)) ≡ true)
-      × ((p : ℕ) → ¬ IsWrittenIn before after (room_at c.found (k + 1)) (pointer_in c.rest.plan (k + 1)) (k + 1) p)
+      (may_follow (is_reset resets (k + 1)) (room_at c.before (k + 1)) (pointer_in c.before.plan (k + 1)) (pointer_in c.after.plan (k + 1)) ≡ true)
+      × ((p : ℕ) → ¬ IsWrittenIn before after (room_at c.before (k + 1)) (pointer_in c.after.plan (k + 1)) (k + 1) p)
   no_lines_in k inside = (
-    passed (may_follow (is_reset resets (k + 1)) (room_at c.found (k + 1)) (pointer_in c.found.plan (k + 1)) (pointer_in c.rest.plan (k + 1))) (codes "pointer") _ (omega arith) parts.0,
+    passed (may_follow (is_reset resets (k + 1)) (room_at c.before (k + 1)) (pointer_in c.before.plan (k + 1)) (pointer_in c.after.plan (k + 1))) (codes "pointer") _ (omega arith) parts.0,
     by first parts.1 (are.firsts.each k first at),
   )
     where
@@ -76,16 +76,16 @@ module _ (resets : List ℕ) (before after : Image) (sizes : after.geometry ≡ 
       at : slice_get c.firsts k ≡ Some first
       at = slice_get-get_or c.firsts k None (omega (arith, inside, are.firsts.count))
 
-      lines : lines_in resets c.found c.rest (k + 1) first ≡ []
+      lines : lines_in resets c.before c.after (k + 1) first ≡ []
       lines =
-          ap (λ (m : ℕ). lines_in resets c.found c.rest m first) (let e : k + 1 ≡ 0 + k + 1 = omega arith in e)
-          ∙ no_lines_of resets c.found c.rest 0 c.firsts none.extents k first at
+          ap (λ (m : ℕ). lines_in resets c.before c.after m first) (let e : k + 1 ≡ 0 + k + 1 = omega arith in e)
+          ∙ no_lines_of resets c.before c.after 0 c.firsts none.extents k first at
 
-      parts : (pointer_line resets (room_at c.found (k + 1)) (k + 1) (pointer_in c.found.plan (k + 1)) (pointer_in c.rest.plan (k + 1)) ≡ []) × (written_line (k + 1) first ≡ [])
-      parts = both_nil (pointer_line resets (room_at c.found (k + 1)) (k + 1) (pointer_in c.found.plan (k + 1)) (pointer_in c.rest.plan (k + 1))) (written_line (k + 1) first) lines
+      parts : (pointer_line resets (room_at c.before (k + 1)) (k + 1) (pointer_in c.before.plan (k + 1)) (pointer_in c.after.plan (k + 1)) ≡ []) × (written_line (k + 1) first ≡ [])
+      parts = both_nil (pointer_line resets (room_at c.before (k + 1)) (k + 1) (pointer_in c.before.plan (k + 1)) (pointer_in c.after.plan (k + 1))) (written_line (k + 1) first) lines
 
-      by : (o : Option ℕ) → written_line (k + 1) o ≡ [] → IsLeastNumber (IsWrittenIn before after (room_at c.found (k + 1)) (pointer_in c.rest.plan (k + 1)) (k + 1)) o →
-          (p : ℕ) → ¬ IsWrittenIn before after (room_at c.found (k + 1)) (pointer_in c.rest.plan (k + 1)) (k + 1) p
+      by : (o : Option ℕ) → written_line (k + 1) o ≡ [] → IsLeastNumber (IsWrittenIn before after (room_at c.before (k + 1)) (pointer_in c.after.plan (k + 1)) (k + 1)) o →
+          (p : ℕ) → ¬ IsWrittenIn before after (room_at c.before (k + 1)) (pointer_in c.after.plan (k + 1)) (k + 1) p
       by None empty least = least
       by (Some q) empty least = absurd (some_text (codes "written") _ (omega arith) empty)
 
@@ -96,54 +96,54 @@ module _ (resets : List ℕ) (before after : Image) (sizes : after.geometry ≡ 
 
   -- Without a line the new write pointer of each extent but extent 0 may follow the old one.
   pub may_follow_in : (e : ℕ) → e ≢ 0 → e < before.geometry.extents →
-      may_follow (is_reset resets e) (room_at c.found e) (pointer_in c.found.plan e) (pointer_in c.rest.plan e) ≡ true
+      may_follow (is_reset resets e) (room_at c.before e) (pointer_in c.before.plan e) (pointer_in c.after.plan e) ≡ true
   may_follow_in e some inside =
       let b = behind e some inside in
-      subst (λ (n : ℕ). may_follow (is_reset resets n) (room_at c.found n) (pointer_in c.found.plan n) (pointer_in c.rest.plan n) ≡ true) (sym b.1)
+      subst (λ (n : ℕ). may_follow (is_reset resets n) (room_at c.before n) (pointer_in c.before.plan n) (pointer_in c.after.plan n) ≡ true) (sym b.1)
       (no_lines_in b.0 b.2).0
 
   -- a byte that may not change is what it was
   pub stays : (e p : ℕ) → e ≢ 0 → e < before.geometry.extents →
-      (¬ MayChangeInRoom before after (room_at c.found e) (pointer_in c.rest.plan e) e p) → image_byte after e p ≡ image_byte before e p
+      (¬ MayChangeInRoom before after (room_at c.before e) (pointer_in c.after.plan e) e p) → image_byte after e p ≡ image_byte before e p
   stays e p some inside may_not = elim (same_or_other (image_byte before e p) (image_byte after e p)) [
     | inl same ↦ sym same
     | inr other ↦
         let b = behind e some inside in
-        absurd (subst (λ (n : ℕ). ¬ IsWrittenIn before after (room_at c.found n) (pointer_in c.rest.plan n) n p) (sym b.1)
+        absurd (subst (λ (n : ℕ). ¬ IsWrittenIn before after (room_at c.before n) (pointer_in c.after.plan n) n p) (sym b.1)
         ((no_lines_in b.0 b.2).1 p) (other, may_not))
   ]
 
   -- the place of room isn't below the write pointer
-  pub place_from : (e place : ℕ) → room_at c.found e ≡ Some place → pointer_in c.found.plan e ≤ place
+  pub place_from : (e place : ℕ) → room_at c.before e ≡ Some place → pointer_in c.before.plan e ≤ place
   place_from e place is =
-      let r = room_scanned c.found e place is in
+      let r = room_scanned c.before e place is in
       let f = r.scanned in
-      let number : f.extent ≡ e = room_number c.found e place r in
-      let pointer : pointer_of c.found.plan f.extent ≡ Some f.pointer = All-contains (λ (g : Scanned). pointer_of c.found.plan g.extent ≡ Some g.pointer) c.found.all f are.found.all.pointers r.among in
-      let w : pointer_in c.found.plan e ≡ f.pointer = ap (λ (n : ℕ). pointer_in c.found.plan n) (sym number) ∙ ap (λ (o : Option ℕ). unwrap_or o 0) pointer in
-      let g : Geometry = c.found.plan.geometry in
+      let number : f.extent ≡ e = room_number c.before e place r in
+      let pointer : pointer_of c.before.plan f.extent ≡ Some f.pointer = All-contains (λ (g : Scanned). pointer_of c.before.plan g.extent ≡ Some g.pointer) c.before.all f are.scrubbed_before.all.pointers r.among in
+      let w : pointer_in c.before.plan e ≡ f.pointer = ap (λ (n : ℕ). pointer_in c.before.plan n) (sym number) ∙ ap (λ (o : Option ℕ). unwrap_or o 0) pointer in
+      let g : Geometry = c.before.plan.geometry in
       let low = place_above g.page f.pointer f.findings.items (omega (arith, g.page_least)) in
       omega (arith, w, low, r.place_is)
 
   -- in front of the place, and where there is no room, no byte may change
-  pub in_front : (e p : ℕ) → ((place : ℕ) → room_at c.found e ≡ Some place → p < place) →
-      ¬ MayChangeInRoom before after (room_at c.found e) (pointer_in c.rest.plan e) e p
-  in_front e p below = by (room_at c.found e) refl
+  pub in_front : (e p : ℕ) → ((place : ℕ) → room_at c.before e ≡ Some place → p < place) →
+      ¬ MayChangeInRoom before after (room_at c.before e) (pointer_in c.after.plan e) e p
+  in_front e p below = by (room_at c.before e) refl
     where
-      by : (o : Option ℕ) → room_at c.found e ≡ o → MayChangeInRoom before after o (pointer_in c.rest.plan e) e p → ⊥
+      by : (o : Option ℕ) → room_at c.before e ≡ o → MayChangeInRoom before after o (pointer_in c.after.plan e) e p → ⊥
       by None is m = m
       by (Some place) is m = omega (arith, below place is, m.0)
 
   -- what has a write pointer above 0 is an extent of the disk, and not extent 0
-  has_pointer : (e p : ℕ) → p < pointer_in c.found.plan e → (e ≢ 0) × (e < before.geometry.extents)
-  has_pointer e p below = by (pointer_of c.found.plan e) refl below
+  has_pointer : (e p : ℕ) → p < pointer_in c.before.plan e → (e ≢ 0) × (e < before.geometry.extents)
+  has_pointer e p below = by (pointer_of c.before.plan e) refl below
     where
-      by : (o : Option ℕ) → pointer_of c.found.plan e ≡ o → p < unwrap_or o 0 → (e ≢ 0) × (e < before.geometry.extents)
+      by : (o : Option ℕ) → pointer_of c.before.plan e ≡ o → p < unwrap_or o 0 → (e ≢ 0) × (e < before.geometry.extents)
       by None is less = absurd (omega (arith, less))
-      by (Some w) is less = in_disk before c.found.plan plan_was e w is
+      by (Some w) is less = in_disk before c.before.plan plan_was e w is
 
   -- Without a line each byte below an earlier write pointer is what it was.
-  pub bytes_stay : KeepsBytes before after c.found
+  pub bytes_stay : KeepsBytes before after c.before
   bytes_stay e p below =
       let there = has_pointer e p below in
       stays e p there.0 there.1 (in_front e p (λ place is. omega (arith, below, place_from e place is)))
@@ -152,5 +152,5 @@ module _ (resets : List ℕ) (before after : Image) (sizes : after.geometry ≡ 
 pub keeps_bytes : (resets : List ℕ) (before after : Image) (found : Scrubbed) → IsSafe resets before after → IsScrubbed before found →
     KeepsBytes before after found
 keeps_bytes resets before after found s x =
-    subst (λ (f : Scrubbed). KeepsBytes before after f) (one_scrub before s.safe.compared.found found s.safe.are.found x)
+    subst (λ (f : Scrubbed). KeepsBytes before after f) (one_scrub before s.safe.compared.before found s.safe.are.scrubbed_before x)
     (bytes_stay resets before after s.sizes s.safe.compared s.safe.are (no_line resets s.safe.compared (sym s.safe.verdict)))

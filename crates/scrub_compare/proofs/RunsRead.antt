@@ -10,7 +10,7 @@ use Rattle.scrub_scan.specs.Line.{spaced}
 use Rattle.scrub_check.specs.declared.runs.RunState.{RunState}
 use Rattle.scrub_check.specs.declared.runs.RunState.TheVariants.{Read, BadChunk, NotARun}
 use Rattle.scrub_check.specs.Runs.{HasRunIn}
-use Rattle.scrub_listings.specs.Manifest.{lost_runs}
+use Rattle.scrub_listings.specs.Manifest.{lost_run_count}
 use Rattle.scrub_reclaim.specs.declared.doubts.Doubt.{Doubt}
 use Rattle.scrub_reclaim.specs.Doubts.{choice_doubts, doubt_text, page_doubts, run_doubts, run_lost, superblock_lost}
 use Rattle.scrub_compare.specs.Compare.{AreCompared, Compared, firm_doubts, firm_line, firm_lines}
@@ -43,17 +43,17 @@ none_lost image plan n (l ∷ ls) (Some es ∷ runs) (BadChunk t ∷ states) lon
 
 -- Without a line no index run of the earlier image is lost.
 pub no_run_lost : (resets : List ℕ) (before after : Image) (c : Compared) → AreCompared resets before after c → HasNoLine resets c →
-    lost_runs c.found ≡ 0
+    lost_run_count c.before ≡ 0
 no_run_lost resets before after c are none =
-    none_lost before c.found.plan 0 c.found.plan.runs c.found.read.runs c.found.read.states are.found.read.same are.found.read.each front.1
+    none_lost before c.before.plan 0 c.before.plan.runs c.before.read.runs c.before.read.states are.scrubbed_before.read.same are.scrubbed_before.read.each front.1
   where
-    lines : (firm_lines (codes "before") c.pages c.found ≡ []) × (firm_lines (codes "after") c.pages_now c.rest ≡ [])
-    lines = both_nil (firm_lines (codes "before") c.pages c.found) (firm_lines (codes "after") c.pages_now c.rest) none.doubts
+    lines : (firm_lines (codes "before") c.pages c.before ≡ []) × (firm_lines (codes "after") c.pages_now c.after ≡ [])
+    lines = both_nil (firm_lines (codes "before") c.pages c.before) (firm_lines (codes "after") c.pages_now c.after) none.doubts
 
-    doubts : firm_doubts c.pages c.found ≡ []
+    doubts : firm_doubts c.pages c.before ≡ []
     doubts =
-        none_said (firm_line (codes "before")) (firm_doubts c.pages c.found)
+        none_said (firm_line (codes "before")) (firm_doubts c.pages c.before)
         (λ d empty. some_text (codes "doubt") (spaced (codes "before") ++ spaced (doubt_text d) ++ 10 ∷ []) (omega arith) empty) lines.0
 
-    front : (choice_doubts c.found.choice ++ page_doubts superblock_lost c.pages ≡ []) × (run_doubts c.found.read.states ≡ [])
-    front = both_nil (choice_doubts c.found.choice ++ page_doubts superblock_lost c.pages) (run_doubts c.found.read.states) doubts
+    front : (choice_doubts c.before.choice ++ page_doubts superblock_lost c.pages ≡ []) × (run_doubts c.before.read.states ≡ [])
+    front = both_nil (choice_doubts c.before.choice ++ page_doubts superblock_lost c.pages) (run_doubts c.before.read.states) doubts

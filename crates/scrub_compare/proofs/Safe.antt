@@ -16,7 +16,7 @@ use Rattle.scrub_reclaim.proofs.Reset.{among_cases}
 use Rattle.std.specs.Str.{bytes_eq}
 use Rattle.std.proofs.lemmas.Slice.Eq.{bytes_eq-Decides}
 use Rattle.scrub_listings.specs.Locators.{locator_line}
-use Rattle.scrub_listings.specs.Manifest.{hidden_runs, lost_runs, of_shards, retired_line}
+use Rattle.scrub_listings.specs.Manifest.{hidden_runs, lost_run_count, of_shards, retired_line}
 use Rattle.scrub_compare.specs.Compare.{Compared, IsComparison, changes, doubts_of_both, extent_lines, generation_line, generations_in, is_reset, is_safe, is_safe_by, lines_in, lost_line, manifest_changes, named_line, named_lines, new_line, retired_change, row_in, runs_change, shard_changes, written_line}
 use Rattle.scrub_compare.specs.Laws.{NonePointsInto}
 
@@ -55,9 +55,9 @@ pub record HasNoLine (resets : List ℕ) (c : Compared) : Type 0 where
   pub doubts : doubts_of_both c ≡ []
   pub generation : generation_line old new ≡ []
   pub first : written_line 0 c.first ≡ []
-  pub extents : extent_lines resets c.found c.rest c.firsts ≡ []
-  pub named : named_lines resets c.rest.checked ≡ []
-  pub manifest : manifest_changes c.found c.kept c.loose.frames c.loose_now.frames c.ids ≡ []
+  pub extents : extent_lines resets c.before c.after c.firsts ≡ []
+  pub named : named_lines resets c.after.checked ≡ []
+  pub manifest : manifest_changes c.before c.after_resets c.loose.frames c.loose_now.frames c.ids ≡ []
 
 -- If the verdict is safe, both superblocks count, and there is no line of any kind.
 pub no_line : (resets : List ℕ) (c : Compared) → is_safe resets c ≡ true → HasNoLine resets c
@@ -68,9 +68,9 @@ no_line resets c safe = by (generations_in c) refl safe
     by (Some both) is empty =
         let all = both_nil (doubts_of_both c ++ generation_line both.0 both.1) (changes resets c) (nil_from_no_length (doubts_of_both c ++ generation_line both.0 both.1 ++ changes resets c) empty) in
         let front = both_nil (doubts_of_both c) (generation_line both.0 both.1) all.0 in
-        let lines = both_nil (written_line 0 c.first ++ extent_lines resets c.found c.rest c.firsts ++ named_lines resets c.rest.checked) (manifest_changes c.found c.kept c.loose.frames c.loose_now.frames c.ids) all.1 in
-        let more = both_nil (written_line 0 c.first ++ extent_lines resets c.found c.rest c.firsts) (named_lines resets c.rest.checked) lines.0 in
-        let first = both_nil (written_line 0 c.first) (extent_lines resets c.found c.rest c.firsts) more.0 in
+        let lines = both_nil (written_line 0 c.first ++ extent_lines resets c.before c.after c.firsts ++ named_lines resets c.after.checked) (manifest_changes c.before c.after_resets c.loose.frames c.loose_now.frames c.ids) all.1 in
+        let more = both_nil (written_line 0 c.first ++ extent_lines resets c.before c.after c.firsts) (named_lines resets c.after.checked) lines.0 in
+        let first = both_nil (written_line 0 c.first) (extent_lines resets c.before c.after c.firsts) more.0 in
         record {
           old = both.0;
           new = both.1;
@@ -86,17 +86,17 @@ no_line resets c safe = by (generations_in c) refl safe
 -- ---- retired extents
 
 -- the same extents are retired
-pub same_retired : (resets : List ℕ) (c : Compared) → HasNoLine resets c → c.kept.plan.retired ≡ c.found.plan.retired
+pub same_retired : (resets : List ℕ) (c : Compared) → HasNoLine resets c → c.after_resets.plan.retired ≡ c.before.plan.retired
 same_retired resets c none =
-    sym ((bytes_eq-Decides c.found.plan.retired c.kept.plan.retired).0
-    (passed (bytes_eq c.found.plan.retired c.kept.plan.retired) (lost_line (retired_line c.found.plan.retired)) (new_line (retired_line c.kept.plan.retired)) (omega arith) first.0))
+    sym ((bytes_eq-Decides c.before.plan.retired c.after_resets.plan.retired).0
+    (passed (bytes_eq c.before.plan.retired c.after_resets.plan.retired) (lost_line (retired_line c.before.plan.retired)) (new_line (retired_line c.after_resets.plan.retired)) (omega arith) first.0))
   where
-    front : (retired_change c.found.plan.retired c.kept.plan.retired ++ runs_change (lost_runs c.found) (hidden_runs c.found) (lost_runs c.kept) (hidden_runs c.kept) ≡ [])
-        × (shard_changes (row_in c.found c.loose.frames) (row_in c.kept c.loose_now.frames) (of_shards c.found.checked) (of_shards c.kept.checked) c.ids ≡ [])
-    front = both_nil (retired_change c.found.plan.retired c.kept.plan.retired ++ runs_change (lost_runs c.found) (hidden_runs c.found) (lost_runs c.kept) (hidden_runs c.kept)) (shard_changes (row_in c.found c.loose.frames) (row_in c.kept c.loose_now.frames) (of_shards c.found.checked) (of_shards c.kept.checked) c.ids) none.manifest
+    front : (retired_change c.before.plan.retired c.after_resets.plan.retired ++ runs_change (lost_run_count c.before) (hidden_runs c.before) (lost_run_count c.after_resets) (hidden_runs c.after_resets) ≡ [])
+        × (shard_changes (row_in c.before c.loose.frames) (row_in c.after_resets c.loose_now.frames) (of_shards c.before.checked) (of_shards c.after_resets.checked) c.ids ≡ [])
+    front = both_nil (retired_change c.before.plan.retired c.after_resets.plan.retired ++ runs_change (lost_run_count c.before) (hidden_runs c.before) (lost_run_count c.after_resets) (hidden_runs c.after_resets)) (shard_changes (row_in c.before c.loose.frames) (row_in c.after_resets c.loose_now.frames) (of_shards c.before.checked) (of_shards c.after_resets.checked) c.ids) none.manifest
 
-    first : (retired_change c.found.plan.retired c.kept.plan.retired ≡ []) × (runs_change (lost_runs c.found) (hidden_runs c.found) (lost_runs c.kept) (hidden_runs c.kept) ≡ [])
-    first = both_nil (retired_change c.found.plan.retired c.kept.plan.retired) (runs_change (lost_runs c.found) (hidden_runs c.found) (lost_runs c.kept) (hidden_runs c.kept)) front.0
+    first : (retired_change c.before.plan.retired c.after_resets.plan.retired ≡ []) × (runs_change (lost_run_count c.before) (hidden_runs c.before) (lost_run_count c.after_resets) (hidden_runs c.after_resets) ≡ [])
+    first = both_nil (retired_change c.before.plan.retired c.after_resets.plan.retired) (runs_change (lost_run_count c.before) (hidden_runs c.before) (lost_run_count c.after_resets) (hidden_runs c.after_resets)) front.0
 
 -- ---- named locators
 
@@ -114,9 +114,9 @@ unnamed resets c none there =
 pub none_points : (resets : List ℕ) (before after : Image) (text : List ℕ) (rest : Scrubbed) →
     IsComparison resets before after text true → IsScrubbed after rest → NonePointsInto resets rest.checked
 none_points resets before after text rest s y =
-    subst (λ (r : Scrubbed). NonePointsInto resets r.checked) (one_scrub after s.compared.rest rest s.are.rest y)
-    (λ i d below. unnamed resets (get_or s.compared.rest.checked i d)
-    (all_none (named_line resets) s.compared.rest.checked (no_line resets s.compared (sym s.verdict)).named i d below))
+    subst (λ (r : Scrubbed). NonePointsInto resets r.checked) (one_scrub after s.compared.after rest s.are.scrubbed_after y)
+    (λ i d below. unnamed resets (get_or s.compared.after.checked i d)
+    (all_none (named_line resets) s.compared.after.checked (no_line resets s.compared (sym s.verdict)).named i d below))
 
 -- ---- extents
 

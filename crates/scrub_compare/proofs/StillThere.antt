@@ -107,74 +107,74 @@ module _ (resets : List ℕ) (image : Image) (s : Scrubbed) (x : IsScrubbedBut r
 -- ---- what is safe
 
 module _ (resets : List ℕ) (before after : Image) (c : Compared) (are : AreCompared resets before after c) (none : HasNoLine resets c) where
-  k : AreKept c.found c.kept c.loose.frames c.loose_now.frames
+  k : AreKept c.before c.after_resets c.loose.frames c.loose_now.frames
   k = kept resets before after c are none
 
   -- a locator with a loose copy in the earlier image, and the one with its number in the later one
-  module _ (id : ShardId) (n : ℕ) (e : Checked) (was : slice_get (owned_by id (of_shards c.found.checked)) n ≡ Some e) (s : Standing)
-      (loose : Contains (loose_of c.found.all c.loose.frames e) s) where
-    is : (is_gone c.found.all e ≡ true) × (is_copy_of e.locator s ≡ true) × Contains c.loose.frames s
-    is = loose_among e c.found.all c.found.all c.loose.frames c.loose.frames s loose
+  module _ (id : ShardId) (n : ℕ) (e : Checked) (was : slice_get (owned_by id (of_shards c.before.checked)) n ≡ Some e) (s : Standing)
+      (loose : Contains (loose_of c.before.all c.loose.frames e) s) where
+    is : (is_gone c.before.all e ≡ true) × (is_copy_of e.locator s ≡ true) × Contains c.loose.frames s
+    is = loose_among e c.before.all c.before.all c.loose.frames c.loose.frames s loose
 
-    bound : HasBinding c.found.bindings id
+    bound : HasBinding c.before.bindings id
     bound =
-        some_bound [] before c.found are.found id (omega (arith, slice_get_within (owned_by id (of_shards c.found.checked)) n e was))
+        some_bound [] before c.before are.scrubbed_before id (omega (arith, slice_get_within (owned_by id (of_shards c.before.checked)) n e was))
 
     abbrev d : Checked
-    d = get_or (owned_by id (of_shards c.kept.checked)) n e
+    d = get_or (owned_by id (of_shards c.after_resets.checked)) n e
 
-    at : slice_get (owned_by id (of_shards c.kept.checked)) n ≡ Some d
+    at : slice_get (owned_by id (of_shards c.after_resets.checked)) n ≡ Some d
     at =
-        slice_get-get_or (owned_by id (of_shards c.kept.checked)) n e
-        (omega (arith, slice_get_within (owned_by id (of_shards c.found.checked)) n e was, k.sizes id bound))
+        slice_get-get_or (owned_by id (of_shards c.after_resets.checked)) n e
+        (omega (arith, slice_get_within (owned_by id (of_shards c.before.checked)) n e was, k.sizes id bound))
 
-    parts : (bytes_eq (row_in c.found c.loose.frames n e).stem (row_in c.kept c.loose_now.frames n d).stem ≡ true)
-        × (has_no_less (row_in c.found c.loose.frames n e).best (row_in c.kept c.loose_now.frames n d).best ≡ true)
+    parts : (bytes_eq (row_in c.before c.loose.frames n e).stem (row_in c.after_resets c.loose_now.frames n d).stem ≡ true)
+        × (has_no_less (row_in c.before c.loose.frames n e).best (row_in c.after_resets c.loose_now.frames n d).best ≡ true)
     parts =
-        and_parts (bytes_eq (row_in c.found c.loose.frames n e).stem (row_in c.kept c.loose_now.frames n d).stem)
-        (has_no_less (row_in c.found c.loose.frames n e).best (row_in c.kept c.loose_now.frames n d).best) (k.alike id bound n e d was at)
+        and_parts (bytes_eq (row_in c.before c.loose.frames n e).stem (row_in c.after_resets c.loose_now.frames n d).stem)
+        (has_no_less (row_in c.before c.loose.frames n e).best (row_in c.after_resets c.loose_now.frames n d).best) (k.alike id bound n e d was at)
 
     dangles : is_dangling e.status ≡ true
     dangles =
-        let asks = and_parts (asks_for_spares e) (length (spares_of c.found.all e) == 0) is.0 in
+        let asks = and_parts (asks_for_spares e) (length (spares_of c.before.all e) == 0) is.0 in
         (and_parts (is_dangling e.status) (nat_lt 0 e.locator.length) asks.0).0
 
     abbrev old : BestCopy
-    old = best_of c.found.all c.loose.frames e
+    old = best_of c.before.all c.loose.frames e
 
     abbrev new : BestCopy
-    new = best_of c.kept.all c.loose_now.frames d
+    new = best_of c.after_resets.all c.loose_now.frames d
 
     no_worse : rank old ≤ rank new
     no_worse =
         by (is_dangling d.status)
-        (subst (λ (b : Bool). has_no_less (if b then Some old else None) (row_in c.kept c.loose_now.frames n d).best ≡ true) dangles parts.1)
+        (subst (λ (b : Bool). has_no_less (if b then Some old else None) (row_in c.after_resets c.loose_now.frames n d).best ≡ true) dangles parts.1)
       where
         by : (b : Bool) → has_no_less (Some old) (if b then Some new else None) ≡ true → rank old ≤ rank new
         by true less = no_lower old new less
         by false less = absurd (false≢true less)
 
     some : 0 < rank old
-    some = some_rank (spares_of c.found.all e) (loose_of c.found.all c.loose.frames e) s loose
+    some = some_rank (spares_of c.before.all e) (loose_of c.before.all c.loose.frames e) s loose
 
-    found_there : (t : Standing) × IsCopyThere after c.kept.plan.planned d.locator t
-    found_there = one_there resets after c.kept c.loose_now are.kept are.loose_now d (omega (arith, some, no_worse))
+    found_there : (t : Standing) × IsCopyThere after c.after_resets.plan.planned d.locator t
+    found_there = one_there resets after c.after_resets c.loose_now are.scrubbed_after_resets are.loose_now d (omega (arith, some, no_worse))
 
     words : (e.locator.length ≡ d.locator.length) × (encode_lower e.locator.digest ≡ encode_lower d.locator.digest)
     words =
-        same_words n e d (place_or_form c.found.all e) (place_or_form c.kept.all d)
-        (own_text [] before c.found are.found id n e was ∙ sym (own_text resets after c.kept are.kept id n d at))
-        (own_numbers [] before c.found are.found id n e was).length (own_numbers resets after c.kept are.kept id n d at).length
-        ((bytes_eq-Decides (row_in c.found c.loose.frames n e).stem (row_in c.kept c.loose_now.frames n d).stem).0 parts.0)
+        same_words n e d (place_or_form c.before.all e) (place_or_form c.after_resets.all d)
+        (own_text [] before c.before are.scrubbed_before id n e was ∙ sym (own_text resets after c.after_resets are.scrubbed_after_resets id n d at))
+        (own_numbers [] before c.before are.scrubbed_before id n e was).length (own_numbers resets after c.after_resets are.scrubbed_after_resets id n d at).length
+        ((bytes_eq-Decides (row_in c.before c.loose.frames n e).stem (row_in c.after_resets c.loose_now.frames n d).stem).0 parts.0)
 
     digests : e.locator.digest ≡ d.locator.digest
     digests =
         let one = asked_digest before e.locator s ((are.loose.frames s).0 is.2).stands is.1 in
         let other = asked_digest after d.locator found_there.0 found_there.1.there.stands found_there.1.copies in
-        same_digests n e d (place_or_form c.found.all e) (place_or_form c.kept.all d) one.0 other.0 one.1 other.1 words.1
+        same_digests n e d (place_or_form c.before.all e) (place_or_form c.after_resets.all d) one.0 other.0 one.1 other.1 words.1
 
     -- The locator of the earlier image has a copy among the frames of the later one.
-    pub still_there : (t : Standing) × IsCopyThere after c.kept.plan.planned e.locator t
+    pub still_there : (t : Standing) × IsCopyThere after c.after_resets.plan.planned e.locator t
     still_there =
         let t = found_there.0 in
         (t, record { there = found_there.1.there; copies = (λ i. bytes_eq t.digest (digests i) && (t.length == words.0 i)) ∙ found_there.1.copies })

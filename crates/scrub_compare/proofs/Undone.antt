@@ -262,33 +262,33 @@ module _ (before after undone : Image) (found rest : Scrubbed) (x : IsScrubbed b
 module _ (resets : List ℕ) (before after undone : Image) (c : Compared) (are : AreCompared resets before after c) (none : HasNoLine resets c)
     (equal : after.geometry ≡ before.geometry) (n : NoneIsCrowded after) (u : IsUndone before after undone) (rest : Scrubbed) (loose : LooseValue)
     (y : IsScrubbed undone rest) (m : AreLoose [] undone rest.plan loose) where
-  bytes_kept : KeepsBytes before after c.found
+  bytes_kept : KeepsBytes before after c.before
   bytes_kept = bytes_stay resets before after equal c are none
 
-  k : AreKept c.found c.kept c.loose.frames c.loose_now.frames
+  k : AreKept c.before c.after_resets c.loose.frames c.loose_now.frames
   k = kept resets before after c are none
 
   -- the extents in use are those of the earlier image, and those of the later one
-  planned_undone : rest.plan.planned ≡ c.kept.plan.planned
+  planned_undone : rest.plan.planned ≡ c.after_resets.plan.planned
   planned_undone =
-      planned before after undone c.found rest are.found y bytes_kept equal u
-      ∙ sym (same_planned [] resets before after c.found c.kept equal k.retired are.found are.kept)
+      planned before after undone c.before rest are.scrubbed_before y bytes_kept equal u
+      ∙ sym (same_planned [] resets before after c.before c.after_resets equal k.retired are.scrubbed_before are.scrubbed_after_resets)
 
-  planned_after : c.kept.plan.planned ≡ n.plan.planned
+  planned_after : c.after_resets.plan.planned ≡ n.plan.planned
   planned_after =
-      let without : (old : PlanValue) × (old ≡ plan_of c.kept.choice) × IsReset old resets c.kept.plan = reset_of resets c.kept.choice c.kept.plan are.kept.plan in
+      let without : (old : PlanValue) × (old ≡ plan_of c.after_resets.choice) × IsReset old resets c.after_resets.plan = reset_of resets c.after_resets.choice c.after_resets.plan are.scrubbed_after_resets.plan in
       without.2.planned
       ∙ ap (λ (p : PlanValue). p.planned)
-      (one_plan_in after without.0 n.plan (record { choice = c.kept.choice; chosen = are.kept.choice; follows = without.1 }) n.is)
+      (one_plan_in after without.0 n.plan (record { choice = c.after_resets.choice; chosen = are.scrubbed_after_resets.choice; follows = without.1 }) n.is)
 
   -- such an extent has the bytes of the later image
-  alike_in_use : (e : ℕ) → Contains c.kept.plan.planned e → AreAlike after undone e
+  alike_in_use : (e : ℕ) → Contains c.after_resets.plan.planned e → AreAlike after undone e
   alike_in_use e in_use =
-      let there = planned_there resets after c.kept are.kept e in_use in
+      let there = planned_there resets after c.after_resets are.scrubbed_after_resets e in_use in
       record { sizes = u.sizes; bytes = fun_ext (λ p. u.bytes e p there.0 there.1) }
 
   -- a frame that is there in such an extent of the later image is a loose frame
-  is_loose : (t : Standing) → IsThereIn after c.kept.plan.planned t → Contains loose.frames t
+  is_loose : (t : Standing) → IsThereIn after c.after_resets.plan.planned t → Contains loose.frames t
   is_loose t is = (m.frames t).1 (record {
     searched = record {
       in_use = subst (λ (es : List ℕ). Contains es t.extent) (sym planned_undone) is.number;
@@ -302,34 +302,34 @@ module _ (resets : List ℕ) (before after undone : Image) (c : Compared) (are :
   })
 
   -- what had a loose copy has one, or a spare
-  loose_still : (id : ShardId) (number : ℕ) (e : Checked) → slice_get (owned_by id (of_shards c.found.checked)) number ≡ Some e → (s : Standing) →
-      Contains (loose_of c.found.all c.loose.frames e) s → spares_of rest.all e ≡ [] → loose_of rest.all loose.frames e ≢ []
+  loose_still : (id : ShardId) (number : ℕ) (e : Checked) → slice_get (owned_by id (of_shards c.before.checked)) number ≡ Some e → (s : Standing) →
+      Contains (loose_of c.before.all c.loose.frames e) s → spares_of rest.all e ≡ [] → loose_of rest.all loose.frames e ≢ []
   loose_still id number e was s there none_left =
       let t = still_there resets before after c are none id number e was s there in
       let asks : asks_for_spares e ≡ true =
-      (and_parts (asks_for_spares e) (length (spares_of c.found.all e) == 0) (loose_among e c.found.all rest.all c.loose.frames loose.frames s there).0).0 in
+      (and_parts (asks_for_spares e) (length (spares_of c.before.all e) == 0) (loose_among e c.before.all rest.all c.loose.frames loose.frames s there).0).0 in
       let gone : is_gone rest.all e ≡ true = λ i. asks i && (length (none_left i) == 0) in
       not_nil (loose_of rest.all loose.frames e) t.0
       (subst (λ (b : Bool). Contains (if b then filter (is_copy_of e.locator) loose.frames else []) t.0) (sym gone)
       (Contains-filter (is_copy_of e.locator) loose.frames t.0 t.1.copies (is_loose t.0 t.1.there)))
 
   -- so no copy is worse
-  best : HaveNoWorse c.found rest c.loose.frames loose.frames
+  best : HaveNoWorse c.before rest c.loose.frames loose.frames
   best id number e was =
-      subst (λ (ss : List Standing). rank (best_of c.found.all c.loose.frames e) ≤ rank (best_among ss (loose_of rest.all loose.frames e))) (sym spares)
-      (same_spares (spares_of c.found.all e) (loose_of c.found.all c.loose.frames e) (loose_of rest.all loose.frames e)
+      subst (λ (ss : List Standing). rank (best_of c.before.all c.loose.frames e) ≤ rank (best_among ss (loose_of rest.all loose.frames e))) (sym spares)
+      (same_spares (spares_of c.before.all e) (loose_of c.before.all c.loose.frames e) (loose_of rest.all loose.frames e)
       (λ some none_left.
-      let one = first_of (loose_of c.found.all c.loose.frames e) some in loose_still id number e was one.0 one.1 (spares ∙ none_left)))
+      let one = first_of (loose_of c.before.all c.loose.frames e) some in loose_still id number e was one.0 one.1 (spares ∙ none_left)))
     where
-      spares : spares_of rest.all e ≡ spares_of c.found.all e
-      spares = ap (λ (fs : List Standing). spares_by fs e) (same_chunks before after undone c.found rest are.found y bytes_kept equal u)
+      spares : spares_of rest.all e ≡ spares_of c.before.all e
+      spares = ap (λ (fs : List Standing). spares_by fs e) (same_chunks before after undone c.before rest are.scrubbed_before y bytes_kept equal u)
 
-  pub undone_text : IsSameButRisen (manifest_text c.found c.loose.frames) (manifest_text rest loose.frames)
+  pub undone_text : IsSameButRisen (manifest_text c.before c.loose.frames) (manifest_text rest loose.frames)
   undone_text =
-      let names = named before after undone c.found rest are.found y bytes_kept equal u in
-      risen_text [] [] before undone c.found rest c.loose.frames loose.frames are.found y
-      (kept_named c.found rest c.loose.frames loose.frames names best k.has k.read)
-      (same_hidden c.found rest c.loose.frames loose.frames names best)
+      let names = named before after undone c.before rest are.scrubbed_before y bytes_kept equal u in
+      risen_text [] [] before undone c.before rest c.loose.frames loose.frames are.scrubbed_before y
+      (kept_named c.before rest c.loose.frames loose.frames names best k.has k.read)
+      (same_hidden c.before rest c.loose.frames loose.frames names best)
 
 -- If the earlier superblock is written again after a safe step, and no extent of the later image is crowded, the manifest is the
 -- earlier one, but for last words that rose.
@@ -337,6 +337,6 @@ pub can_be_undone : (resets : List ℕ) (before after undone : Image) (a b : Lis
     IsUndone before after undone → IsManifest before a v → IsManifest undone b w → IsSameButRisen a b
 can_be_undone resets before after undone a b v w s n u x y =
     let c : Compared = s.safe.compared in
-    subst (λ (t : List ℕ). IsSameButRisen t b) (sym (text_of_found before a v c.found c.loose x s.safe.are.found s.safe.are.loose))
-    (subst (λ (t : List ℕ). IsSameButRisen (manifest_text c.found c.loose.frames) t) (sym y.text_is)
+    subst (λ (t : List ℕ). IsSameButRisen t b) (sym (text_of_found before a v c.before c.loose x s.safe.are.scrubbed_before s.safe.are.loose))
+    (subst (λ (t : List ℕ). IsSameButRisen (manifest_text c.before c.loose.frames) t) (sym y.text_is)
     (undone_text resets before after undone c s.safe.are (no_line resets c (sym s.safe.verdict)) s.sizes n u y.found y.loose y.scrubbed y.are_loose))

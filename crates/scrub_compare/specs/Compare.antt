@@ -24,7 +24,7 @@ use Rattle.scrub_loose.specs.Loose.{AreLoose, LooseValue, best_of}
 use Rattle.scrub_found.specs.Resets.{IsScrubbedBut}
 use Rattle.scrub_found.specs.Scrubbed.{Scrubbed, IsScrubbed}
 use Rattle.scrub_listings.specs.Locators.{locator_line}
-use Rattle.scrub_listings.specs.Manifest.{copy_word, form_text, hidden_runs, looked_for, lost_runs, numbered_text, of_shards, retired_line, runs_line}
+use Rattle.scrub_listings.specs.Manifest.{copy_word, form_text, hidden_runs, looked_for, lost_run_count, numbered_text, of_shards, retired_line, runs_line}
 use Rattle.scrub_reclaim.specs.declared.doubts.Doubt.{Doubt}
 use Rattle.scrub_reclaim.specs.Copy.{rank}
 use Rattle.scrub_reclaim.specs.Doubts.{choice_doubts, doubt_text, page_doubts, run_doubts, superblock_lost}
@@ -77,15 +77,15 @@ written_line x (Some p) = codes "written" ++ spaced (decimal x) ++ spaced (decim
 abbrev pub lines_of_extent : List ℕ → Option ℕ → ℕ → ℕ → ℕ → Option ℕ → List ℕ
 lines_of_extent resets room x old new first = pointer_line resets room x old new ++ written_line x first
 
--- the same by what is found in both images
+-- the lines of extent x by what is found in both images
 abbrev pub lines_in : List ℕ → Scrubbed → Scrubbed → ℕ → Option ℕ → List ℕ
-lines_in resets found rest x first =
-    lines_of_extent resets (room_at found x) x (pointer_in found.plan x) (pointer_in rest.plan x) first
+lines_in resets before after x first =
+    lines_of_extent resets (room_at before x) x (pointer_in before.plan x) (pointer_in after.plan x) first
 
 -- the lines of extents 1, 2 and so on, by the first byte of each that changed and may not
 abbrev pub extent_lines : List ℕ → Scrubbed → Scrubbed → List (Option ℕ) → List ℕ
-extent_lines resets found rest firsts =
-    flat_map (λ e. lines_in resets found rest (e.0 + 1) e.1) (enumerate_from 0 firsts)
+extent_lines resets before after firsts =
+    flat_map (λ e. lines_in resets before after (e.0 + 1) e.1) (enumerate_from 0 firsts)
 
 -- ---- named locators
 
@@ -179,7 +179,7 @@ row_change old new =
     if are_alike old new then []
     else (if has_fallen old new then fallen_word old.best ++ row_line old else lost_line (row_line old) ++ new_line (row_line new))
 
--- the same where one of them may be missing
+-- the lines of what became of a line that one of the two manifests may lack
 abbrev pub change : Option RowValue → Option RowValue → List ℕ
 change None None = []
 change (Some old) None = lost_line (row_line old)
@@ -211,10 +211,10 @@ row_in s loose = row_by (best_of s.all loose) s.all
 
 -- the lines of what became of a manifest but its last line, by what is found on two disks, and by the loose frames of both
 abbrev pub manifest_changes : Scrubbed → Scrubbed → List Standing → List Standing → List ShardId → List ℕ
-manifest_changes found kept loose loose_now ids =
-    retired_change found.plan.retired kept.plan.retired
-    ++ runs_change (lost_runs found) (hidden_runs found) (lost_runs kept) (hidden_runs kept)
-    ++ shard_changes (row_in found loose) (row_in kept loose_now) (of_shards found.checked) (of_shards kept.checked) ids
+manifest_changes before after_resets loose loose_now ids =
+    retired_change before.plan.retired after_resets.plan.retired
+    ++ runs_change (lost_run_count before) (hidden_runs before) (lost_run_count after_resets) (hidden_runs after_resets)
+    ++ shard_changes (row_in before loose) (row_in after_resets loose_now) (of_shards before.checked) (of_shards after_resets.checked) ids
 
 -- one of these bindings has the identifier
 abbrev pub HasBinding : List BindingValue → ShardId → Type 0
@@ -227,14 +227,14 @@ pub record AreBoundIds (old new : List BindingValue) (ids : List ShardId) : Type
 
 -- ---- the whole text
 
--- of two images what is found in the earlier one, in the later one (`rest`), and in that as if extents had
--- been reset (`kept`); the loose frames of the earlier one, and of the later one outside of these extents; what
--- the pages of extent 0 of both are; the first byte that changed and may not, of extent 0 and of each other
--- one; and the shards that either binds
+-- of two images what is found in the earlier one, in the later one, and in that as if extents had been reset;
+-- the loose frames of the earlier one, and of the later one outside of these extents; what the pages of extent
+-- 0 of both are; the first byte that changed and may not, of extent 0 and of each other one; and the shards
+-- that either binds
 pub record Compared : Type 0 where
-  pub found : Scrubbed
-  pub rest : Scrubbed
-  pub kept : Scrubbed
+  pub before : Scrubbed
+  pub after : Scrubbed
+  pub after_resets : Scrubbed
   pub loose : LooseValue
   pub loose_now : LooseValue
   pub pages : List SuperblockPage
@@ -245,28 +245,28 @@ pub record Compared : Type 0 where
 
 -- each part is as it is in the images
 pub record AreCompared (resets : List ℕ) (before after : Image) (c : Compared) : Type 0 where
-  pub found : IsScrubbed before c.found
-  pub rest : IsScrubbed after c.rest
-  pub kept : IsScrubbedBut resets after c.kept
-  pub loose : AreLoose [] before c.found.plan c.loose
-  pub loose_now : AreLoose resets after c.kept.plan c.loose_now
+  pub scrubbed_before : IsScrubbed before c.before
+  pub scrubbed_after : IsScrubbed after c.after
+  pub scrubbed_after_resets : IsScrubbedBut resets after c.after_resets
+  pub loose : AreLoose [] before c.before.plan c.loose
+  pub loose_now : AreLoose resets after c.after_resets.plan c.loose_now
   pub pages : AreSuperblockPages before c.pages
   pub pages_now : AreSuperblockPages after c.pages_now
   pub first : IsLeastNumber (IsWrittenInRecords before after) c.first
-  pub firsts : AreFirstWritten before after c.found c.rest c.firsts
-  pub ids : AreBoundIds c.found.bindings c.kept.bindings c.ids
+  pub firsts : AreFirstWritten before after c.before c.after c.firsts
+  pub ids : AreBoundIds c.before.bindings c.after_resets.bindings c.ids
 
 -- the lines of the doubts of both images
 abbrev pub doubts_of_both : Compared → List ℕ
-doubts_of_both c = firm_lines (codes "before") c.pages c.found ++ firm_lines (codes "after") c.pages_now c.rest
+doubts_of_both c = firm_lines (codes "before") c.pages c.before ++ firm_lines (codes "after") c.pages_now c.after
 
 -- the lines of what became of the extents, the named locators and the manifest
 abbrev pub changes : List ℕ → Compared → List ℕ
 changes resets c =
     written_line 0 c.first
-    ++ extent_lines resets c.found c.rest c.firsts
-    ++ named_lines resets c.rest.checked
-    ++ manifest_changes c.found c.kept c.loose.frames c.loose_now.frames c.ids
+    ++ extent_lines resets c.before c.after c.firsts
+    ++ named_lines resets c.after.checked
+    ++ manifest_changes c.before c.after_resets c.loose.frames c.loose_now.frames c.ids
 
 -- the generation of the superblock that counts, if one does
 abbrev pub generation_of : Choice → Option ℕ
@@ -302,7 +302,7 @@ is_safe_by doubts others (Some both) = len (doubts ++ generation_line both.0 bot
 
 -- the generations of two images
 abbrev pub generations_in : Compared → Option (ℕ × ℕ)
-generations_in c = both_of (generation_of c.found.choice) (generation_of c.rest.choice)
+generations_in c = both_of (generation_of c.before.choice) (generation_of c.after.choice)
 
 -- the whole text
 abbrev pub comparison_text : List ℕ → Compared → List ℕ

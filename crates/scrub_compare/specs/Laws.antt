@@ -26,22 +26,22 @@ pub record IsSafe (resets : List ℕ) (before after : Image) : Type 0 where
 abbrev pub NonePointsInto : List ℕ → List Checked → Type 0
 NonePointsInto resets checked = All (λ c. ¬ Contains resets c.locator.extent) checked
 
--- each byte below the write pointer that an extent had is what it was, or still can't be read; `found` is
+-- each byte below the write pointer that an extent had is what it was, or still can't be read; `found_before` is
 -- what is found in the earlier image
 abbrev pub KeepsBytes : Image → Image → Scrubbed → Type 0
-KeepsBytes before after found = (x p : ℕ) → p < pointer_in found.plan x → image_byte after x p ≡ image_byte before x p
+KeepsBytes before after found_before = (x p : ℕ) → p < pointer_in found_before.plan x → image_byte after x p ≡ image_byte before x p
 
 -- an extent was scanned again, and each chunk among its items is among the new ones: the same place, form,
 -- UUID, length and digest
-pub record HasItsChunks (rest : Scrubbed) (f : Scanned) : Type 0 where
+pub record HasItsChunks (found_after : Scrubbed) (f : Scanned) : Type 0 where
   pub now : Scanned
-  pub among : Contains rest.all now
+  pub among : Contains found_after.all now
   pub extent_is : now.extent ≡ f.extent
   pub chunks : (item : Item) → Contains f.findings.items item → is_chunk item ≡ true → Contains now.findings.items item
 
 -- each scanned extent that isn't one of these still has its chunks
 abbrev pub KeepsChunks : List ℕ → Scrubbed → Scrubbed → Type 0
-KeepsChunks resets found rest = All (λ f. ¬ Contains resets f.extent → HasItsChunks rest f) found.all
+KeepsChunks resets found_before found_after = All (λ f. ¬ Contains resets f.extent → HasItsChunks found_after f) found_before.all
 
 -- two manifests say that no run is lost, and are the same, except that in the second one fewer runs may be
 -- hidden, and the last words of lines may have risen, from `none` over `loose` to `spare`

@@ -43,7 +43,7 @@ room_of g checked f = if has_room g checked f then Some (place_in g f) else None
 abbrev pub room_of_extent : Geometry → List Scanned → List Checked → ℕ → Option ℕ
 room_of_extent g all checked x = option_and_then (room_of g checked) (entry_of all x)
 
--- the same by what is found on a disk
+-- the place where extent x has room, if it has, by what is found on a disk
 abbrev pub room_at : Scrubbed → ℕ → Option ℕ
 room_at found x = room_of_extent found.plan.geometry found.all found.checked x
 
@@ -66,7 +66,7 @@ abbrev pub IsWrittenIn : Image → Image → Option ℕ → ℕ → ℕ → ℕ 
 IsWrittenIn before after room pointer x p = IsChanged before after x p × (¬ MayChangeInRoom before after room pointer x p)
 
 -- for each extent from 1 on, the first byte that changed and may not, if there is one
-pub record AreFirstWritten (before after : Image) (found rest : Scrubbed) (firsts : List (Option ℕ)) : Type 0 where
+pub record AreFirstWritten (before after : Image) (found_before found_after : Scrubbed) (firsts : List (Option ℕ)) : Type 0 where
   pub count : len firsts + 1 ≡ before.geometry.extents
   pub each : (k : ℕ) (first : Option ℕ) → slice_get firsts k ≡ Some first →
-      IsLeastNumber (IsWrittenIn before after (room_at found (k + 1)) (pointer_in rest.plan (k + 1)) (k + 1)) first
+      IsLeastNumber (IsWrittenIn before after (room_at found_before (k + 1)) (pointer_in found_after.plan (k + 1)) (k + 1)) first

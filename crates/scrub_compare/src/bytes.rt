@@ -15,7 +15,7 @@ use std::alloc::Global;
 /// Where a byte may change: not in front of the place of room, and before byte `to` or zero now. Without room
 /// none may.
 #[derive(Clone, Copy)]
-pub(crate) struct Leave {
+pub(crate) struct MayChange {
     pub room: Option<u64>,
     pub to: u64,
 }
@@ -42,20 +42,20 @@ fn is_zeroed(old: Option<u8>, new: Option<u8>) -> bool
 }
 
 /// Whether the byte at a place may change.
-fn may_change(leave: Leave, place: u64, old: Option<u8>, new: Option<u8>) -> bool
-    ensures { result ≡ may_change leave.room leave.to place old new }
+fn may_change(allowed: MayChange, place: u64, old: Option<u8>, new: Option<u8>) -> bool
+    ensures { result ≡ may_change allowed.room allowed.to place old new }
 {
-    match leave.room {
-        Some(from) => place >= from && (place < leave.to || is_zeroed(old, new)),
+    match allowed.room {
+        Some(from) => place >= from && (place < allowed.to || is_zeroed(old, new)),
         None => false,
     }
 }
 
 /// Whether the byte at a place changed, and may not.
-fn is_refused(leave: Leave, place: u64, old: Option<u8>, new: Option<u8>) -> bool
-    ensures { result ≡ is_refused leave.room leave.to place old new }
+fn is_refused(allowed: MayChange, place: u64, old: Option<u8>, new: Option<u8>) -> bool
+    ensures { result ≡ is_refused allowed.room allowed.to place old new }
 {
-    !is_same_byte(old, new) && !may_change(leave, place, old, new)
+    !is_same_byte(old, new) && !may_change(allowed, place, old, new)
 }
 
 /// The byte at a place of an extent that was read, in a page of this number, if that page could be read.
@@ -71,7 +71,6 @@ fn byte_at(extent: &BufferedExtent, page: usize, place: usize) -> Option<u8>
     }
 }
 
-/// Whether bytes are the same.
 fn are_same(old: &[u8], new: &[u8]) -> bool
     ensures { result ≡ bytes_eq old.now new.now }
 {
@@ -107,18 +106,18 @@ fn search(
     page: usize,
     start: usize,
     end: usize,
-    leave: Leave,
+    allowed: MayChange,
 ) -> Option<u32>
     requires few { end ≤ max_extent_bytes }
     requires old_page { page < length old.now.readable.items }
     requires old_bytes { end ≤ length old.now.bytes.items }
     requires new_page { page < length new.now.readable.items }
     requires new_bytes { end ≤ length new.now.bytes.items }
-    ensures { IsFirstWithin start end (is_refused_at old.now new.now leave.room leave.to page) result }
+    ensures { IsFirstWithin start end (is_refused_at old.now new.now allowed.room allowed.to page) result }
 {
     for place in start..end {
         let (before, after) = (byte_at(old, page, place), byte_at(new, page, place));
-        if is_refused(leave, place as u64, before, after) {
+        if is_refused(allowed, place as u64, before, after) {
             return Some(place as u32);
         }
     }
@@ -131,7 +130,7 @@ pub(crate) fn first_in_page(
     new: &BufferedExtent,
     page: usize,
     size: usize,
-    leave: Leave,
+    allowed: MayChange,
 ) -> Option<u32>
     requires few { page * size + size ≤ max_extent_bytes }
     requires old_page { page < length old.now.readable.items }
@@ -139,14 +138,14 @@ pub(crate) fn first_in_page(
     requires new_page { page < length new.now.readable.items }
     requires new_bytes { page * size + size ≤ length new.now.bytes.items }
     ensures { IsFirstWithin (page * size) (page * size + size)
-        (is_refused_at old.now new.now leave.room leave.to page) result }
+        (is_refused_at old.now new.now allowed.room allowed.to page) result }
 {
     let start = page * size;
     let end = start + size;
     if is_same_page(old, new, page, start, end) {
         return None;
     }
-    search(old, new, page, start, end, leave)
+    search(old, new, page, start, end, allowed)
 }
 
 /// The first byte of an extent that changed and may not.
@@ -154,18 +153,18 @@ fn first_in_extent(
     old: &BufferedExtent,
     new: &BufferedExtent,
     geometry: Geometry,
-    leave: Leave,
+    allowed: MayChange,
 ) -> Option<u32>
     requires old_pages { length old.now.readable.items ≡ geometry.pages }
     requires old_bytes { length old.now.bytes.items ≡ geometry.page * geometry.pages }
     requires new_pages { length new.now.readable.items ≡ geometry.pages }
     requires new_bytes { length new.now.bytes.items ≡ geometry.page * geometry.pages }
     ensures { IsLeastWithin 0 (geometry.page * geometry.pages)
-        (λ p. is_refused_at old.now new.now leave.room leave.to (p / geometry.page) p ≡ true) result }
+        (λ p. is_refused_at old.now new.now allowed.room allowed.to (p / geometry.page) p ≡ true) result }
 {
     let size = geometry.page() as usize;
     for page in 0..geometry.pages() as usize {
-        let first = first_in_page(old, new, page, size, leave);
+        let first = first_in_page(old, new, page, size, allowed);
         if first.is_some() {
             return first;
         }
@@ -180,16 +179,16 @@ fn first_refused<D: PageSource, E: PageSource>(
     before: &D,
     after: &E,
     extent: u32,
-    leave: Leave,
+    allowed: MayChange,
 ) -> Result<Option<u32>, OutOfMemory>
     requires sizes { (E.image after.now).geometry ≡ (D.image before.now).geometry }
     requires extent { extent < (D.image before.now).geometry.extents }
     ensures { IfOk result (IsLeastWithin 0 (extent_bytes (D.image before.now).geometry)
-        (λ p. is_refused_in (D.image before.now) (E.image after.now) leave.room leave.to extent p ≡ true)) }
+        (λ p. is_refused_in (D.image before.now) (E.image after.now) allowed.room allowed.to extent p ≡ true)) }
 {
     let old = read_extent(alloc, before, extent)?;
     let new = read_extent(alloc, after, extent)?;
-    Ok(first_in_extent(&old, &new, before.geometry(), leave))
+    Ok(first_in_extent(&old, &new, before.geometry(), allowed))
 }
 
 /// The first byte of an extent from 1 on that changed between two images and may not have, by where the
@@ -208,5 +207,5 @@ pub(crate) fn first_written<D: PageSource, E: PageSource>(
         (IsLeastNumber (IsWrittenIn (D.image before.now) (E.image after.now) room pointer extent)) }
 {
     let to = pointer as u64;
-    first_refused(alloc, before, after, extent, Leave { room, to })
+    first_refused(alloc, before, after, extent, MayChange { room, to })
 }

@@ -48,48 +48,48 @@ fn judged_with_pages<'d, D: PageSource, G: Gate, R: Threads + Wait + Sync>(
     Ok((judged, pages, takings))
 }
 
-/// What is found on a disk as if these extents, which are ascending, had been reset; `rest` is what is found
-/// without resets.
+/// What is found on a disk as if these extents, which are ascending, had been reset, by what is found without
+/// resets.
 fn judged_after<'d, D: PageSource, G: Gate, R: Threads + Wait + Sync>(
     rt: &R,
     alloc: Global,
     disk: &'d D,
-    rest: Judged<'d, D>,
+    found_after: Judged<'d, D>,
     workers: u32,
     gate: &G,
     resets: &[u32],
 ) -> Result<Judged<'d, D>, ScrubFault>
     requires workers { workers ≤ 64 }
     requires rising { IsStrictlyIncreasing resets.now }
-    requires rest { AreJudgedBut [] (D.image disk.now) rest }
+    requires found_after { AreJudgedBut [] (D.image disk.now) found_after }
     ensures { IfOk result (AreJudgedBut resets.now (D.image disk.now)) }
 {
     if resets.is_empty() {
-        return Ok(rest);
+        return Ok(found_after);
     }
-    drop(rest);
+    drop(found_after);
     let chosen = choose(alloc, disk)?;
     let (scan, _takings) = scan_chosen(rt, alloc, disk, chosen, workers, gate, resets)?;
-    let kept = judged_of(rt, alloc, scan)?;
-    Ok(kept)
+    let found_after_resets = judged_of(rt, alloc, scan)?;
+    Ok(found_after_resets)
 }
 
 /// The lines of the doubts of both images that can't be accepted.
 fn doubts_of_both<D: PageSource, E: PageSource>(
     alloc: Global,
-    found: &Judged<'_, D>,
-    rest: &Judged<'_, E>,
+    found_before: &Judged<'_, D>,
+    found_after: &Judged<'_, E>,
     pages: &[SuperblockPage],
     pages_now: &[SuperblockPage],
 ) -> Result<String, OutOfMemory>
-    ensures { (image other : Image) (b c : Beside) → IsFoundOn image found.now b → IsFoundOn other rest.now c →
-        IfOk result (λ text. string_bytes text ≡
-        firm_lines (codes "before") pages.now (found_in found.now b) ++
-        firm_lines (codes "after") pages_now.now (found_in rest.now c)) }
+    ensures { (image other : Image) (b c : Beside) → IsFoundOn image found_before.now b →
+        IsFoundOn other found_after.now c → IfOk result (λ text. string_bytes text ≡
+        firm_lines (codes "before") pages.now (found_in found_before.now b) ++
+        firm_lines (codes "after") pages_now.now (found_in found_after.now c)) }
 {
     let mut text = String::new(alloc);
-    append_firm(alloc, &mut text, "before", pages, found)?;
-    append_firm(alloc, &mut text, "after", pages_now, rest)?;
+    append_firm(alloc, &mut text, "before", pages, found_before)?;
+    append_firm(alloc, &mut text, "after", pages_now, found_after)?;
     Ok(text)
 }
 
@@ -99,28 +99,36 @@ fn lines_of_extents<D: PageSource, E: PageSource>(
     before: &D,
     after: &E,
     resets: &[u32],
-    found: &Judged<'_, D>,
-    rest: &Judged<'_, E>,
+    found_before: &Judged<'_, D>,
+    found_after: &Judged<'_, E>,
     pages_now: &[SuperblockPage],
 ) -> Result<String, OutOfMemory>
     requires sizes { (E.image after.now).geometry ≡ (D.image before.now).geometry }
     requires rising { IsStrictlyIncreasing resets.now }
-    requires found { AreJudgedBut [] (D.image before.now) found.now }
-    requires rest { AreJudgedBut [] (E.image after.now) rest.now }
+    requires found_before { AreJudgedBut [] (D.image before.now) found_before.now }
+    requires found_after { AreJudgedBut [] (E.image after.now) found_after.now }
     requires held { AreSuperblockPages (E.image after.now) pages_now.now }
     ensures { (b c : Beside) → IfOk result (λ text. (first : Option ℕ) ×
         IsLeastNumber (IsWrittenInRecords (D.image before.now) (E.image after.now)) first ×
         (firsts : List (Option ℕ)) ×
-        AreFirstWritten (D.image before.now) (E.image after.now) (found_in found.now b)
-        (found_in rest.now c) firsts × (string_bytes text ≡ written_line 0 first ++
-        extent_lines resets.now (found_in found.now b) (found_in rest.now c) firsts ++
-        named_lines resets.now rest.now.checked.items)) }
+        AreFirstWritten (D.image before.now) (E.image after.now) (found_in found_before.now b)
+        (found_in found_after.now c) firsts × (string_bytes text ≡ written_line 0 first ++
+        extent_lines resets.now (found_in found_before.now b) (found_in found_after.now c) firsts ++
+        named_lines resets.now found_after.now.checked.items)) }
 {
     let mut text = String::new(alloc);
     let first = first_in_records(alloc, before, after, pages_now)?;
     append_written(&mut text, 0, first)?;
-    append_extents(alloc, &mut text, before, after, resets, found, rest)?;
-    append_named(alloc, &mut text, resets, &rest.checked)?;
+    append_extents(
+        alloc,
+        &mut text,
+        before,
+        after,
+        resets,
+        found_before,
+        found_after,
+    )?;
+    append_named(alloc, &mut text, resets, &found_after.checked)?;
     Ok(text)
 }
 
@@ -162,7 +170,7 @@ fn append_generation(text: &mut String, old: u64, new: u64) -> Result<(), OutOfM
     writeln!(text, " {new}")
 }
 
-/// Appends the last line.
+/// Appends the last line: `safe` with both generations, or `unsafe`.
 fn append_last(text: &mut String, is_safe: bool, old: u64, new: u64) -> Result<(), OutOfMemory>
     ensures { OnOk result (string_bytes text.new ≡ string_bytes text.old ++
         (if is_safe then safe_line old new else unsafe_line)) }
@@ -242,14 +250,31 @@ pub fn compare<D: PageSource, E: PageSource, G: Gate, R: Threads + Wait + Sync>(
     ensures takings { IfOk result (λ r. AreTakingsBy (D.image before.now) workers r.1) }
     ensures takings_now { IfOk result (λ r. AreTakingsBy (E.image after.now) workers r.2) }
 {
-    let (found, pages, takings) = judged_with_pages(rt, alloc, before, workers, gate)?;
-    let (rest, pages_now, takings_now) = judged_with_pages(rt, alloc, after, workers, gate)?;
-    let (chosen, chosen_now) = (&found.scan.chosen, &rest.scan.chosen);
+    let (found_before, pages, takings) = judged_with_pages(rt, alloc, before, workers, gate)?;
+    let (found_after, pages_now, takings_now) = judged_with_pages(rt, alloc, after, workers, gate)?;
+    let (chosen, chosen_now) = (&found_before.scan.chosen, &found_after.scan.chosen);
     let generations = both_of(generation_of(chosen), generation_of(chosen_now));
-    let doubts = doubts_of_both(alloc, &found, &rest, &pages, &pages_now)?;
-    let mut others = lines_of_extents(alloc, before, after, resets, &found, &rest, &pages_now)?;
-    let kept = judged_after(rt, alloc, after, rest, workers, gate, resets)?;
-    append_manifest_changes(rt, alloc, &mut others, before, after, &found, &kept, resets)?;
+    let doubts = doubts_of_both(alloc, &found_before, &found_after, &pages, &pages_now)?;
+    let mut others = lines_of_extents(
+        alloc,
+        before,
+        after,
+        resets,
+        &found_before,
+        &found_after,
+        &pages_now,
+    )?;
+    let found_after_resets = judged_after(rt, alloc, after, found_after, workers, gate, resets)?;
+    append_manifest_changes(
+        rt,
+        alloc,
+        &mut others,
+        before,
+        after,
+        &found_before,
+        &found_after_resets,
+        resets,
+    )?;
     let listing = listing_by(doubts, &others, generations)?;
     Ok((listing, takings, takings_now))
 }

@@ -98,13 +98,13 @@ fn append_extent<D: PageSource, E: PageSource>(
     before: &D,
     after: &E,
     resets: &[u32],
-    found: &Judged<'_, D>,
+    found_before: &Judged<'_, D>,
     plan: &Plan,
     barred: &ExtentSet,
     extent: u32,
 ) -> Result<(), OutOfMemory>
     requires sizes { (E.image after.now).geometry ≡ (D.image before.now).geometry }
-    requires old_sizes { found.now.scan.plan.geometry ≡ (D.image before.now).geometry }
+    requires old_sizes { found_before.now.scan.plan.geometry ≡ (D.image before.now).geometry }
     requires new_sizes { plan.now.geometry ≡ (D.image before.now).geometry }
     requires rising { IsStrictlyIncreasing resets.now }
     requires from_one { 1 ≤ extent }
@@ -112,13 +112,13 @@ fn append_extent<D: PageSource, E: PageSource>(
     ensures { (checked : List Checked) → AreBarredExtents checked barred.now →
         OnOk result ((first : Option ℕ) ×
         IsLeastNumber (IsWrittenIn (D.image before.now) (E.image after.now)
-        (room_of_extent found.now.scan.plan.geometry found.now.scan.all.extents checked extent)
+        (room_of_extent found_before.now.scan.plan.geometry found_before.now.scan.all.extents checked extent)
         (pointer_in plan.now extent) extent) first ×
         (string_bytes text.new ≡ string_bytes text.old ++ lines_of_extent resets.now
-        (room_of_extent found.now.scan.plan.geometry found.now.scan.all.extents checked extent) extent
-        (pointer_in found.now.scan.plan extent) (pointer_in plan.now extent) first)) }
+        (room_of_extent found_before.now.scan.plan.geometry found_before.now.scan.all.extents checked extent)
+        extent (pointer_in found_before.now.scan.plan extent) (pointer_in plan.now extent) first)) }
 {
-    let scan = &found.scan;
+    let scan = &found_before.scan;
     let room = room_of_extent(scan.plan.geometry(), &scan.all, barred, extent);
     let (old, new) = (scan.plan.pointer(extent), plan.pointer(extent));
     let first = first_written(alloc, before, after, extent, room, new)?;
@@ -132,24 +132,32 @@ pub(crate) fn append_extents<D: PageSource, E: PageSource>(
     before: &D,
     after: &E,
     resets: &[u32],
-    found: &Judged<'_, D>,
-    rest: &Judged<'_, E>,
+    found_before: &Judged<'_, D>,
+    found_after: &Judged<'_, E>,
 ) -> Result<(), OutOfMemory>
     requires sizes { (E.image after.now).geometry ≡ (D.image before.now).geometry }
     requires rising { IsStrictlyIncreasing resets.now }
-    requires found { AreJudgedBut [] (D.image before.now) found.now }
-    requires rest { AreJudgedBut [] (E.image after.now) rest.now }
+    requires found_before { AreJudgedBut [] (D.image before.now) found_before.now }
+    requires found_after { AreJudgedBut [] (E.image after.now) found_after.now }
     ensures { (b c : Beside) → OnOk result ((firsts : List (Option ℕ)) ×
-        AreFirstWritten (D.image before.now) (E.image after.now) (found_in found.now b)
-        (found_in rest.now c) firsts ×
+        AreFirstWritten (D.image before.now) (E.image after.now) (found_in found_before.now b)
+        (found_in found_after.now c) firsts ×
         (string_bytes text.new ≡ string_bytes text.old ++
-        extent_lines resets.now (found_in found.now b) (found_in rest.now c) firsts)) }
+        extent_lines resets.now (found_in found_before.now b) (found_in found_after.now c) firsts)) }
 {
-    let barred = barred_extents(alloc, &found.checked)?;
-    let plan = &rest.scan.plan;
+    let barred = barred_extents(alloc, &found_before.checked)?;
+    let plan = &found_after.scan.plan;
     for extent in 1..before.geometry().extents() {
         append_extent(
-            alloc, text, before, after, resets, found, plan, &barred, extent,
+            alloc,
+            text,
+            before,
+            after,
+            resets,
+            found_before,
+            plan,
+            &barred,
+            extent,
         )?;
     }
     Ok(())

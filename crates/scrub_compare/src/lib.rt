@@ -7,14 +7,11 @@ pub mod comparing;
 mod extents;
 mod firm;
 mod ids;
-pub mod keeping;
+pub mod laws;
 mod manifests;
 mod named;
-pub mod overwriting;
-pub mod pointing;
 mod records;
 mod rooms;
 mod rows;
-pub mod undoing;
 
 pub use comparing::{compare, each_pair_has_a_comparison, one_comparison};

@@ -17,18 +17,17 @@ ghost use Rattle.scrub_compare.specs.Compare.{runs_change, shard_changes};
 ghost use Rattle.scrub_compare.specs.steps.Rows.{AreBestBy, AreByOwner, AreNamedBy};
 
 use crate::ids::bound_ids;
-use crate::rows::{Side, append_shards};
+use crate::rows::{ManifestLines, append_shards};
 use scrub_check::Checked;
 use scrub_disk::{OutOfMemory, PageSource};
 use scrub_found::Judged;
-use scrub_listings::manifest::{append_retired, append_runs, hidden_runs, lost_runs};
+use scrub_listings::manifest::{append_retired, append_runs, hidden_runs, lost_run_count};
 use scrub_loose::Copies;
 use scrub_run::ShardId;
 use std::alloc::Global;
 use std::fmt::Write;
 use std::thread::Threads;
 
-/// Whether two lists of extents are the same.
 fn are_same(old: &[u32], new: &[u32]) -> bool
     ensures { result ≡ bytes_eq old.now new.now }
 {
@@ -63,7 +62,7 @@ fn run_counts<D: PageSource>(judged: &Judged<'_, D>) -> RunCounts
         judged.now.checked.items }
 {
     RunCounts {
-        lost: lost_runs(&judged.runs),
+        lost: lost_run_count(&judged.runs),
         hidden: hidden_runs(&judged.runs, &judged.checked),
     }
 }
@@ -139,12 +138,12 @@ fn append_shard_changes<D: PageSource, E: PageSource>(
         (row_by (best_of new.now.scan.all.extents loose_now) new.now.scan.all.extents)
         (of_shards old.now.checked.items) (of_shards new.now.checked.items) ids.now) }
 {
-    let before = Side {
+    let before = ManifestLines {
         all: &old.scan.all,
         copies,
         shards: shards_of(old),
     };
-    let after = Side {
+    let after = ManifestLines {
         all: &new.scan.all,
         copies: copies_now,
         shards: shards_of(new),

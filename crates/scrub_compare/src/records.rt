@@ -10,7 +10,7 @@ ghost use Rattle.scrub_super.specs.steps.RecordRead.{record_head_size};
 ghost use Rattle.scrub_compare.specs.Written.{IsLeastNumber, IsWrittenInRecords};
 ghost use Rattle.scrub_compare.specs.steps.Changes.{BeginsAsSaid, IsReachWith};
 
-use crate::bytes::{Leave, first_in_page};
+use crate::bytes::{MayChange, first_in_page};
 use scrub_disk::{Geometry, OutOfMemory, PageSource, read_extent};
 use scrub_frame::{DIGEST_BYTES, LOCATOR_BYTES};
 use scrub_super::{Superblock, SuperblockPage, read_record};
@@ -104,11 +104,11 @@ pub(crate) fn first_in_records<D: PageSource, E: PageSource>(
             &pages[page],
             geometry,
         )?;
-        let leave = Leave {
+        let allowed = MayChange {
             room: Some(0),
             to: reach as u64,
         };
-        let first = first_in_page(&old, &new, page, size, leave);
+        let first = first_in_page(&old, &new, page, size, allowed);
         if first.is_some() {
             return Ok(first);
         }

@@ -24,7 +24,7 @@ use std::marker::Model;
 
 /// What the lines of a disk's shards are made from.
 #[derive(Drop)]
-pub(crate) struct Side<'p, 'd, D: PageSource> {
+pub(crate) struct ManifestLines<'p, 'd, D: PageSource> {
     /// What was scanned.
     pub all: &'p AllFindings<'d, D>,
     /// The copies of all named locators.
@@ -114,30 +114,30 @@ fn best_copy(copies: &Copies, one: &Checked) -> Option<BestCopy>
 /// The line of a shard's locator of this number.
 fn row_of<D: PageSource>(
     alloc: Global,
-    side: &Side<'_, '_, D>,
+    lines: &ManifestLines<'_, '_, D>,
     number: usize,
     one: &Checked,
 ) -> Result<Row, OutOfMemory>
     ensures { IfOk result (λ row. row ≡
-        row_among side.now.all.now.extents side.now.copies.now number one.now) }
+        row_among lines.now.all.now.extents lines.now.copies.now number one.now) }
 {
-    let stem = stem_of(alloc, side.all, number, one)?;
-    let best = best_copy(side.copies, one);
+    let stem = stem_of(alloc, lines.all, number, one)?;
+    let best = best_copy(lines.copies, one);
     Ok(Row { stem, best })
 }
 
 /// The line of this number, if a shard has such a locator.
 fn numbered<D: PageSource>(
     alloc: Global,
-    side: &Side<'_, '_, D>,
+    lines: &ManifestLines<'_, '_, D>,
     own: &[Checked],
     number: usize,
 ) -> Result<Option<Row>, OutOfMemory>
     ensures { IfOk result (λ row. row ≡
-        numbered (row_among side.now.all.now.extents side.now.copies.now) own.now number) }
+        numbered (row_among lines.now.all.now.extents lines.now.copies.now) own.now number) }
 {
     match own.get(number) {
-        Some(one) => Ok(Some(row_of(alloc, side, number, one)?)),
+        Some(one) => Ok(Some(row_of(alloc, lines, number, one)?)),
         None => Ok(None),
     }
 }
@@ -179,7 +179,6 @@ fn append_new(text: &mut String, row: &Row) -> Result<(), OutOfMemory>
     append_row(text, row)
 }
 
-/// Whether two texts are the same.
 fn is_same_text(old: &str, new: &str) -> bool
     ensures { result ≡ bytes_eq old.now new.now }
 {
@@ -273,7 +272,7 @@ fn append_row_change(text: &mut String, old: &Row, new: &Row) -> Result<(), OutO
     append_new(text, new)
 }
 
-/// Appends the same where one of the lines may be missing.
+/// Appends the lines of what became of a line that one of the two manifests may lack.
 fn append_change(text: &mut String, old: &Option<Row>, new: &Option<Row>) -> Result<(), OutOfMemory>
     ensures { OnOk result (string_bytes text.new ≡ string_bytes text.old ++ change old.now new.now) }
 {
@@ -289,8 +288,8 @@ fn append_change(text: &mut String, old: &Option<Row>, new: &Option<Row>) -> Res
 fn append_number<D: PageSource, E: PageSource>(
     alloc: Global,
     text: &mut String,
-    before: &Side<'_, '_, D>,
-    after: &Side<'_, '_, E>,
+    before: &ManifestLines<'_, '_, D>,
+    after: &ManifestLines<'_, '_, E>,
     own: &[Checked],
     own_now: &[Checked],
     number: usize,
@@ -308,8 +307,8 @@ fn append_number<D: PageSource, E: PageSource>(
 fn append_shard<D: PageSource, E: PageSource>(
     alloc: Global,
     text: &mut String,
-    before: &Side<'_, '_, D>,
-    after: &Side<'_, '_, E>,
+    before: &ManifestLines<'_, '_, D>,
+    after: &ManifestLines<'_, '_, E>,
     own: &[Checked],
     own_now: &[Checked],
 ) -> Result<(), OutOfMemory>
@@ -327,8 +326,8 @@ fn append_shard<D: PageSource, E: PageSource>(
 pub(crate) fn append_shards<D: PageSource, E: PageSource>(
     alloc: Global,
     text: &mut String,
-    before: &Side<'_, '_, D>,
-    after: &Side<'_, '_, E>,
+    before: &ManifestLines<'_, '_, D>,
+    after: &ManifestLines<'_, '_, E>,
     ids: &[ShardId],
 ) -> Result<(), OutOfMemory>
     requires before { AreByOwner before.now.shards.now }

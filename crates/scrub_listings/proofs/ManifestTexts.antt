@@ -42,7 +42,7 @@ use Rattle.scrub_found.specs.Resets.{IsScrubbedBut}
 use Rattle.scrub_found.specs.Scrubbed.{Scrubbed}
 use Rattle.scrub_found.proofs.FewBindings.{countable, entries_are, entries_fit, indexed, runs_few}
 use Rattle.scrub_found.proofs.ResetPlans.{plan_before}
-use Rattle.scrub_listings.specs.Manifest.{HeldValue, HoldTheSame, after_status_in, all_held, held_locator, hidden_runs, is_of_read_run, is_whole, lost_runs, manifest_text, numbered_lines, of_shards, shard_lines, text_by}
+use Rattle.scrub_listings.specs.Manifest.{HeldValue, HoldTheSame, after_status_in, all_held, held_locator, hidden_runs, is_of_read_run, is_whole, lost_run_count, manifest_text, numbered_lines, of_shards, shard_lines, text_by}
 use Rattle.scrub_listings.proofs.ShardLines.{AreAlong, along_behind, along_fits, along_runs, hidden_few, line_of, lines_along, lines_are, of_names, own_first, shards_part, All-map-back}
 use Rattle.scrub_listings.proofs.WordLines.{IsLine, decimal_word, ended, joined, line_of_literal, same_closed, spaced_line}
 use Rattle.scrub_listings.proofs.ManifestLines.{IsHeld, IsSmallNumber, held_body, held_free, not_last, retired_body, retired_free, runs_body, runs_free, same_held, same_retired, same_runs, spaced_number, total_body}
@@ -143,23 +143,23 @@ total_of s = (length s.bindings, length (of_shards s.checked))
 
 -- the lines of what is found
 abbrev bodies_of : Scrubbed → List Standing → List (List ℕ)
-bodies_of s loose = bodies s.all loose s.plan.retired (lost_runs s) (hidden_runs s) (pairs_of s) (total_of s)
+bodies_of s loose = bodies s.all loose s.plan.retired (lost_run_count s) (hidden_runs s) (pairs_of s) (total_of s)
 
 text_of : (resets : List ℕ) (image : Image) (s : Scrubbed) (loose : List Standing) → IsScrubbedBut resets image s → (b : Bool) → b ≡ true →
-    text_by (after_status_in s.all loose) b s.plan.retired (lost_runs s) (hidden_runs s) s.bindings (of_shards s.checked)
+    text_by (after_status_in s.all loose) b s.plan.retired (lost_run_count s) (hidden_runs s) s.bindings (of_shards s.checked)
     ≡ flat_map ended (bodies_of s loose)
 text_of resets image s loose x false e = absurd (false≢true e)
 text_of resets image s loose x true e =
     let cs = drop (length s.plan.runs) s.checked in
     let after = after_status_in s.all loose in
-    let start = ended (retired_body s.plan.retired) ++ ended (runs_body (lost_runs s) (hidden_runs s)) in
+    let start = ended (retired_body s.plan.retired) ++ ended (runs_body (lost_run_count s) (hidden_runs s)) in
     let last = ended (total_body (length s.bindings) (length (of_shards s.checked))) in
     let shards : flat_map (λ b. shard_lines after (of_shards s.checked) b.id) s.bindings ≡ flat_map ended (map (held_body s.all loose) (pairs_of s)) =
     ap (λ (us : List Checked). flat_map (λ b. shard_lines after us b.id) s.bindings) (shards_part s.plan.runs s.bindings s.checked x.checked.same)
     ∙ sym (lines_are after s.bindings cs x.bindings.bindings_of_map.rising (along_runs s.plan.runs s.bindings s.checked x.checked.same))
     ∙ sym (lines_paired after s.bindings cs) ∙ sym (flat_map-map ended (held_body s.all loose) (pairs_of s)) in
     ap (λ (u : List ℕ). start ++ u ++ last) shards
-    ∙ joined_bodies (retired_body s.plan.retired) (runs_body (lost_runs s) (hidden_runs s)) (total_body (length s.bindings) (length (of_shards s.checked))) (map (held_body s.all loose) (pairs_of s))
+    ∙ joined_bodies (retired_body s.plan.retired) (runs_body (lost_run_count s) (hidden_runs s)) (total_body (length s.bindings) (length (of_shards s.checked))) (map (held_body s.all loose) (pairs_of s))
 
 -- ---- sizes
 
@@ -200,7 +200,7 @@ small resets image s x =
     (subst (λ (ns : List Named). All (λ (n : Named). HasSmallNumbers n.locator) ns)
     (sym (along_runs s.plan.runs s.bindings s.checked x.checked.same)) (numbers_small s.bindings (entries_are resets image s x)))
 
-lost_small : (resets : List ℕ) (image : Image) (s : Scrubbed) → IsScrubbedBut resets image s → IsSmallNumber (lost_runs s)
+lost_small : (resets : List ℕ) (image : Image) (s : Scrubbed) → IsScrubbedBut resets image s → IsSmallNumber (lost_run_count s)
 lost_small resets image s x =
     omega (arith, count_by-le-length is_none s.read.runs, as_many image s.plan s.read x.read, runs_few resets image s x)
 
@@ -295,7 +295,7 @@ held_all resets image s x =
 all_lines : (resets : List ℕ) (image : Image) (s : Scrubbed) (loose : List Standing) → IsScrubbedBut resets image s →
     All IsLine (bodies_of s loose)
 all_lines resets image s loose x =
-    let l = lost_runs s in
+    let l = lost_run_count s in
     let h = hidden_runs s in
     let rest = map (held_body s.all loose) (pairs_of s) ++ total_body (length s.bindings) (length (of_shards s.checked)) ∷ [] in
     All-cons IsLine (retired_body s.plan.retired) (runs_body l h ∷ rest) (retired_free s.plan.retired (retired_small resets image s x))
@@ -320,11 +320,11 @@ module _ (resets others : List ℕ) (image other : Image) (s t : Scrubbed) (loos
   with_superblocks hs ht e =
       let ps = map (held_body s.all loose) (pairs_of s) ++ total_body (length s.bindings) (length (of_shards s.checked)) ∷ [] in
       let qs = map (held_body t.all more) (pairs_of t) ++ total_body (length t.bindings) (length (of_shards t.checked)) ∷ [] in
-      let rs = runs_body (lost_runs s) (hidden_runs s) in
-      let rt = runs_body (lost_runs t) (hidden_runs t) in
+      let rs = runs_body (lost_run_count s) (hidden_runs s) in
+      let rt = runs_body (lost_run_count t) (hidden_runs t) in
       let lines = same_closed 10 (retired_body s.plan.retired ∷ rs ∷ ps) (retired_body t.plan.retired ∷ rt ∷ qs) (all_lines resets image s loose x) (all_lines others other t more y) e in
       let behind = same_behind_first (retired_body s.plan.retired) (retired_body t.plan.retired) (rs ∷ ps) (rt ∷ qs) lines in
-      let runs = same_runs (lost_runs s) (hidden_runs s) (lost_runs t) (hidden_runs t) (lost_small resets image s x) (hidden_small resets image s x) (lost_small others other t y) (hidden_small others other t y) (same_first rs rt ps qs behind) in
+      let runs = same_runs (lost_run_count s) (hidden_runs s) (lost_run_count t) (hidden_runs t) (lost_small resets image s x) (hidden_small resets image s x) (lost_small others other t y) (hidden_small others other t y) (same_first rs rt ps qs behind) in
       record {
         superblock = hs ∙ sym ht;
         retired = same_retired s.plan.retired t.plan.retired (retired_small resets image s x) (retired_small others other t y) (same_first (retired_body s.plan.retired) (retired_body t.plan.retired) (rs ∷ ps) (rt ∷ qs) lines);
@@ -352,8 +352,8 @@ module _ (resets others : List ℕ) (image other : Image) (s t : Scrubbed) (loos
       nothing u frames b = ap (λ (cs : List Checked). map (held_locator u.all frames) (of_shards cs)) b.checked
 
   by_superblock : (b c : Bool) → s.plan.has_superblock ≡ b → t.plan.has_superblock ≡ c →
-      text_by (after_status_in s.all loose) b s.plan.retired (lost_runs s) (hidden_runs s) s.bindings (of_shards s.checked)
-      ≡ text_by (after_status_in t.all more) c t.plan.retired (lost_runs t) (hidden_runs t) t.bindings (of_shards t.checked) → HoldTheSame s loose t more
+      text_by (after_status_in s.all loose) b s.plan.retired (lost_run_count s) (hidden_runs s) s.bindings (of_shards s.checked)
+      ≡ text_by (after_status_in t.all more) c t.plan.retired (lost_run_count t) (hidden_runs t) t.bindings (of_shards t.checked) → HoldTheSame s loose t more
   by_superblock true true hs ht e = with_superblocks hs ht (sym (text_of resets image s loose x true refl) ∙ e ∙ text_of others other t more y true refl)
   by_superblock true false hs ht e =
       absurd (never_bare (flat_map spaced_number s.plan.retired) _ (sym e ∙ text_of resets image s loose x true refl))
@@ -373,6 +373,6 @@ held_sound all loose cs = sym (list_all-map (λ (h : HeldValue). is_sound h.stat
 -- If two disks hold the same, nothing is missing on one exactly if nothing is on the other.
 pub same_verdict : (s t : Scrubbed) (loose more : List Standing) → HoldTheSame s loose t more → is_whole s ≡ is_whole t
 same_verdict s t loose more h =
-    ap (λ (b : Bool). s.plan.has_superblock && lost_runs s == 0 && hidden_runs s == 0 && b) (held_sound s.all loose (of_shards s.checked))
+    ap (λ (b : Bool). s.plan.has_superblock && lost_run_count s == 0 && hidden_runs s == 0 && b) (held_sound s.all loose (of_shards s.checked))
     ∙ (λ i. h.superblock i && h.lost i == 0 && h.hidden i == 0 && list_all (λ (v : HeldValue). is_sound v.status) (h.shards i))
-    ∙ ap (λ (b : Bool). t.plan.has_superblock && lost_runs t == 0 && hidden_runs t == 0 && b) (sym (held_sound t.all more (of_shards t.checked)))
+    ∙ ap (λ (b : Bool). t.plan.has_superblock && lost_run_count t == 0 && hidden_runs t == 0 && b) (sym (held_sound t.all more (of_shards t.checked)))

@@ -49,7 +49,7 @@ lines_of_one all loose c = locator_line c ++ copies_lines (spares_of all c) (loo
 abbrev pub locator_lines : List Scanned → List Standing → List Checked → List ℕ
 locator_lines all loose checked = flat_map (lines_of_one all loose) checked
 
--- the same by the frames among which the copies are
+-- the lines of a named locator, by the frames among which its copies are
 abbrev pub lines_by : CopiesValue → Checked → List ℕ
 lines_by v c = locator_line c ++ copies_lines (spares_by v.spares c) (loose_by v c)
 

@@ -115,8 +115,8 @@ is_of_read_run runs (Run number) = option_map_or is_some (slice_get runs number)
 is_of_read_run runs (Shard id) = false
 
 -- how many index runs are lost
-abbrev pub lost_runs : Scrubbed → ℕ
-lost_runs s = count_by is_none s.read.runs
+abbrev pub lost_run_count : Scrubbed → ℕ
+lost_run_count s = count_by is_none s.read.runs
 
 -- how many index runs are read whose locator is hidden
 abbrev pub hidden_runs : Scrubbed → ℕ
@@ -137,7 +137,7 @@ text_by after has_superblock retired lost hidden bindings shards =
 -- are; or that there is no superblock; by the loose frames
 abbrev pub manifest_text : Scrubbed → List Standing → List ℕ
 manifest_text s loose =
-    text_by (after_status_in s.all loose) s.plan.has_superblock s.plan.retired (lost_runs s) (hidden_runs s) s.bindings (of_shards s.checked)
+    text_by (after_status_in s.all loose) s.plan.has_superblock s.plan.retired (lost_run_count s) (hidden_runs s) s.bindings (of_shards s.checked)
 
 -- each of these locators is sound
 abbrev pub are_sound : List Checked → Bool
@@ -149,7 +149,7 @@ is_whole_by has_superblock lost hidden shards = has_superblock && lost == 0 && h
 
 -- nothing is missing of what is found
 abbrev pub is_whole : Scrubbed → Bool
-is_whole s = is_whole_by s.plan.has_superblock (lost_runs s) (hidden_runs s) (of_shards s.checked)
+is_whole s = is_whole_by s.plan.has_superblock (lost_run_count s) (hidden_runs s) (of_shards s.checked)
 
 -- the text is the manifest of what is found in an image, and the truth value says whether nothing is missing: by these index runs,
 -- if they are given, or else by the superblock that counts, as if these extents had been reset, whose frames are no loose copies
@@ -162,11 +162,11 @@ pub record IsManifestFrom (given : Option (List Locator)) (resets : List ℕ) (i
   pub text_is : text ≡ manifest_text found loose.frames
   pub verdict : whole ≡ is_whole found
 
--- the same by the superblock that counts
+-- it is the manifest by the superblock that counts
 abbrev pub IsManifestBut : List ℕ → Image → List ℕ → Bool → Type 0
 IsManifestBut resets image text whole = IsManifestFrom None resets image text whole
 
--- the same without resets
+-- it is that manifest without resets
 abbrev pub IsManifest : Image → List ℕ → Bool → Type 0
 IsManifest image text whole = IsManifestBut [] image text whole
 
@@ -207,7 +207,7 @@ all_held s loose = map (held_locator s.all loose) (of_shards s.checked)
 pub record HoldTheSame (s : Scrubbed) (loose : List Standing) (t : Scrubbed) (others : List Standing) : Type 0 where
   pub superblock : s.plan.has_superblock ≡ t.plan.has_superblock
   pub retired : s.plan.retired ≡ t.plan.retired
-  pub lost : lost_runs s ≡ lost_runs t
+  pub lost : lost_run_count s ≡ lost_run_count t
   pub hidden : hidden_runs s ≡ hidden_runs t
   pub shards : all_held s loose ≡ all_held t others
 

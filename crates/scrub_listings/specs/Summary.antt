@@ -24,11 +24,11 @@ use Rattle.scrub_merge.specs.Binding.{BindingValue}
 use Rattle.scrub_found.specs.Scrubbed.{Scrubbed, IsScrubbed, is_clean_disk}
 use Rattle.scrub_loose.specs.Copies.{CopiesValue, loose_by}
 use Rattle.scrub_loose.specs.Loose.{AreLoose, LooseValue, loose_of}
-use Rattle.scrub_listings.specs.declared.summary.Tally.{Tally}
-use Rattle.scrub_listings.specs.declared.summary.Tally.TheVariants.{UnreadablePages, Chunks, ChunkBytes, TornItems, NoiseItems, LostItems, Tails, TailBytes}
+use Rattle.scrub_listings.specs.declared.summary.Counted.{Counted}
+use Rattle.scrub_listings.specs.declared.summary.Counted.TheVariants.{UnreadablePages, Chunks, ChunkBytes, TornItems, NoiseItems, LostItems, Tails, TailBytes}
 use Rattle.scrub_listings.specs.declared.summary.Verdict.{Verdict}
 use Rattle.scrub_listings.specs.declared.summary.Verdict.TheVariants.{Sound, InDoubt, Wrong}
-use Rattle.scrub_listings.specs.Manifest.{lost_runs}
+use Rattle.scrub_listings.specs.Manifest.{lost_run_count}
 
 -- ---- the verdict
 
@@ -213,7 +213,7 @@ verdict_line v = codes "verdict" ++ spaced (verdict_text v) ++ 10 ∷ []
 
 -- the verdict, and the numbers of what was found, by the loose frames
 abbrev pub summary_text : Option ℕ → List SuperblockPage → Scrubbed → List Standing → List ℕ
-summary_text last pages s loose = verdict_line (verdict last s pages) ++ number_lines (numbers_by pages s loose (lost_runs s))
+summary_text last pages s loose = verdict_line (verdict last s pages) ++ number_lines (numbers_by pages s loose (lost_run_count s))
 
 -- the text is the summary of what is found in an image, by the generation of the last superblock that was written, if that is
 -- given, and the truth value says whether the verdict is that it is sound
@@ -238,12 +238,12 @@ abbrev pub has_loose_copy_by : CopiesValue → Checked → Bool
 has_loose_copy_by v c = not (length (loose_by v c) == 0)
 
 -- what is counted in an extent
-abbrev pub tally_in : Tally → Scanned → ℕ
-tally_in UnreadablePages f = length f.findings.bad_pages
-tally_in Chunks f = items_of is_chunk f
-tally_in ChunkBytes f = chunk_bytes f
-tally_in TornItems f = items_of is_torn f
-tally_in NoiseItems f = items_of is_noise f
-tally_in LostItems f = items_of is_lost f
-tally_in Tails f = one_if (has_tail f)
-tally_in TailBytes f = f.findings.tail_count
+abbrev pub counted_in : Counted → Scanned → ℕ
+counted_in UnreadablePages f = length f.findings.bad_pages
+counted_in Chunks f = items_of is_chunk f
+counted_in ChunkBytes f = chunk_bytes f
+counted_in TornItems f = items_of is_torn f
+counted_in NoiseItems f = items_of is_noise f
+counted_in LostItems f = items_of is_lost f
+counted_in Tails f = one_if (has_tail f)
+counted_in TailBytes f = f.findings.tail_count

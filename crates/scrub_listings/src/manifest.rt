@@ -267,7 +267,7 @@ fn text_by<D: PageSource>(
 }
 
 /// How many index runs are lost.
-pub fn lost_runs(runs: &[RunRow]) -> usize
+pub fn lost_run_count(runs: &[RunRow]) -> usize
     ensures { result ≡ count_by (λ r. is_none r.entries) runs.now }
 {
     runs.iter().filter(|run| run.entries.is_none()).count()
@@ -321,7 +321,7 @@ fn manifest_of<R: Threads + Sync, D: PageSource>(
     let Scan { plan, all, .. } = &judged.scan;
     let (_runs, shards) = judged.checked.split_at(plan.runs().len());
     let copies = Copies::of(rt, alloc, disk, plan, all, resets, &judged.checked)?;
-    let lost = lost_runs(&judged.runs);
+    let lost = lost_run_count(&judged.runs);
     let hidden = hidden_runs(&judged.runs, &judged.checked);
     let text = text_by(
         alloc,

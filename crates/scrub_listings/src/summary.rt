@@ -19,15 +19,15 @@ ghost use Rattle.scrub_found.specs.Takings.{AreTakingsBy};
 ghost use Rattle.scrub_found.specs.Judged.{AreRowsOf, IsScan, found_in};
 ghost use Rattle.scrub_listings.specs.steps.Summary.{AreSummaryLists, beside_lists};
 ghost use Rattle.scrub_listings.specs.Summary.{IsSummary, candidate_numbers, chunk_numbers};
-ghost use Rattle.scrub_listings.specs.Summary.{counts_as, disk_numbers, has_spare_by, is_behind, is_lost};
-ghost use Rattle.scrub_listings.specs.Summary.{has_loose_copy_by, is_noise};
+ghost use Rattle.scrub_listings.specs.Summary.{counted_in, counts_as, disk_numbers, has_spare_by, is_behind};
+ghost use Rattle.scrub_listings.specs.Summary.{has_loose_copy_by, is_lost, is_noise};
 ghost use Rattle.scrub_listings.specs.Summary.{is_sound_verdict, is_torn, item_numbers};
 ghost use Rattle.scrub_listings.specs.Summary.{number_line, number_lines, numbers_by, one_if};
-ghost use Rattle.scrub_listings.specs.Summary.{reading_numbers, shard_numbers, superblock_numbers, tally_in};
+ghost use Rattle.scrub_listings.specs.Summary.{reading_numbers, shard_numbers, superblock_numbers};
 ghost use Rattle.scrub_listings.specs.Summary.{verdict, verdict_by, verdict_line, verdict_text};
 
 use crate::listing::Listing;
-use crate::manifest::lost_runs;
+use crate::manifest::lost_run_count;
 use scrub_check::{Candidate, Checked, Liveness, Place, broken_shards, is_chunk, size_of};
 use scrub_disk::{OutOfMemory, PageSource};
 use scrub_found::judging::{are_sound, liveness_and_twins};
@@ -57,7 +57,7 @@ pub enum Verdict {
 
 /// What is counted in each extent.
 #[derive(Clone, Copy)]
-pub(crate) enum Tally {
+pub(crate) enum Counted {
     /// Pages that can't be read.
     UnreadablePages,
     /// Chunks.
@@ -77,17 +77,17 @@ pub(crate) enum Tally {
 }
 
 /// Whether a page of extent 0 is damaged or stray.
-fn is_odd(page: &SuperblockPage) -> bool
+fn is_suspect(page: &SuperblockPage) -> bool
     ensures { result ≡ is_odd page.now }
 {
     page.is_damaged() || page.is_stray()
 }
 
 /// Whether one of these pages is damaged or stray.
-fn has_odd_page(pages: &[SuperblockPage]) -> bool
+fn has_suspect_page(pages: &[SuperblockPage]) -> bool
     ensures { result ≡ list_any is_odd pages.now }
 {
-    pages.iter().any(|page| is_odd(page))
+    pages.iter().any(|page| is_suspect(page))
 }
 
 /// Whether a superblock counts, and has this generation.
@@ -115,7 +115,7 @@ fn is_behind(last: Option<u64>, chosen: &Chosen) -> bool
 fn has_doubt(last: Option<u64>, chosen: &Chosen, pages: &[SuperblockPage]) -> bool
     ensures { result ≡ list_any is_odd pages.now || is_behind last chosen.now }
 {
-    has_odd_page(pages) || is_behind(last, chosen)
+    has_suspect_page(pages) || is_behind(last, chosen)
 }
 
 /// The verdict on a disk that is clean or isn't, by whether there is a doubt.
@@ -149,7 +149,6 @@ fn verdict_text(verdict: Verdict) -> &'static str
     }
 }
 
-/// Appends the line of the verdict.
 fn append_verdict(text: &mut String, verdict: Verdict) -> Result<(), OutOfMemory>
     ensures { OnOk result (string_bytes text.new ≡ string_bytes text.old ++ verdict_line verdict) }
 {
@@ -175,21 +174,18 @@ fn append_numbers(text: &mut String, numbers: &[(&str, u128)]) -> Result<(), Out
     Ok(())
 }
 
-/// Whether an item is torn.
 fn is_torn(item: &Item) -> bool
     ensures { result ≡ is_torn item.now }
 {
     matches!(item, Item::Torn { .. })
 }
 
-/// Whether an item is noise.
 fn is_noise(item: &Item) -> bool
     ensures { result ≡ is_noise item.now }
 {
     matches!(item, Item::Noise { .. })
 }
 
-/// Whether an item is lost.
 fn is_lost(item: &Item) -> bool
     ensures { result ≡ is_lost item.now }
 {
@@ -208,28 +204,24 @@ fn chunk_bytes(items: &[Item]) -> u32
         .sum()
 }
 
-/// How many items are chunks.
 fn chunk_count(items: &[Item]) -> usize
     ensures { result ≡ count_by is_chunk items.now }
 {
     items.iter().filter(|item| is_chunk(item)).count()
 }
 
-/// How many items are torn.
 fn torn_count(items: &[Item]) -> usize
     ensures { result ≡ count_by is_torn items.now }
 {
     items.iter().filter(|item| is_torn(item)).count()
 }
 
-/// How many items are noise.
 fn noise_count(items: &[Item]) -> usize
     ensures { result ≡ count_by is_noise items.now }
 {
     items.iter().filter(|item| is_noise(item)).count()
 }
 
-/// How many items are lost.
 fn lost_count(items: &[Item]) -> usize
     ensures { result ≡ count_by is_lost items.now }
 {
@@ -237,35 +229,35 @@ fn lost_count(items: &[Item]) -> usize
 }
 
 /// What is counted in an extent.
-fn tally_in<D: PageSource>(tally: Tally, found: &ExtentResult<'_, D>) -> u64
-    ensures { result ≡ tally_in tally (scanned found.now) }
+fn counted_in<D: PageSource>(counted: Counted, found: &ExtentResult<'_, D>) -> u64
+    ensures { result ≡ counted_in counted (scanned found.now) }
 {
     // It bounds the sum of the bytes: the items join up to the pointer.
     let pointer = found.pointer();
     let findings = found.findings();
     let items = findings.items();
-    match tally {
-        Tally::UnreadablePages => findings.bad_pages().len() as u64,
-        Tally::Chunks => chunk_count(items) as u64,
-        Tally::ChunkBytes => u64::from(chunk_bytes(items)),
-        Tally::TornItems => torn_count(items) as u64,
-        Tally::NoiseItems => noise_count(items) as u64,
-        Tally::LostItems => lost_count(items) as u64,
-        Tally::Tails => u64::from(findings.tail_count() > 0),
-        Tally::TailBytes => u64::from(findings.tail_count()),
+    match counted {
+        Counted::UnreadablePages => findings.bad_pages().len() as u64,
+        Counted::Chunks => chunk_count(items) as u64,
+        Counted::ChunkBytes => u64::from(chunk_bytes(items)),
+        Counted::TornItems => torn_count(items) as u64,
+        Counted::NoiseItems => noise_count(items) as u64,
+        Counted::LostItems => lost_count(items) as u64,
+        Counted::Tails => u64::from(findings.tail_count() > 0),
+        Counted::TailBytes => u64::from(findings.tail_count()),
     }
 }
 
 /// What is counted in all extents. Sums are of 128 bits, so that none can wrap.
-fn tally_all<D: PageSource>(tally: Tally, all: &AllFindings<'_, D>) -> u128
-    ensures sum { result ≡ sum_by (tally_in tally) all.now.extents }
+fn counted_in_all<D: PageSource>(counted: Counted, all: &AllFindings<'_, D>) -> u128
+    ensures sum { result ≡ sum_by (counted_in counted) all.now.extents }
     ensures few { result + 2 ^ 64 ≤ 2 ^ 128 }
 {
     // For the proof alone: as the number of extents fits 64 bits, the sum fits 128.
     let _ = all.len();
     let mut total = 0u128;
     for found in all.results() {
-        total += u128::from(tally_in(tally, found));
+        total += u128::from(counted_in(counted, found));
     }
     total
 }
@@ -427,7 +419,7 @@ fn append_reading<D: PageSource>(
     ensures { OnOk result (string_bytes text.new ≡
         string_bytes text.old ++ number_lines (reading_numbers chosen.now plan.now all.now.extents lost)) }
 {
-    let pages = chosen.bad_pages().len() as u128 + tally_all(Tally::UnreadablePages, all);
+    let pages = chosen.bad_pages().len() as u128 + counted_in_all(Counted::UnreadablePages, all);
     append_numbers(
         text,
         &[
@@ -481,8 +473,8 @@ fn append_chunks<D: PageSource>(
         OnOk result (string_bytes text.new ≡ string_bytes text.old ++
         number_lines (chunk_numbers all.now.extents checked shared)) }
 {
-    let chunks = tally_all(Tally::Chunks, all);
-    let bytes = tally_all(Tally::ChunkBytes, all);
+    let chunks = counted_in_all(Counted::Chunks, all);
+    let bytes = counted_in_all(Counted::ChunkBytes, all);
     let live_bytes = sum_of(live);
     let orphan_count = orphan_count as u128;
     append_numbers(
@@ -511,11 +503,11 @@ fn append_items<D: PageSource>(
     append_numbers(
         text,
         &[
-            ("torn_items", tally_all(Tally::TornItems, all)),
-            ("noise_items", tally_all(Tally::NoiseItems, all)),
-            ("lost_items", tally_all(Tally::LostItems, all)),
-            ("tails", tally_all(Tally::Tails, all)),
-            ("tail_bytes", tally_all(Tally::TailBytes, all)),
+            ("torn_items", counted_in_all(Counted::TornItems, all)),
+            ("noise_items", counted_in_all(Counted::NoiseItems, all)),
+            ("lost_items", counted_in_all(Counted::LostItems, all)),
+            ("tails", counted_in_all(Counted::Tails, all)),
+            ("tail_bytes", counted_in_all(Counted::TailBytes, all)),
         ],
     )
 }
@@ -537,7 +529,7 @@ fn append_candidates(text: &mut String, candidates: &[Candidate]) -> Result<(), 
 
 /// What follows from the judged locators of a disk, and is counted.
 #[derive(Drop)]
-pub(crate) struct Lists {
+pub(crate) struct CountedLists {
     /// What follows from which chunks are live.
     pub liveness: Liveness,
     /// The chunks whose UUID another chunk has too.
@@ -551,11 +543,11 @@ fn lists_of<R: Threads + Sync, D: PageSource>(
     rt: &R,
     alloc: Global,
     judged: &Judged<'_, D>,
-) -> Result<Lists, OutOfMemory>
+) -> Result<CountedLists, OutOfMemory>
     ensures { IfOk result (AreSummaryLists judged.now) }
 {
     let (liveness, twins) = liveness_and_twins(rt, alloc, judged)?;
-    Ok(Lists {
+    Ok(CountedLists {
         liveness,
         twins,
         broken: broken_shards(alloc, &judged.checked)?,
@@ -567,7 +559,7 @@ fn append_all<D: PageSource>(
     text: &mut String,
     pages: &[SuperblockPage],
     judged: &Judged<'_, D>,
-    lists: &Lists,
+    lists: &CountedLists,
     copies: &Copies,
 ) -> Result<(), OutOfMemory>
     requires { AreSummaryLists judged.now lists.now }
@@ -585,7 +577,7 @@ fn append_all<D: PageSource>(
         all,
         ..
     } = &judged.scan;
-    let lost = lost_runs(&judged.runs);
+    let lost = lost_run_count(&judged.runs);
     let live = &lists.liveness.live;
     let orphan_count = lists.liveness.orphans.len();
     let shared = lists.liveness.shared.len();

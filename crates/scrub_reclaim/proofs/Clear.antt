@@ -30,58 +30,58 @@ use Rattle.scrub_reclaim.specs.Doubts.{Acceptance, accepted_on}
 use Rattle.scrub_reclaim.specs.declared.doubts.Doubt.{Doubt}
 use Rattle.scrub_reclaim.specs.Doubts.{are_accepted, doubts_in}
 use Rattle.scrub_reclaim.specs.Reclaimable.{AreMoved, AreOfCandidates, AreReclaimLines, IsMoved, MoveValue, accepted_in, all_candidate_lines, candidate_lines, doubt_line, doubt_lines, doubts_for, is_clear, moves_of, pointing_to, points_to, reclaim_text, reclaimed, rooms_for}
-use Rattle.scrub_reclaim.specs.declared.gathered.Gathered.{Gathered}
-use Rattle.scrub_reclaim.specs.steps.Gathered.{AreKeptOf, IsGatheredOn, doubts_of, lines_if}
+use Rattle.scrub_reclaim.specs.declared.reclaim_parts.ReclaimParts.{ReclaimParts}
+use Rattle.scrub_reclaim.specs.steps.ReclaimParts.{AreKeptOf, AreReclaimParts, doubts_of, lines_if}
 use Rattle.scrub_reclaim.specs.Room.{room_lines}
 
 -- ---- what the code writes
 
-module _ {D : Type 0} (image : Image) (g : Gathered D) (are : IsGatheredOn image g) (pages : List SuperblockPage) (accepted : Acceptance) where
-  -- what is found beside what is gathered
-  abbrev pub beside_gathered : Beside
-  beside_gathered =
+module _ {D : Type 0} (image : Image) (g : ReclaimParts D) (are : AreReclaimParts image g) (pages : List SuperblockPage) (accepted : Acceptance) where
+  -- what is found beside the parts
+  abbrev pub beside_parts : Beside
+  beside_parts =
       beside [] image g.judged are.judged (some_shared g.judged.checked.items).0 (some_broken g.judged.checked.items).0 g.candidates.items
 
-  -- What was gathered, with what is found beside it, is what is found in the image.
-  pub found_gathered : IsFoundOn image g.judged beside_gathered
-  found_gathered =
+  -- The parts, with what is found beside them, are what is found in the image.
+  pub found_of_parts : IsFoundOn image g.judged beside_parts
+  found_of_parts =
       let shared = some_shared g.judged.checked.items in
       let broken = some_broken g.judged.checked.items in
       with_lists [] image g.judged are.judged shared.0 broken.0 g.candidates.items shared.1 broken.1 are.candidates
 
-  -- What is found on the disk, by what was gathered.
+  -- What is found on the disk, by the parts.
   abbrev pub found_by : Scrubbed
-  found_by = found_in g.judged beside_gathered
+  found_by = found_in g.judged beside_parts
 
-  -- The loose frames that the copies were gathered from.
-  abbrev pub loose_gathered : LooseValue
-  loose_gathered = are.copies.found
+  -- The loose frames that the copies are made from.
+  abbrev pub loose_of_parts : LooseValue
+  loose_of_parts = are.copies.found
 
-  -- The copies that were gathered are kept of a disk with these.
-  pub kept_gathered : AreKeptOf loose_gathered g
-  kept_gathered = record { spares = are.copies.spares; each = are.copies.loose; asked = are.copies.asked; crowded = are.copies.crowded }
+  -- The copies are kept of a disk with these.
+  pub kept_of_parts : AreKeptOf loose_of_parts g
+  kept_of_parts = record { spares = are.copies.spares; each = are.copies.loose; asked = are.copies.asked; crowded = are.copies.crowded }
 
   -- the doubts of the rows are those of the runs
-  doubts_found : doubts_of accepted.last pages loose_gathered g ≡ doubts_for accepted pages loose_gathered found_by
+  doubts_found : doubts_of accepted.last pages loose_of_parts g ≡ doubts_for accepted pages loose_of_parts found_by
   doubts_found =
-      ap (λ (states : List RunState). doubts_in g.judged.scan.chosen accepted.last pages states g.judged.scan.plan.geometry.page g.judged.scan.all.extents loose_gathered g.judged.checked.items g.candidates.items)
-      found_gathered.rows.states_are
+      ap (λ (states : List RunState). doubts_in g.judged.scan.chosen accepted.last pages states g.judged.scan.plan.geometry.page g.judged.scan.all.extents loose_of_parts g.judged.checked.items g.candidates.items)
+      found_of_parts.rows.states_are
 
   -- the verdict is that of what was found
-  pub clear_found : (list : List Doubt) (clear : Bool) → list ≡ doubts_of accepted.last pages loose_gathered g →
-      clear ≡ are_accepted (accepted_on accepted g.judged.scan.chosen) list → clear ≡ is_clear accepted pages loose_gathered found_by
+  pub clear_found : (list : List Doubt) (clear : Bool) → list ≡ doubts_of accepted.last pages loose_of_parts g →
+      clear ≡ are_accepted (accepted_on accepted g.judged.scan.chosen) list → clear ≡ is_clear accepted pages loose_of_parts found_by
   clear_found list clear listed is = is ∙ ap (are_accepted (accepted_on accepted g.judged.scan.chosen)) (listed ∙ doubts_found)
 
   -- the text is that of what was found
-  pub lines_found : (list : List Doubt) (clear : Bool) (lines text : List ℕ) → list ≡ doubts_of accepted.last pages loose_gathered g →
+  pub lines_found : (list : List Doubt) (clear : Bool) (lines text : List ℕ) → list ≡ doubts_of accepted.last pages loose_of_parts g →
       clear ≡ are_accepted (accepted_on accepted g.judged.scan.chosen) list → lines ≡ doubt_lines (accepted_on accepted g.judged.scan.chosen) list →
-      text ≡ lines ++ lines_if clear loose_gathered g → text ≡ reclaim_text accepted pages loose_gathered found_by
+      text ≡ lines ++ lines_if clear loose_of_parts g → text ≡ reclaim_text accepted pages loose_of_parts found_by
   lines_found list clear lines text listed is first all =
-      let front : List ℕ = doubt_lines (accepted_in accepted found_by) (doubts_for accepted pages loose_gathered found_by) in
+      let front : List ℕ = doubt_lines (accepted_in accepted found_by) (doubts_for accepted pages loose_of_parts found_by) in
       all
-      ∙ ap (λ (u : List ℕ). u ++ lines_if clear loose_gathered g) (first ∙ ap (doubt_lines (accepted_on accepted g.judged.scan.chosen)) (listed ∙ doubts_found))
-      ∙ ap (λ (b : Bool). front ++ lines_if b loose_gathered g) (clear_found list clear listed is)
-      ∙ sym (append_assoc front (all_candidate_lines g.judged.checked.items (reclaimed accepted pages loose_gathered found_by)) (rooms_for (reclaimed accepted pages loose_gathered found_by) loose_gathered found_by))
+      ∙ ap (λ (u : List ℕ). u ++ lines_if clear loose_of_parts g) (first ∙ ap (doubt_lines (accepted_on accepted g.judged.scan.chosen)) (listed ∙ doubts_found))
+      ∙ ap (λ (b : Bool). front ++ lines_if b loose_of_parts g) (clear_found list clear listed is)
+      ∙ sym (append_assoc front (all_candidate_lines g.judged.checked.items (reclaimed accepted pages loose_of_parts found_by)) (rooms_for (reclaimed accepted pages loose_of_parts found_by) loose_of_parts found_by))
 
 -- if there are no candidates, nothing is listed
 no_lines_of : (clear : Bool) (geometry : Geometry) (all : List Scanned) (loose : LooseValue) (checked : List Checked) (cs : List CandidateValue) (old : List ℕ) →
@@ -102,7 +102,7 @@ some_lines_of true geometry all loose checked [] is some = absurd (false≢true 
 some_lines_of true geometry all loose checked (c ∷ cs) is some =
     ap (λ (b : Bool). all_candidate_lines checked (c ∷ cs) ++ (if b then [] else room_lines geometry all loose checked (c ∷ cs))) (sym some)
 
-module _ {D : Type 0} (clear : Bool) (loose : LooseValue) (g : Gathered D) where
+module _ {D : Type 0} (clear : Bool) (loose : LooseValue) (g : ReclaimParts D) where
   -- Without candidates no line follows those of the doubts.
   pub no_lines : (old : List ℕ) → (length g.candidates.items == 0) ≡ true → old ≡ old ++ lines_if clear loose g
   no_lines old none = no_lines_of clear g.judged.scan.plan.geometry g.judged.scan.all.extents loose g.judged.checked.items g.candidates.items old none

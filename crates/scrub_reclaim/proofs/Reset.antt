@@ -31,7 +31,7 @@ use Rattle.scrub_found.specs.Resets.{IsPlanBut, IsScrubbedBut}
 use Rattle.scrub_found.specs.Scrubbed.{Scrubbed, IsScrubbed}
 use Rattle.scrub_found.proofs.OneReader.{one_plan}
 use Rattle.scrub_found.proofs.OneScrub.{one_scrub}
-use Rattle.scrub_listings.specs.Manifest.{IsManifest, IsManifestBut, after_status_in, hidden_runs, is_of_read_run, is_of_shard, is_whole, is_whole_by, lost_runs, manifest_text, of_shards, text_by}
+use Rattle.scrub_listings.specs.Manifest.{IsManifest, IsManifestBut, after_status_in, hidden_runs, is_of_read_run, is_of_shard, is_whole, is_whole_by, lost_run_count, manifest_text, of_shards, text_by}
 use Rattle.scrub_reclaim.specs.Copy.{IsSameButRisen, rank}
 use Rattle.scrub_reclaim.specs.Doubts.{Acceptance}
 use Rattle.scrub_reclaim.specs.Reclaimable.{IsMoved, MoveValue, reclaimed}
@@ -137,7 +137,7 @@ pub same_text : (found rest : Scrubbed) (loose others : List Standing) → NameT
     manifest_text rest others ≡ manifest_text found loose
 same_text found rest loose others same after =
     (λ i. of (same.superblock i) (same.retired i) (same.read i) (same.bindings i) (same.checked i))
-    ∙ text_agrees (after_status_in found.all loose) (after_status_in rest.all others) found.plan.has_superblock found.plan.retired (lost_runs found) (hidden_runs found) found.bindings (of_shards found.checked)
+    ∙ text_agrees (after_status_in found.all loose) (after_status_in rest.all others) found.plan.has_superblock found.plan.retired (lost_run_count found) (hidden_runs found) found.bindings (of_shards found.checked)
     (All-filter (λ c. is_of_shard c.owner) (λ (c : Checked). after_status_in rest.all others c ≡ after_status_in found.all loose c) found.checked after)
   where
     of : Bool → List ℕ → ReadRunsValue → List BindingValue → List Checked → List ℕ

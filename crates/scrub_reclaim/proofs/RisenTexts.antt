@@ -17,7 +17,7 @@ use Rattle.scrub_check.proofs.RunStates.{Sound_from_is_sound}
 use Rattle.scrub_loose.specs.declared.copies.BestCopy.{BestCopy}
 use Rattle.scrub_loose.specs.Loose.{best_of}
 use Rattle.scrub_found.specs.Scrubbed.{Scrubbed}
-use Rattle.scrub_listings.specs.Manifest.{after_status, after_status_in, copy_word, form_text, hidden_runs, is_of_read_run, is_of_shard, looked_for, lost_runs, manifest_text, numbered_line, numbered_lines, numbered_text, of_shards, retired_line, runs_line, shard_lines, text_by, total_line}
+use Rattle.scrub_listings.specs.Manifest.{after_status, after_status_in, copy_word, form_text, hidden_runs, is_of_read_run, is_of_shard, looked_for, lost_run_count, manifest_text, numbered_line, numbered_lines, numbered_text, of_shards, retired_line, runs_line, shard_lines, text_by, total_line}
 use Rattle.scrub_reclaim.specs.Copy.{IsSameButRisen, IsSameOrRisen, rank}
 use Rattle.scrub_reclaim.specs.Reset.{NameTheSame}
 use Rattle.scrub_reclaim.proofs.BestCopies.{one_of_rank}
@@ -159,7 +159,7 @@ module _ (found rest : Scrubbed) (loose others : List Standing) (same : NameTheS
   pub manifests_alike : All AreSaid found.checked → IsSameButRisen (manifest_text found loose) (manifest_text rest others)
   manifests_alike said =
       subst (λ (t : List ℕ). IsSameButRisen (manifest_text found loose) t) is_other
-      (texts_alike (after_status_in found.all loose) (after_status_in rest.all others) found.plan.has_superblock found.plan.retired (lost_runs found) (hidden_runs found) found.bindings (of_shards found.checked)
+      (texts_alike (after_status_in found.all loose) (after_status_in rest.all others) found.plan.has_superblock found.plan.retired (lost_run_count found) (hidden_runs found) found.bindings (of_shards found.checked)
       (All-filter (λ k. is_of_shard k.owner) AreSaid found.checked said))
     where
       of : Bool → List ℕ → ReadRunsValue → List BindingValue → List Checked → List ℕ

@@ -41,11 +41,11 @@ use Rattle.scrub_found.specs.Scrubbed.{IsScrubbed, Scrubbed, is_clean_disk, is_c
 use Rattle.scrub_found.proofs.CleanLists.{sound_alone}
 use Rattle.scrub_found.proofs.OneScrub.{one_scrub}
 use Rattle.scrub_report.specs.Answer.{AnswerValue, IsScrubAnswer}
-use Rattle.scrub_listings.specs.Manifest.{IsManifest, hidden_runs, is_of_read_run, is_of_shard, is_whole, lost_runs}
+use Rattle.scrub_listings.specs.Manifest.{IsManifest, hidden_runs, is_of_read_run, is_of_shard, is_whole, lost_run_count}
 use Rattle.scrub_listings.specs.Summary.{IsSummary, counts_as, is_behind, is_sound_verdict, one_if, verdict, verdict_by}
 use Rattle.scrub_reclaim.specs.declared.doubts.Doubt.{Doubt}
 use Rattle.scrub_reclaim.specs.declared.doubts.Doubt.TheVariants.{Last, NoSuperblock, Tail, Tie}
-use Rattle.scrub_reclaim.specs.Doubts.{Acceptance, choice_doubts, crowded_doubt, crowded_doubts, doubts, ends_past, is_accepted, is_last, is_named, last_doubt, last_doubts, loose_doubt, loose_doubts_of, outside, page_ranges, range_doubts, run_lost, spare_doubt, spare_doubts_of, staying, superblock_damaged, superblock_lost, superblock_stray, tail_doubts, tail_lost_doubts}
+use Rattle.scrub_reclaim.specs.Doubts.{Acceptance, choice_doubts, crowded_doubt, crowded_doubts, doubts, ends_past, is_accepted, is_last, is_named, last_doubt, last_doubts, loose_doubt, loose_doubts_of, outside, page_ranges, range_doubts, run_lost, spare_doubt, spare_doubts_of, safe_spares, superblock_damaged, superblock_lost, superblock_stray, tail_doubts, tail_lost_doubts}
 use Rattle.scrub_reclaim.specs.AllRight.{IsAllRight, is_quiet, is_tail}
 use Rattle.scrub_reclaim.specs.Reclaimable.{AreReclaimLines, accepted_in, doubts_for, is_clear}
 use Rattle.scrub_super.proofs.PageLaws.{held_unless_odd, one_list_of_pages}
@@ -132,7 +132,7 @@ no_spare_doubt all checked extents c e =
     let none : spares_of all c ≡ [] = ap
     (λ (t : Status). if is_dangling t && nat_lt 0 c.locator.length then copies_of all c.locator else [])
     (sound_only c.status e) in
-    ap (λ (ss : List Standing). spare_doubt c.owner ss (staying checked extents ss)) none
+    ap (λ (ss : List Standing). spare_doubt c.owner ss (safe_spares checked extents ss)) none
 
 -- nor is its payload gone
 not_gone : (all : List Scanned) (c : Checked) → is_sound c.status ≡ true → is_gone all c ≡ false
@@ -302,8 +302,8 @@ module _ (image : Image) (pages : List SuperblockPage) (found : Scrubbed) (x : I
       by None e p = absurd (false≢true e)
       by (Some c) e p = p.has
 
-  none_lost_runs : (lost_runs found == 0) ≡ true
-  none_lost_runs = eq-eqb (lost_runs found) 0 (none_counted is_none found.read.runs (all_weaker is_some (λ r. not (is_none r)) found.read.runs read_has runs_are))
+  none_lost_runs : (lost_run_count found == 0) ≡ true
+  none_lost_runs = eq-eqb (lost_run_count found) 0 (none_counted is_none found.read.runs (all_weaker is_some (λ r. not (is_none r)) found.read.runs read_has runs_are))
 
   none_hidden_runs : (hidden_runs found == 0) ≡ true
   none_hidden_runs =

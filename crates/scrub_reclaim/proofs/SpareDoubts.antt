@@ -16,7 +16,7 @@ use Rattle.scrub_check.specs.Live.{has_sound_at}
 use Rattle.scrub_check.specs.Spares.{AreSpares, HaveTheSameCopies, asks_for_spares, is_copy_of, spares_by}
 use Rattle.scrub_listings.proofs.SpareLines.{flat_same}
 use Rattle.scrub_reclaim.specs.declared.doubts.Doubt.{Doubt}
-use Rattle.scrub_reclaim.specs.Doubts.{is_at_risk, spare_doubt, spare_doubts_by, spare_doubts_of, staying}
+use Rattle.scrub_reclaim.specs.Doubts.{is_at_risk, spare_doubt, spare_doubts_by, spare_doubts_of, safe_spares}
 
 -- Some element of `map f xs` passes `p` exactly if `p (f x)` is true of some element of `xs`.
 pub any_mapped : {X Y : Type 0} (p : Y → Bool) (f : X → Y) (xs : List X) → list_any p (map f xs) ≡ list_any (λ x. p (f x)) xs
@@ -25,21 +25,21 @@ any_mapped p f (x ∷ xs) = ap (λ (t : Bool). p (f x) || t) (any_mapped p f xs)
 
 -- one more chunk stays, or doesn't
 pub stays_too : (checked : List Checked) (extents : List ℕ) (s : Standing) (b : Bool) (old new : List Standing) →
-    b ≡ is_at_risk checked extents s → b ≡ false → new ≡ old ++ s ∷ [] → new ≡ old ++ staying checked extents (s ∷ [])
+    b ≡ is_at_risk checked extents s → b ≡ false → new ≡ old ++ s ∷ [] → new ≡ old ++ safe_spares checked extents (s ∷ [])
 stays_too checked extents s b old new is safe grown =
     grown ∙ ap (λ (t : Bool). old ++ cond (not t) (s ∷ []) []) (sym safe ∙ is)
 
 -- A chunk that a reset might take isn't added to those that stay.
 pub at_risk_not_kept : (checked : List Checked) (extents : List ℕ) (s : Standing) (b : Bool) (old : List Standing) →
-    b ≡ is_at_risk checked extents s → b ≡ true → old ≡ old ++ staying checked extents (s ∷ [])
+    b ≡ is_at_risk checked extents s → b ≡ true → old ≡ old ++ safe_spares checked extents (s ∷ [])
 at_risk_not_kept checked extents s b old is risk =
     sym (append-nil old) ∙ ap (λ (t : Bool). old ++ cond (not t) (s ∷ []) []) (sym risk ∙ is)
 
 -- Those that stay of the first `i` chunks, and the next one if it stays, are those of the first `i + 1`.
-pub staying_more : (checked : List Checked) (extents : List ℕ) (some : List Standing) (i : ℕ) (s : Standing) (old new : List Standing) →
-    i < length some → s ≡ get_or some i s → old ≡ staying checked extents (take i some) →
-    new ≡ old ++ staying checked extents (s ∷ []) → new ≡ staying checked extents (take (i + 1) some)
-staying_more checked extents some i s old new below is so_far grown =
+pub safe_spares_more : (checked : List Checked) (extents : List ℕ) (some : List Standing) (i : ℕ) (s : Standing) (old new : List Standing) →
+    i < length some → s ≡ get_or some i s → old ≡ safe_spares checked extents (take i some) →
+    new ≡ old ++ safe_spares checked extents (s ∷ []) → new ≡ safe_spares checked extents (take (i + 1) some)
+safe_spares_more checked extents some i s old new below is so_far grown =
     let p : Standing → Bool = λ x. not (is_at_risk checked extents x) in
     grown
     ∙ ap (λ (ss : List Standing). ss ++ filter p (s ∷ [])) so_far
@@ -72,32 +72,32 @@ first_doubted r owner (s ∷ ss) [] first old new none is later =
 -- all of them
 module _ (all : List Scanned) (checked : List Checked) (found : List Standing) (are : AreSpares all checked found)
     (numbers sorted : List ℕ) (same : IsPermutation numbers sorted) (safe stay : List Standing)
-    (safe_is : safe ≡ staying checked sorted found) (alike : HaveTheSameCopies safe stay) where
+    (safe_is : safe ≡ safe_spares checked sorted found) (alike : HaveTheSameCopies safe stay) where
   among : (e : ℕ) → list_any (λ n. n == e) sorted ≡ list_any (λ n. n == e) numbers
   among e = sym (list_any-IsPermutation (λ n. n == e) numbers sorted same)
 
-  in_order : staying checked sorted ≡ staying checked numbers
+  in_order : safe_spares checked sorted ≡ safe_spares checked numbers
   in_order = λ i ss. filter (λ s. not (not (has_sound_at checked s.extent s.offset) && among s.extent i)) ss
 
-  stay_of : (c : Checked) → spares_by stay c ≡ staying checked numbers (spares_by found c)
+  stay_of : (c : Checked) → spares_by stay c ≡ safe_spares checked numbers (spares_by found c)
   stay_of c = by (asks_for_spares c) refl
     where
       by : (b : Bool) → asks_for_spares c ≡ b →
-          (if asks_for_spares c then filter (is_copy_of c.locator) stay else []) ≡ staying checked numbers (if asks_for_spares c then filter (is_copy_of c.locator) found else [])
+          (if asks_for_spares c then filter (is_copy_of c.locator) stay else []) ≡ safe_spares checked numbers (if asks_for_spares c then filter (is_copy_of c.locator) found else [])
       by true asks =
           ap (λ (b : Bool). if b then filter (is_copy_of c.locator) stay else []) asks
           ∙ alike c.locator
           ∙ ap (filter (is_copy_of c.locator)) (safe_is ∙ ap (λ (f : List Standing → List Standing). f found) in_order)
           ∙ filter_comm (is_copy_of c.locator) (λ s. not (is_at_risk checked numbers s)) found
-          ∙ sym (ap (λ (b : Bool). staying checked numbers (if b then filter (is_copy_of c.locator) found else [])) asks)
+          ∙ sym (ap (λ (b : Bool). safe_spares checked numbers (if b then filter (is_copy_of c.locator) found else [])) asks)
       by false none =
           ap (λ (b : Bool). if b then filter (is_copy_of c.locator) stay else []) none
-          ∙ sym (ap (λ (b : Bool). staying checked numbers (if b then filter (is_copy_of c.locator) found else [])) none)
+          ∙ sym (ap (λ (b : Bool). safe_spares checked numbers (if b then filter (is_copy_of c.locator) found else [])) none)
 
   one_alike : (c : Checked) → Contains checked c → spare_doubts_by found stay c ≡ spare_doubts_of all checked numbers c
   one_alike c there =
       ap (spare_doubt c.owner (spares_by found c)) (stay_of c)
-      ∙ ap (λ (ss : List Standing). spare_doubt c.owner ss (staying checked numbers ss)) (are c there)
+      ∙ ap (λ (ss : List Standing). spare_doubt c.owner ss (safe_spares checked numbers ss)) (are c there)
 
   -- The doubts by the chunks that stay are those that resets of these extents make.
   pub all_alike : flat_map (spare_doubts_by found stay) checked ≡ flat_map (spare_doubts_of all checked numbers) checked

@@ -16,7 +16,7 @@ use Rattle.scrub_found.specs.Scrubbed.{Scrubbed}
 use Rattle.scrub_reclaim.specs.Doubts.{Acceptance, frame_bytes, is_spare}
 use Rattle.scrub_reclaim.specs.declared.doubts.Doubt.{Doubt}
 use Rattle.scrub_reclaim.specs.declared.doubts.Doubt.TheVariants.{Spare}
-use Rattle.scrub_reclaim.specs.Doubts.{is_accepted, is_at_risk, spare_doubt, spare_doubts_of, staying}
+use Rattle.scrub_reclaim.specs.Doubts.{is_accepted, is_at_risk, spare_doubt, spare_doubts_of, safe_spares}
 use Rattle.scrub_reclaim.specs.Reclaimable.{AcceptsNoSpare, HasSafeSpare, KeepsSpares, accepted_in, doubts_for, is_clear, reclaimed}
 use Rattle.scrub_reclaim.proofs.DoubtParts.{each_part, of_spares}
 
@@ -47,7 +47,7 @@ module _ (accepted : Acceptance) (pages : List SuperblockPage) (loose : LooseVal
   numbers = map (λ a. a.extent) found.candidates
 
   -- one of those that stay
-  one_stays : (c : Checked) → 0 < length (staying found.checked numbers (spares_of found.all c)) → HasSafeSpare found found.candidates c
+  one_stays : (c : Checked) → 0 < length (safe_spares found.checked numbers (spares_of found.all c)) → HasSafeSpare found found.candidates c
   one_stays c some = record {
     spare = s;
     among = All-filter p (Contains (spares_of found.all c)) (spares_of found.all c) (All-contains_itself (spares_of found.all c)) 0 d some;
@@ -61,7 +61,7 @@ module _ (accepted : Acceptance) (pages : List SuperblockPage) (loose : LooseVal
       d = record { extent = 0; offset = 0; form = Plain; uuid = []; length = 0; digest = [] }
 
       s : Standing
-      s = get_or (staying found.checked numbers (spares_of found.all c)) 0 d
+      s = get_or (safe_spares found.checked numbers (spares_of found.all c)) 0 d
 
       by : (b : Bool) → has_sound_at found.checked s.extent s.offset ≡ b →
           not (not (has_sound_at found.checked s.extent s.offset) && list_any (λ n. n == s.extent) numbers) ≡ true →
@@ -73,23 +73,23 @@ module _ (accepted : Acceptance) (pages : List SuperblockPage) (loose : LooseVal
           (false_from_not (list_any (λ n. n == s.extent) numbers) (ap (λ (t : Bool). not (not t && list_any (λ n. n == s.extent) numbers)) (sym dead) ∙ passes)))
 
   kept : is_clear accepted pages loose found ≡ true → KeepsSpares found found.candidates
-  kept clear k d below has = by (spares_of found.all c) (staying found.checked numbers (spares_of found.all c)) refl refl (of_one (is_accepted (accepted_in accepted found)) clear)
+  kept clear k d below has = by (spares_of found.all c) (safe_spares found.checked numbers (spares_of found.all c)) refl refl (of_one (is_accepted (accepted_in accepted found)) clear)
       (of_one (λ x. not (is_spare x && is_accepted (accepted_in accepted found) x)) refused)
     where
       c : Checked
       c = get_or found.checked k d
 
       of_one : (p : Doubt → Bool) → list_all p (doubts_for accepted pages loose found) ≡ true →
-          list_all p (spare_doubt c.owner (spares_of found.all c) (staying found.checked numbers (spares_of found.all c))) ≡ true
+          list_all p (spare_doubt c.owner (spares_of found.all c) (safe_spares found.checked numbers (spares_of found.all c))) ≡ true
       of_one p all =
           let there : Contains found.checked c = All-contains_itself found.checked k d below in
           each_part p (spare_doubts_of found.all found.checked numbers) found.checked there.0 c there.1 there.2 (of_spares p accepted.last pages loose found all)
 
-      by : (ss ts : List Standing) → spares_of found.all c ≡ ss → staying found.checked numbers (spares_of found.all c) ≡ ts →
+      by : (ss ts : List Standing) → spares_of found.all c ≡ ss → safe_spares found.checked numbers (spares_of found.all c) ≡ ts →
           list_all (is_accepted (accepted_in accepted found)) (spare_doubt c.owner ss ts) ≡ true →
           list_all (λ x. not (is_spare x && is_accepted (accepted_in accepted found) x)) (spare_doubt c.owner ss ts) ≡ true → HasSafeSpare found found.candidates c
       by [] ts none stay all not_one = absurd (has none)
-      by (s ∷ ss) (t ∷ ts) some stay all not_one = one_stays c (let e : length (staying found.checked numbers (spares_of found.all c)) ≡ suc (length ts) = ap length stay in omega (arith, e))
+      by (s ∷ ss) (t ∷ ts) some stay all not_one = one_stays c (let e : length (safe_spares found.checked numbers (spares_of found.all c)) ≡ suc (length ts) = ap length stay in omega (arith, e))
       by (s ∷ ss) [] some stay all not_one =
           absurd (clash (is_accepted (accepted_in accepted found) (Spare s.extent s.offset s.length s.uuid c.owner (frame_bytes s))) all not_one)
 

@@ -129,8 +129,8 @@ abbrev pub is_at_risk : List Checked → List ℕ → Standing → Bool
 is_at_risk checked extents s = not (has_sound_at checked s.extent s.offset) && list_any (λ n. n == s.extent) extents
 
 -- the spares that no reset of these extents takes
-abbrev pub staying : List Checked → List ℕ → List Standing → List Standing
-staying checked extents ss = filter (λ s. not (is_at_risk checked extents s)) ss
+abbrev pub safe_spares : List Checked → List ℕ → List Standing → List Standing
+safe_spares checked extents ss = filter (λ s. not (is_at_risk checked extents s)) ss
 
 -- how many bytes the frame takes
 abbrev pub frame_bytes : Standing → ℕ
@@ -144,13 +144,13 @@ spare_doubt owner (s ∷ ss) (t ∷ ts) = []
 
 -- the doubt that the spares of a named locator make if these extents are reset
 abbrev pub spare_doubts_of : List Scanned → List Checked → List ℕ → Checked → List Doubt
-spare_doubts_of all checked extents c = spare_doubt c.owner (spares_of all c) (staying checked extents (spares_of all c))
+spare_doubts_of all checked extents c = spare_doubt c.owner (spares_of all c) (safe_spares checked extents (spares_of all c))
 
 -- the doubts that spares make if the candidates are reset, by named locator
 abbrev pub spare_doubts : List Scanned → List Checked → List CandidateValue → List Doubt
 spare_doubts all checked candidates = flat_map (spare_doubts_of all checked (map (λ a. a.extent) candidates)) checked
 
--- the same of one locator by the chunks among which its spares are, and those that stay
+-- the doubts that the spares of one locator make, by the chunks among which its spares are, and those that stay
 abbrev pub spare_doubts_by : List Standing → List Standing → Checked → List Doubt
 spare_doubts_by found stay c = spare_doubt c.owner (spares_by found c) (spares_by stay c)
 

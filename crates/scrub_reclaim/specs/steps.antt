@@ -1,5 +1,5 @@
 -- Steps of the code.
-pub mod Gathered
+pub mod ReclaimParts
 pub mod KeptCopies
 pub mod Moves
 pub mod PageDoubts

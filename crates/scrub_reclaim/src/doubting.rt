@@ -9,13 +9,13 @@ ghost use Rattle.scrub_reclaim.specs.Doubts.{choice_doubts, ends_past, lost_past
 ghost use Rattle.scrub_reclaim.specs.Doubts.{last_doubt, last_doubts, range_doubts, run_doubts, run_lost};
 ghost use Rattle.scrub_reclaim.specs.Doubts.{superblock_damaged, superblock_lost, superblock_stray};
 ghost use Rattle.scrub_reclaim.specs.Doubts.{tail_doubts, tail_lost_doubts};
-ghost use Rattle.scrub_reclaim.specs.steps.Gathered.{AreKeptOf, AreLists, doubts_of};
+ghost use Rattle.scrub_reclaim.specs.steps.ReclaimParts.{AreKeptOf, AreLists, doubts_of};
 ghost use Rattle.scrub_reclaim.specs.steps.PageDoubts.{page_doubt};
 
 use crate::doubts::Doubt;
-use crate::gathered::Gathered;
 use crate::loose_doubts::{add_crowded, add_loose};
 use crate::page_ranges::{PageRange, join_pages};
+use crate::reclaim_parts::ReclaimParts;
 use crate::spare_doubts::add_spares;
 use scrub_check::RunState;
 use scrub_disk::{OutOfMemory, PageSource};
@@ -268,19 +268,19 @@ pub(crate) fn doubts_of<D: PageSource>(
     alloc: Global,
     last: Option<u64>,
     pages: &[SuperblockPage],
-    gathered: &Gathered<'_, D>,
+    parts: &ReclaimParts<'_, D>,
 ) -> Result<Vec<Doubt>, OutOfMemory>
-    requires { AreLists gathered.now }
-    ensures { (loose : LooseValue) → AreKeptOf loose gathered.now →
-        IfOk result (λ v. v.items ≡ doubts_of last pages.now loose gathered.now) }
+    requires { AreLists parts.now }
+    ensures { (loose : LooseValue) → AreKeptOf loose parts.now →
+        IfOk result (λ v. v.items ≡ doubts_of last pages.now loose parts.now) }
 {
-    let judged = &gathered.judged;
+    let judged = &parts.judged;
     let (chosen, all) = (&judged.scan.chosen, &judged.scan.all);
     let page = judged.scan.plan.geometry().page();
     let mut doubts = record_doubts(alloc, last, pages, chosen, &judged.runs)?;
-    add_spares(alloc, &mut doubts, gathered)?;
-    add_loose(alloc, &mut doubts, gathered)?;
-    add_crowded(&mut doubts, &gathered.listed, gathered.copies.crowded())?;
+    add_spares(alloc, &mut doubts, parts)?;
+    add_loose(alloc, &mut doubts, parts)?;
+    add_crowded(&mut doubts, &parts.listed, parts.copies.crowded())?;
     add_tails(&mut doubts, all)?;
     add_lost_tails(alloc, &mut doubts, page, all)?;
     Ok(doubts)

@@ -313,7 +313,6 @@ fn may_be_accepted(doubt: &Doubt) -> bool
         )
 }
 
-/// Whether a text is among lines.
 fn is_among(lines: &[&str], text: &str) -> bool
     ensures { result ≡ list_any (λ line. bytes_eq line.now text.now) lines.now }
 {

@@ -5,11 +5,11 @@ ghost use Rattle.std.specs.Prelude.{◌≡◌, ◌++◌, ◌∷◌, [], IfOk, On
 ghost use Rattle.std.specs.List.{flat_map};
 ghost use Rattle.scrub_loose.specs.Loose.{LooseValue};
 ghost use Rattle.scrub_reclaim.specs.Doubts.{crowded_doubt, is_in, loose_doubt, loose_doubts, outside};
-ghost use Rattle.scrub_reclaim.specs.steps.Gathered.{AreKeptOf, AreLists};
+ghost use Rattle.scrub_reclaim.specs.steps.ReclaimParts.{AreKeptOf, AreLists};
 ghost use Rattle.scrub_reclaim.specs.steps.KeptCopies.{loose_doubts_by};
 
 use crate::doubts::Doubt;
-use crate::gathered::Gathered;
+use crate::reclaim_parts::ReclaimParts;
 use crate::spare_doubts::frame_bytes;
 use scrub_check::{Checked, ExtentSet, Owner, Spares};
 use scrub_disk::{OutOfMemory, PageSource};
@@ -93,17 +93,17 @@ fn add_all(
 pub(crate) fn add_loose<D: PageSource>(
     alloc: Global,
     doubts: &mut Vec<Doubt>,
-    gathered: &Gathered<'_, D>,
+    parts: &ReclaimParts<'_, D>,
 ) -> Result<(), OutOfMemory>
-    requires { AreLists gathered.now }
-    ensures { (loose : LooseValue) → AreKeptOf loose gathered.now →
+    requires { AreLists parts.now }
+    ensures { (loose : LooseValue) → AreKeptOf loose parts.now →
         OnOk result (doubts.new.items ≡ doubts.old.items ++
-        loose_doubts gathered.now.judged.scan.all.extents loose.frames gathered.now.judged.checked.items
-        gathered.now.candidates.items) }
+        loose_doubts parts.now.judged.scan.all.extents loose.frames parts.now.judged.checked.items
+        parts.now.candidates.items) }
 {
-    let safe = outside(alloc, &gathered.listed, gathered.copies.all_loose().all())?;
+    let safe = outside(alloc, &parts.listed, parts.copies.all_loose().all())?;
     let stay = Spares::among(safe)?;
-    add_all(doubts, &gathered.copies, &stay, &gathered.judged.checked)
+    add_all(doubts, &parts.copies, &stay, &parts.judged.checked)
 }
 
 /// Adds the doubt of a crowded extent, if it is among these.

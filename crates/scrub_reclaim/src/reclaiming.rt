@@ -20,7 +20,7 @@ ghost use Rattle.scrub_report.specs.Report.{IsReport};
 ghost use Rattle.scrub_listings.specs.Manifest.{IsManifest, IsManifestBut};
 ghost use Rattle.scrub_reclaim.specs.Copy.{IsSameButRisen};
 ghost use Rattle.scrub_reclaim.specs.Doubts.{Acceptance};
-ghost use Rattle.scrub_reclaim.specs.steps.Gathered.{AreKeptOf, AreLists, lines_if};
+ghost use Rattle.scrub_reclaim.specs.steps.ReclaimParts.{AreKeptOf, AreLists, lines_if};
 ghost use Rattle.scrub_reclaim.specs.steps.Moves.{AreRisingPlaces, PointAlike, kept_lines, move_text};
 ghost use Rattle.scrub_reclaim.specs.Reclaimable.{AcceptsNoCrowded, AcceptsNoLoose, AcceptsNoSpare};
 ghost use Rattle.scrub_reclaim.specs.Reclaimable.{AreMoved, AreOfCandidates};
@@ -34,8 +34,8 @@ ghost use Rattle.scrub_reclaim.specs.Room.{IsRoom, place_in, room_if, room_in, r
 use crate::closed::closed_extents;
 use crate::doubting::doubts_of;
 use crate::doubts::{Acceptance, doubt_lines};
-use crate::gathered::{Gathered, gathered_of};
 use crate::moves::{by_place, pointing_to};
+use crate::reclaim_parts::{ReclaimParts, reclaim_parts_of};
 use crate::room::append_rooms;
 use scrub_check::{Candidate, Checked, ExtentSet, KeptChunk};
 use scrub_disk::{OutOfMemory, PageSource};
@@ -149,23 +149,23 @@ fn append_reclaimed<D: PageSource>(
     alloc: Global,
     text: &mut String,
     is_clear: bool,
-    gathered: &Gathered<'_, D>,
+    parts: &ReclaimParts<'_, D>,
 ) -> Result<(), OutOfMemory>
-    requires { AreLists gathered.now }
-    ensures { (loose : LooseValue) → AreKeptOf loose gathered.now →
-        OnOk result (string_bytes text.new ≡ string_bytes text.old ++ lines_if is_clear loose gathered.now) }
+    requires { AreLists parts.now }
+    ensures { (loose : LooseValue) → AreKeptOf loose parts.now →
+        OnOk result (string_bytes text.new ≡ string_bytes text.old ++ lines_if is_clear loose parts.now) }
 {
     if !is_clear {
         return Ok(());
     }
-    let (judged, listed) = (&gathered.judged, &gathered.listed);
-    if gathered.candidates.is_empty() {
+    let (judged, listed) = (&parts.judged, &parts.listed);
+    if parts.candidates.is_empty() {
         return Ok(());
     }
-    append_candidates(alloc, text, &judged.checked, listed, &gathered.candidates)?;
+    append_candidates(alloc, text, &judged.checked, listed, &parts.candidates)?;
     let geometry = judged.scan.plan.geometry();
-    let barred = gathered.locators.barred();
-    let closed = closed_extents(alloc, &gathered.copies)?;
+    let barred = parts.locators.barred();
+    let closed = closed_extents(alloc, &parts.copies)?;
     append_rooms(text, geometry, &judged.scan.all, barred, &closed, listed)
 }
 
@@ -182,11 +182,11 @@ fn listing_of<R: Threads + Sync, D: PageSource>(
     ensures { IfOk result (λ l.
         AreReclaimLines (D.image scan.entry.disk.now) acceptance.now l.text.items l.is_clean) }
 {
-    let gathered = gathered_of(rt, alloc, scan)?;
-    let doubts = doubts_of(alloc, acceptance.last(), pages, &gathered)?;
-    let accepted = acceptance.on(&gathered.judged.scan.chosen);
+    let parts = reclaim_parts_of(rt, alloc, scan)?;
+    let doubts = doubts_of(alloc, acceptance.last(), pages, &parts)?;
+    let accepted = acceptance.on(&parts.judged.scan.chosen);
     let mut lines = doubt_lines(alloc, &accepted, &doubts)?;
-    append_reclaimed(alloc, &mut lines.text, lines.is_clear, &gathered)?;
+    append_reclaimed(alloc, &mut lines.text, lines.is_clear, &parts)?;
     Ok(Listing {
         text: lines.text.into_bytes(),
         is_clean: lines.is_clear,

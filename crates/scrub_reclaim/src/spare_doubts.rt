@@ -7,11 +7,11 @@ ghost use Rattle.scrub_check.specs.declared.statuses.checked.Checked.{Checked};
 ghost use Rattle.scrub_check.specs.Spares.{AreSpares};
 ghost use Rattle.scrub_check.specs.steps.LocatorIndex.{IsLocatorIndex};
 ghost use Rattle.scrub_reclaim.specs.Doubts.{frame_bytes, is_at_risk, spare_doubt, spare_doubts};
-ghost use Rattle.scrub_reclaim.specs.Doubts.{spare_doubts_by, staying};
-ghost use Rattle.scrub_reclaim.specs.steps.Gathered.{AreLists};
+ghost use Rattle.scrub_reclaim.specs.Doubts.{safe_spares, spare_doubts_by};
+ghost use Rattle.scrub_reclaim.specs.steps.ReclaimParts.{AreLists};
 
 use crate::doubts::Doubt;
-use crate::gathered::Gathered;
+use crate::reclaim_parts::ReclaimParts;
 use scrub_check::{Checked, ExtentSet, LocatorIndex, Owner, Spares};
 use scrub_disk::{OutOfMemory, PageSource};
 use scrub_scan::Standing;
@@ -34,14 +34,14 @@ fn is_at_risk(locators: &LocatorIndex, extents: &ExtentSet, spare: &Standing) ->
 }
 
 /// Adds a chunk, unless a reset of these extents might take it.
-fn add_staying(
+fn add_safe_spare(
     stay: &mut Vec<Standing>,
     locators: &LocatorIndex,
     extents: &ExtentSet,
     spare: &Standing,
 ) -> Result<(), OutOfMemory>
     ensures { (checked : List Checked) → IsLocatorIndex checked locators.now →
-        OnOk result (stay.new.items ≡ stay.old.items ++ staying checked extents.now (spare.now ∷ [])) }
+        OnOk result (stay.new.items ≡ stay.old.items ++ safe_spares checked extents.now (spare.now ∷ [])) }
 {
     if is_at_risk(locators, extents, spare) {
         return Ok(());
@@ -51,23 +51,23 @@ fn add_staying(
 }
 
 /// Those of some chunks that no reset of these extents takes, in their order.
-fn staying(
+fn safe_spares(
     alloc: Global,
     locators: &LocatorIndex,
     extents: &ExtentSet,
     some: &[Standing],
 ) -> Result<Vec<Standing>, OutOfMemory>
     ensures { (checked : List Checked) → IsLocatorIndex checked locators.now →
-        IfOk result (λ v. v.items ≡ staying checked extents.now some.now) }
+        IfOk result (λ v. v.items ≡ safe_spares checked extents.now some.now) }
 {
     let mut stay = Vec::new(alloc);
     for spare in some {
-        add_staying(&mut stay, locators, extents, spare)?;
+        add_safe_spare(&mut stay, locators, extents, spare)?;
     }
     Ok(stay)
 }
 
-/// How many bytes a frame takes.
+/// How many bytes a frame takes: its payload, and what its form adds.
 pub(crate) fn frame_bytes(spare: &Standing) -> u64
     ensures { result ≡ frame_bytes spare.now }
 {
@@ -128,15 +128,15 @@ fn add_all(
 pub(crate) fn add_spares<D: PageSource>(
     alloc: Global,
     doubts: &mut Vec<Doubt>,
-    gathered: &Gathered<'_, D>,
+    parts: &ReclaimParts<'_, D>,
 ) -> Result<(), OutOfMemory>
-    requires { AreLists gathered.now }
-    ensures { (all : List Scanned) → AreSpares all gathered.now.judged.checked.items gathered.now.copies.spares →
+    requires { AreLists parts.now }
+    ensures { (all : List Scanned) → AreSpares all parts.now.judged.checked.items parts.now.copies.spares →
         OnOk result (doubts.new.items ≡ doubts.old.items ++
-        spare_doubts all gathered.now.judged.checked.items gathered.now.candidates.items) }
+        spare_doubts all parts.now.judged.checked.items parts.now.candidates.items) }
 {
-    let spares = gathered.copies.all_spares();
-    let safe = staying(alloc, &gathered.locators, &gathered.listed, spares.all())?;
+    let spares = parts.copies.all_spares();
+    let safe = safe_spares(alloc, &parts.locators, &parts.listed, spares.all())?;
     let stay = Spares::among(safe)?;
-    add_all(doubts, spares, &stay, &gathered.judged.checked)
+    add_all(doubts, spares, &stay, &parts.judged.checked)
 }

@@ -46,7 +46,7 @@ pub record IsMappedFrom (given : Option (List Locator)) (image : Image) (m : Map
   pub read : AreReadRuns image m.plan m.read
   pub bindings : IsShardMap m.read.runs m.bindings
 
--- the same by the choice
+-- each part of it is as it is in the image, with the plan by the superblock that counts
 abbrev pub IsMapped : Image → Mapped → Type 0
 IsMapped image m = IsMappedFrom None image m
 
@@ -127,7 +127,7 @@ pub record IsShardAnswerFrom (given : Option (List Locator)) (image : Image) (id
   pub mapped : IsMappedFrom given image found
   pub answer : IsAnswerIn image found id a
 
--- the same by the superblock that counts
+-- the answer for a shard of an image, by the superblock that counts
 abbrev pub IsShardAnswer : Image → ShardId → ShardAnswer → Type 0
 IsShardAnswer image id a = IsShardAnswerFrom None image id a
 
@@ -153,7 +153,7 @@ pub record HaveContentsOfEntryFrom (given : Option (List Locator)) (image : Imag
   pub bound : IsBoundBy found.bindings id entry
   pub contents : HaveContentsOf entry.locators bytes
 
--- the same by the superblock that counts
+-- the bytes have the contents that this entry asks for, by the superblock that counts
 abbrev pub HaveContentsOfEntry : Image → ShardId → List ℕ → Type 0
 HaveContentsOfEntry image id bytes = HaveContentsOfEntryFrom None image id bytes
 
@@ -189,7 +189,7 @@ pub record IsLostInEntryFrom (given : Option (List Locator)) (image : Image) (id
   pub nowhere : IsNowhere image found.plan found.all one
   pub first : (k : ℕ) (c : Checked) → k < number → slice_get own k ≡ Some c → ¬ IsNowhere image found.plan found.all c
 
--- the same by the superblock that counts
+-- that payload is nowhere, and that for no locator before it, by the superblock that counts
 abbrev pub IsLostInEntry : Image → ShardId → ℕ → Type 0
 IsLostInEntry image id number = IsLostInEntryFrom None image id number
 

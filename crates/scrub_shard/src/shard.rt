@@ -69,14 +69,14 @@ impl ShardBytes {
         self.is_doubtful
     }
 
-    /// The bytes.
+    /// The bytes of the shard.
     pub fn bytes(&self) -> &[u8]
         ensures { result.now ≡ self.now.bytes }
     {
         self.bytes.as_slice()
     }
 
-    /// The bytes, handed out.
+    /// Hands out the bytes of the shard.
     pub fn into_bytes(self) -> Vec<u8>
         ensures { result.items ≡ self.bytes }
     {

@@ -7,7 +7,7 @@ use Rattle.clap.specs.declared.error.kind.ErrorKind.{ErrorKind}
 use Rattle.clap.specs.declared.error.kind.ErrorKind.TheVariants.{DisplayHelp, DisplayVersion, OutOfMemory as no_memory}
 use Rattle.clap_walk.specs.Rows.{HasNumberTo}
 use Rattle.scrub_args.specs.Args.{IsFlagOf, IsWantedWith, command_of}
-use Rattle.scrub_args.specs.declared.args.Wanted.{Wanted}
+use Rattle.scrub_args.specs.declared.args.ScanOutput.{ScanOutput}
 use Rattle.scrub_args.specs.declared.args.ArgsFault.{ArgsFault}
 use Rattle.scrub_args.specs.declared.args.ArgsFault.TheVariants.{Refused, Help, OutOfMemory}
 
@@ -110,7 +110,7 @@ abbrev pub is_dated_command : Text → Bool
 is_dated_command name = bytes_eq name (codes "summary") || bytes_eq name (codes "reclaimable")
 
 -- this is wanted by the command of this name, with the values that were found
-abbrev pub IsWantedBy : Text → List Row → Wanted → Type 0
+abbrev pub IsWantedBy : Text → List Row → ScanOutput → Type 0
 IsWantedBy name found wanted = (name ≡ command_of wanted) × IsWantedWith found wanted
 
 -- what a command needs, by the first of these that it is: one to which the generation of the last superblock can be given, another one on

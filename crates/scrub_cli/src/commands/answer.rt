@@ -16,7 +16,7 @@ ghost use Rattle.scrub_cli.specs.Superblock.{AreSuperblocksListed};
 
 use crate::commands::remarks::superblock_lines;
 use crate::process::outcome::Outcome;
-use scrub_args::{AcceptedDoubts, VERSION, Wanted};
+use scrub_args::{AcceptedDoubts, ScanOutput, VERSION};
 use scrub_disk::{OutOfMemory, PageSource, RawImage};
 use scrub_found::{ScrubFault, are_clean_items};
 use scrub_listings::{list_locators, list_manifest, list_sizes, list_summary, list_superblocks};
@@ -135,7 +135,7 @@ pub fn disk_answer<R: Threads + Wait + Sync, D: PageSource>(
     alloc: Global,
     disk: &D,
     workers: u32,
-    wanted: &Wanted<'_>,
+    wanted: &ScanOutput<'_>,
 ) -> Result<(Answer, Takings), ScrubFault>
     requires workers { workers ≤ 64 }
     requires scanned { is_scanned wanted.now ≡ true }
@@ -144,26 +144,26 @@ pub fn disk_answer<R: Threads + Wait + Sync, D: PageSource>(
     ensures takings { IfOk result (λ r. AreTakingsBy (D.image disk.now) workers r.1) }
 {
     match wanted {
-        Wanted::Report => {
+        ScanOutput::Report => {
             let (found, takings) = scrub(rt, alloc, disk, workers, &NoGate)?;
             let is_clean = found.is_clean();
             Ok((Answer::new(found.into_report(), is_clean), takings))
         }
-        Wanted::Index => {
+        ScanOutput::Index => {
             let (found, takings) = scrub(rt, alloc, disk, workers, &NoGate)?;
             let is_clean = found.is_clean();
             Ok((Answer::new(found.into_index(), is_clean), takings))
         }
-        Wanted::Locators => {
+        ScanOutput::Locators => {
             let (listing, takings) = list_locators(rt, alloc, disk, workers, &NoGate)?;
             Ok((Answer::new(listing.text, listing.is_clean), takings))
         }
-        Wanted::Runs => unreachable!(),
-        Wanted::Summary(last) => {
+        ScanOutput::Runs => unreachable!(),
+        ScanOutput::Summary(last) => {
             let (summary, takings) = list_summary(rt, alloc, disk, workers, &NoGate, *last)?;
             Ok((Answer::new(summary.text, summary.is_clean), takings))
         }
-        Wanted::Reclaimable(accepted, last) => {
+        ScanOutput::Reclaimable(accepted, last) => {
             let acceptance = acceptance(&accepted, *last);
             let (listing, takings) = list_reclaimable(
                 rt,

@@ -10,7 +10,7 @@ ghost use Rattle.scrub_super.specs.Record.{record_bytes};
 ghost use Rattle.scrub_cli.specs.Demo.{demo_shard, demo_pointers, IsDemoDisk, IsDemoAnswer};
 
 use crate::commands::answer::{Answer, disk_answer};
-use scrub_args::Wanted;
+use scrub_args::ScanOutput;
 use scrub_disk::{Geometry, MemDisk, OutOfMemory};
 use scrub_found::ScrubFault;
 use scrub_frame::{FrameFault, Locator, locate, write_frame};
@@ -106,5 +106,5 @@ pub fn demo<R: Threads + Wait + Sync>(
     ensures workers { IfOk result (λ r. length r.1.lists ≡ 3) }
 {
     let disk = demo_disk(alloc)?;
-    disk_answer(rt, alloc, &disk, WORKERS, &Wanted::Report)
+    disk_answer(rt, alloc, &disk, WORKERS, &ScanOutput::Report)
 }

@@ -5,7 +5,7 @@
 ghost use Rattle.std.specs.Prelude.{◌≡◌, ◌≤◌, IfOk, MatchResult, true};
 ghost use Rattle.scrub_disk.specs.Parted.{image_of};
 ghost use Rattle.scrub_disk.specs.OneExtent.{image_of as image_of_extent};
-ghost use Rattle.scrub_args.specs.declared.args.Wanted.TheVariants.{Runs};
+ghost use Rattle.scrub_args.specs.declared.args.ScanOutput.TheVariants.{Runs};
 ghost use Rattle.scrub_cli.specs.DiskExtent.{IsExtentOfDisk};
 ghost use Rattle.scrub_cli.specs.Scan.{AreTakingsOf, IsDiskOf, IsScanAnswer, IsScanFault, is_scanned};
 ghost use Rattle.scrub_cli.specs.Superblock.{IsSuperblocksAnswer};
@@ -16,7 +16,7 @@ use crate::commands::disk_image::load_disk;
 use crate::commands::geometry::geometry_of;
 use crate::process::fault::Fault;
 use crate::process::images::Images;
-use scrub_args::{ImageArgs, ScanArgs, Wanted};
+use scrub_args::{ImageArgs, ScanArgs, ScanOutput};
 use scrub_disk::{OneExtent, PartedDisk};
 use scrub_listings::list_runs;
 use scrub_pool::Takings;
@@ -48,7 +48,7 @@ fn scan<'a, R: Threads + Wait + Sync, I: Images>(
     alloc: Global,
     args: &ScanArgs<'a>,
     images: &mut I,
-    wanted: &Wanted<'_>,
+    wanted: &ScanOutput<'_>,
 ) -> Result<(Answer, Takings), Fault<'a>>
     requires workers { args.now.workers ≤ 64 }
     requires scanned { is_scanned wanted.now ≡ true }
@@ -82,16 +82,16 @@ fn runs<'a, R: Threads + Sync, I: Images>(
 }
 
 /// Whether workers scan the disk for what is wanted.
-fn is_scanned(wanted: &Wanted<'_>) -> bool
+fn is_scanned(wanted: &ScanOutput<'_>) -> bool
     ensures { result ≡ is_scanned wanted.now }
 {
     match wanted {
-        Wanted::Runs => false,
-        Wanted::Report
-        | Wanted::Index
-        | Wanted::Locators
-        | Wanted::Summary(_)
-        | Wanted::Reclaimable(_, _) => true,
+        ScanOutput::Runs => false,
+        ScanOutput::Report
+        | ScanOutput::Index
+        | ScanOutput::Locators
+        | ScanOutput::Summary(_)
+        | ScanOutput::Reclaimable(_, _) => true,
     }
 }
 
@@ -101,7 +101,7 @@ pub fn on_disk<'a, R: Threads + Wait + Sync, I: Images>(
     alloc: Global,
     args: &ScanArgs<'a>,
     images: &mut I,
-    wanted: &Wanted<'_>,
+    wanted: &ScanOutput<'_>,
 ) -> Result<Answer, Fault<'a>>
     requires { args.now.workers ≤ 64 }
     ensures { MatchResult result

@@ -40,7 +40,7 @@ impl FileImage {
         }
     }
 
-    /// The same reader, now one of several.
+    /// This reader, once it stands only for itself.
     fn shared(self) -> FileImage
         ensures reads { result.reads ≡ self.reads }
         ensures shares { result.shares ≡ 1 }

@@ -46,7 +46,7 @@ stem_text all number c = numbered_text number c ++ place_or_form all c
 abbrev pub best_by : CopiesValue → Checked → BestCopy
 best_by v c = best_among (spares_by v.spares c) (loose_by v c)
 
--- the same, if the locator dangles
+-- the best copy of a locator, if it dangles
 abbrev pub best_if_dangling : CopiesValue → Checked → Option BestCopy
 best_if_dangling v c = if is_dangling c.status then Some (best_by v c) else None
 

@@ -10,7 +10,7 @@ use Rattle.scrub_reclaim.specs.Room.{place_in, room_fits, room_in, room_line}
 abbrev pub may_grow_by : List ℕ → Scanned → Bool
 may_grow_by barred f = is_clean_extent f && not (list_any (λ n. n == f.extent) barred)
 
--- the same, and the extent isn't among the closed ones either
+-- the extent may grow, and isn't among the closed ones
 abbrev pub may_take_by : List ℕ → List ℕ → Scanned → Bool
 may_take_by barred closed f = not (list_any (λ n. n == f.extent) closed) && may_grow_by barred f
 

@@ -1,7 +1,7 @@
 -- The answer or the fault of a request is that of the arguments that ask for it.
 use Rattle.std.proofs.Common.{rules}
 use Rattle.scrub_args.specs.Args.{NameCommand, texts}
-use Rattle.scrub_args.specs.declared.args.Request.TheVariants.{Items, Disk, Manifest, Compare, Shard, Shards, Superblocks, Sizes}
+use Rattle.scrub_args.specs.declared.args.Request.TheVariants.{Items, Scan, Manifest, Compare, Shard, Shards, Superblocks, Sizes}
 use Rattle.std.proofs.lemmas.Result.{err_from_is_err_and}
 use Rattle.scrub_cli.proofs.RunAnswers.{answered, own_fault, request_answer}
 use Rattle.scrub_args.proofs.ArgsFound.{few_workers}
@@ -24,8 +24,8 @@ returns-in-Sizes g c =
 
 pub on_disk-requires : goal.on_disk-requires
 on_disk-requires g c =
-    let asked : NameCommand (texts c.args.args.now) (Disk c.in-Disk.wanted c.in-Disk.args) = rw (c.in-Some.is, c.in-Disk.is) at c.in_ok-request.ensures in
-    (search rules, (search rules, few_workers asked.1.0 c.in-Disk.args.workers asked.1.3.workers))
+    let asked : NameCommand (texts c.args.args.now) (Scan c.in-Scan.wanted c.in-Scan.args) = rw (c.in-Some.is, c.in-Scan.is) at c.in_ok-request.ensures in
+    (search rules, (search rules, few_workers asked.1.0 c.in-Scan.args.workers asked.1.3.workers))
 
 pub manifest-requires : goal.manifest-requires
 manifest-requires g c =
@@ -51,10 +51,10 @@ shards-requires g c =
     let asked : NameCommand (texts c.args.args.now) (Shards c.in-Shards.args) = rw (c.in-Some.is, c.in-Shards.is) at c.in_ok-request.ensures in
     (search rules, (search rules, few_workers asked.1.0 c.in-Shards.args.scan.workers asked.1.2.scan.workers))
 
-pub returns-in-Disk : goal.returns-in-Disk
-returns-in-Disk g c =
+pub returns-in-Scan : goal.returns-in-Scan
+returns-in-Scan g c =
     answered (g.I.Images.known c.args.images.now) (g.I.Images.known_map c.args.images.now) (texts c.args.args.now)
-    (Disk c.in-Disk.wanted c.in-Disk.args) c.on_disk.result (rw (c.in-Some.is, c.in-Disk.is) at c.in_ok-request.ensures) c.on_disk.ensures
+    (Scan c.in-Scan.wanted c.in-Scan.args) c.on_disk.result (rw (c.in-Some.is, c.in-Scan.is) at c.in_ok-request.ensures) c.on_disk.ensures
 
 pub returns-in_ok-shard-in-Shard : goal.returns-in_ok-shard-in-Shard
 returns-in_ok-shard-in-Shard g c =

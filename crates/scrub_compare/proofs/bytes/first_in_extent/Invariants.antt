@@ -5,4 +5,4 @@ use Rattle.scrub_compare.proofs.bytes.first_in_extent.Given as goal
 
 abbrev pub invariant-loop-page : goal.invariant-loop-page
 invariant-loop-page l = (p : ℕ) → 0 ≤ p → p < l.page * l.fn.geometry.page →
-    ¬ (is_refused_at l.old l.new l.leave.room l.leave.to (p / l.fn.geometry.page) p ≡ true)
+    ¬ (is_refused_at l.old l.new l.allowed.room l.allowed.to (p / l.fn.geometry.page) p ≡ true)

@@ -6,4 +6,4 @@ pub judged_of-requires-after_bounds : goal.judged_of-requires-after_bounds
 judged_of-requires-after_bounds g c κs within = c.in_ok-scan.ensures.scan.whole
 
 pub returns : goal.returns
-returns g c = rw c.in_ok-scan.ensures.image at (c.in_ok-kept.ensures None c.args.resets.now c.in_ok-scan.ensures.scan)
+returns g c = rw c.in_ok-scan.ensures.image at (c.in_ok-found_after_resets.ensures None c.args.resets.now c.in_ok-scan.ensures.scan)

@@ -9,8 +9,8 @@ pub returns : goal.returns
 returns g c b d =
     let empty : string_bytes c.new-text.result ≡ [] = search rules in
     let e = c.in_ok-append_extents.ensures b d in
-    let lines = extent_lines c.args.resets.now (found_in c.args.found.now b) (found_in c.args.rest.now d) e.0 in
-    let named = named_lines c.args.resets.now c.args.rest.now.checked.items in (
+    let lines = extent_lines c.args.resets.now (found_in c.args.found_before.now b) (found_in c.args.found_after.now d) e.0 in
+    let named = named_lines c.args.resets.now c.args.found_after.now.checked.items in (
       c.in_ok-first.first,
       c.in_ok-first.ensures,
       e.0,

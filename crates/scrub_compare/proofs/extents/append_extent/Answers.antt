@@ -10,11 +10,11 @@ pub returns : goal.returns
 returns g c checked barred =
     let before = g.D.PageSource.image c.args.before.now in
     let after = g.E.PageSource.image c.args.after.now in
-    let found = c.args.found.now in
+    let found_before = c.args.found_before.now in
     let x = c.args.extent in
-    let room : c.room_of_extent-room.result ≡ room_of_extent found.scan.plan.geometry found.scan.all.extents checked x =
-    c.room_of_extent-room.ensures checked barred ∙ ap (λ h. room_of_extent h found.scan.all.extents checked x) c.geometry.ensures in
-    let old : c.pointer-old.result ≡ pointer_in found.scan.plan x = sym (pointer_is found.scan.plan x c.pointer-old.result c.pointer-old.ensures.value) in
+    let room : c.room_of_extent-room.result ≡ room_of_extent found_before.scan.plan.geometry found_before.scan.all.extents checked x =
+    c.room_of_extent-room.ensures checked barred ∙ ap (λ h. room_of_extent h found_before.scan.all.extents checked x) c.geometry.ensures in
+    let old : c.pointer-old.result ≡ pointer_in found_before.scan.plan x = sym (pointer_is found_before.scan.plan x c.pointer-old.result c.pointer-old.ensures.value) in
     let new : c.pointer-new.result ≡ pointer_in c.args.plan.now x = sym (pointer_is c.args.plan.now x c.pointer-new.result c.pointer-new.ensures.value) in
     on_ok c.append_lines.result _ _ c.append_lines.ensures (λ same. (
       c.in_ok-first.first,

@@ -10,7 +10,7 @@ use Rattle.scrub_found.specs.Judged.{Beside, IsFoundFrom, found_in}
 use Rattle.scrub_found.specs.Scrubbed.{Scrubbed}
 use Rattle.scrub_found.proofs.FoundBeside.{all_beside_from, found_beside_from}
 use Rattle.scrub_loose.specs.Loose.{AreCopies}
-use Rattle.scrub_listings.specs.Manifest.{after_status_in, hidden_runs, is_whole_by, lost_runs, of_shards, text_by}
+use Rattle.scrub_listings.specs.Manifest.{after_status_in, hidden_runs, is_whole_by, lost_run_count, of_shards, text_by}
 use Rattle.scrub_listings.specs.steps.Manifest.{after_status_by, is_of_read_row}
 use Rattle.scrub_listings.proofs.AfterStatus.{AreAfterAlike, found_alike, text_alike}
 use Rattle.scrub_listings.proofs.ReadRows.{lost_found, read_found}
@@ -48,8 +48,8 @@ returns g c = λ given scanned.
     let b : Beside = all_beside_from given resets image judged are in
     let is : IsFoundFrom given resets image judged b = found_beside_from given resets image judged are in
     let found : Scrubbed = found_in judged b in
-    let lost_is : c.lost_runs-lost.result ≡ lost_runs found =
-    c.lost_runs-lost.ensures
+    let lost_is : c.lost_run_count-lost.result ≡ lost_run_count found =
+    c.lost_run_count-lost.ensures
     ∙ ap (count_by (λ (r : RunRow). is_none r.entries)) c.deref-3.ensures.value
     ∙ lost_found judged.scan.plan.runs b.read judged.runs.items is.rows in
     let hidden_is : c.hidden_runs-hidden.result ≡ hidden_runs found =
@@ -75,7 +75,7 @@ returns g c = λ given scanned.
           ∙ c.in_ok-text.ensures
           ∙ (λ i. text_by (after_status_by all copies) judged.scan.plan.has_superblock judged.scan.plan.retired (lost_is i) (hidden_is i) (c.bindings.ensures.bindings i) (shards_are i))
           ∙ text_alike (after_status_by all copies) (after_status_in all loose) judged.scan.plan.has_superblock
-          judged.scan.plan.retired (lost_runs found) (hidden_runs found) map (of_shards checked) alike;
+          judged.scan.plan.retired (lost_run_count found) (hidden_runs found) map (of_shards checked) alike;
       verdict =
           c.is_whole_by-is_clean.ensures
           ∙ (λ i. is_whole_by judged.scan.plan.has_superblock (lost_is i) (hidden_is i) (shards_are i));

@@ -19,8 +19,8 @@ returns g c = λ read image are rows.
     let all = j.scan.all.extents in
     let checked = j.checked.items in
     let copies = c.args.copies.now in
-    let lost_is : c.lost_runs-lost.result ≡ count_by is_none read.runs =
-    c.lost_runs-lost.ensures ∙ ap (count_by (λ (r : RunRow). is_none r.entries)) c.deref.ensures.value ∙ lost_found j.scan.plan.runs read j.runs.items rows in
+    let lost_is : c.lost_run_count-lost.result ≡ count_by is_none read.runs =
+    c.lost_run_count-lost.ensures ∙ ap (count_by (λ (r : RunRow). is_none r.entries)) c.deref.ensures.value ∙ lost_found j.scan.plan.runs read j.runs.items rows in
     let spared_is : c.count_spared-spared.result ≡ count_by (has_spare all) checked =
     c.count_spared-spared.ensures
     ∙ ap (count_by (has_spare_by copies.spares)) c.deref-2.ensures.value
@@ -44,7 +44,7 @@ returns g c = λ read image are rows.
     let t7 = string_bytes c.append_candidates.new.text in
     let n1 : List NamedNumber = disk_numbers j.scan.plan in
     let n2 : List NamedNumber = superblock_numbers j.scan.chosen pages in
-    let n3 : List NamedNumber = reading_numbers j.scan.chosen j.scan.plan all c.lost_runs-lost.result in
+    let n3 : List NamedNumber = reading_numbers j.scan.chosen j.scan.plan all c.lost_run_count-lost.result in
     let n4 : List NamedNumber = shard_numbers c.bindings-bindings.result.now c.len-broken.result c.deref-4.result.now c.count_spared-spared.result c.count_loose-loose.result in
     let n5 : List NamedNumber = chunk_numbers all checked c.len-shared.result in
     let n6 : List NamedNumber = item_numbers all in

@@ -13,19 +13,19 @@ pub returns : goal.returns
 returns g c = λ checked live_are orphans_are.
     let all = c.args.all.now.extents in
     let n = c.args.orphan_count in
-    let chunks_are : c.tally_all-chunks.result ≡ length (chunks all) = c.tally_all-chunks.ensures.sum ∙ chunks_counted all in
+    let chunks_are : c.counted_in_all-chunks.result ≡ length (chunks all) = c.counted_in_all-chunks.ensures.sum ∙ chunks_counted all in
     let live_is : c.sum_of-live_bytes.result ≡ sum_by (live_bytes checked) all =
     c.sum_of-live_bytes.ensures ∙ ap sum live_are ∙ sum-map (live_bytes checked) all in
     let live_chunks_are : c.saturating_sub.result ≡ live_count all checked =
-    c.saturating_sub.ensures ∙ ap (λ (t : ℕ). t - n) c.tally_all-chunks.ensures.sum ∙ live_counted all checked n orphans_are in
+    c.saturating_sub.ensures ∙ ap (λ (t : ℕ). t - n) c.counted_in_all-chunks.ensures.sum ∙ live_counted all checked n orphans_are in
     let left : c.saturating_sub-2.result ≡ sum_by (orphan_bytes checked) all =
-    c.saturating_sub-2.ensures ∙ ap (λ (t : ℕ). t - c.sum_of-live_bytes.result) c.tally_all-bytes.ensures.sum ∙ orphan_bytes_left all checked c.sum_of-live_bytes.result live_is in
+    c.saturating_sub-2.ensures ∙ ap (λ (t : ℕ). t - c.sum_of-live_bytes.result) c.counted_in_all-bytes.ensures.sum ∙ orphan_bytes_left all checked c.sum_of-live_bytes.result live_is in
     let numbers : ℕ → ℕ → ℕ → ℕ → ℕ → ℕ → ℕ → List NamedNumber = λ a b d e f h k.
     (codes "chunks", a) ∷ (codes "chunk_bytes", b) ∷ (codes "live_chunks", d) ∷ (codes "live_bytes", e) ∷ (codes "orphans", f)
     ∷ (codes "orphan_bytes", h) ∷ (codes "twins", k) ∷ (codes "shared_places", c.args.shared) ∷ [] in
-    let is : numbers c.tally_all-chunks.result c.tally_all-bytes.result c.saturating_sub.result c.sum_of-live_bytes.result n
+    let is : numbers c.counted_in_all-chunks.result c.counted_in_all-bytes.result c.saturating_sub.result c.sum_of-live_bytes.result n
     c.saturating_sub-2.result c.args.twin_count
     ≡ chunk_numbers all checked c.args.shared =
-    (λ i. numbers (chunks_are i) (c.tally_all-bytes.ensures.sum i) (live_chunks_are i) (live_is i) (orphans_are i) (left i) (c.requires i)) in
+    (λ i. numbers (chunks_are i) (c.counted_in_all-bytes.ensures.sum i) (live_chunks_are i) (live_is i) (orphans_are i) (left i) (c.requires i)) in
     subst (λ (ns : List NamedNumber). OnOk c.append_numbers.result (string_bytes c.append_numbers.new.text ≡ string_bytes c.args.text.now ++ number_lines ns)) is
     c.append_numbers.ensures

@@ -2,4 +2,4 @@
 use Rattle.scrub_listings.proofs.summary.append_reading.Goals as goal
 
 pub returns : goal.returns
-returns g c = rw (c.bad_pages.ensures, c.tally_all.ensures.sum, c.runs.ensures.runs) at c.append_numbers.ensures
+returns g c = rw (c.bad_pages.ensures, c.counted_in_all.ensures.sum, c.runs.ensures.runs) at c.append_numbers.ensures

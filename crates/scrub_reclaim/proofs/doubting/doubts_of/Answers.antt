@@ -1,4 +1,4 @@
--- The doubts of spares and of loose copies are by the copies that were gathered, and the others follow.
+-- The doubts of spares and of loose copies are by the copies among the parts, and the others follow.
 use Rattle.std.proofs.Common.{◌≡◌, ◌++◌, ◌∙◌, ℕ, List, ap, map, rules}
 use Rattle.std.specs.List.{flat_map}
 use Rattle.scrub_found.specs.Judged.{run_states}
@@ -9,11 +9,11 @@ use Rattle.scrub_reclaim.proofs.doubting.doubts_of.Goals as goal
 
 pub returns : goal.returns
 returns g c loose kept =
-    let gathered = c.args.gathered.now in
-    let judged = gathered.judged in
+    let parts = c.args.parts.now in
+    let judged = parts.judged in
     let all = judged.scan.all.extents in
     let checked = judged.checked.items in
-    let candidates = gathered.candidates.items in
+    let candidates = parts.candidates.items in
     let pages = c.args.pages.now in
     let page : ℕ = judged.scan.plan.geometry.page in
     let first : c.in_ok-doubts.doubts.items ≡ choice_doubts judged.scan.chosen ++ last_doubts judged.scan.chosen c.args.last
@@ -26,7 +26,7 @@ returns g c loose kept =
     let by_crowded : c.add_crowded.new.doubts.items ≡ c.add_loose.new.doubts.items ++ crowded_doubts all loose.crowded checked candidates =
     (rw c.crowded.ensures at c.in_ok-add_crowded.ensures)
     ∙ ap (λ (u : List Doubt). c.add_loose.new.doubts.items ++ u)
-    (crowded_alike all checked loose gathered.copies kept (map (λ a. a.extent) candidates) gathered.listed c.requires.listed) in
+    (crowded_alike all checked loose parts.copies kept (map (λ a. a.extent) candidates) parts.listed c.requires.listed) in
     let by_tails : c.add_tails.new.doubts.items ≡ c.add_crowded.new.doubts.items ++ flat_map tail_doubts all = c.in_ok-add_tails.ensures in
     let last : c.add_lost_tails.new.doubts.items ≡ c.add_tails.new.doubts.items ++ flat_map (tail_lost_doubts page) all = search rules in
     last

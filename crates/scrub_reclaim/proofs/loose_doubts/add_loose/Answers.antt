@@ -7,12 +7,12 @@ use Rattle.scrub_reclaim.proofs.loose_doubts.add_loose.Goals as goal
 
 pub returns : goal.returns
 returns g c loose kept =
-    let gathered = c.args.gathered.now in
-    let all = gathered.judged.scan.all.extents in
-    let checked = gathered.judged.checked.items in
-    let safe : c.in_ok-safe.safe.items ≡ outside gathered.listed gathered.copies.loose =
-    c.in_ok-safe.ensures ∙ ap (outside gathered.listed) (c.all.ensures ∙ c.all_loose.ensures) in
+    let parts = c.args.parts.now in
+    let all = parts.judged.scan.all.extents in
+    let checked = parts.judged.checked.items in
+    let safe : c.in_ok-safe.safe.items ≡ outside parts.listed parts.copies.loose =
+    c.in_ok-safe.ensures ∙ ap (outside parts.listed) (c.all.ensures ∙ c.all_loose.ensures) in
     subst (λ (ds : List Doubt). OnOk c.add_all.result (c.add_all.new.doubts.items ≡ c.args.doubts.now.items ++ ds))
-    (all_loose_alike all checked loose gathered.copies kept (map (λ a. a.extent) gathered.candidates.items) gathered.listed c.requires.listed
+    (all_loose_alike all checked loose parts.copies kept (map (λ a. a.extent) parts.candidates.items) parts.listed c.requires.listed
     c.in_ok-safe.safe.items c.in_ok-stay.stay safe c.in_ok-stay.ensures)
     (rw c.deref.ensures.value at c.add_all.ensures)

@@ -15,18 +15,18 @@ append_candidates-requires g c = rw c.deref-2.ensures.value c.requires.listed
 
 pub returns-then-is_empty : goal.returns-then-is_empty
 returns-then-is_empty g c loose kept =
-    let candidates = c.args.gathered.now.candidates in
+    let candidates = c.args.parts.now.candidates in
     let count : length candidates.items ≡ candidates.len = omega (arith, candidates.ok.0) in
-    no_lines c.args.is_clear loose c.args.gathered.now (string_bytes c.args.text.now)
+    no_lines c.args.is_clear loose c.args.parts.now (string_bytes c.args.text.now)
     (ap (λ (n : ℕ). n == 0) count ∙ sym c.is_empty.ensures ∙ c.if-is_empty.true)
 
 pub returns : goal.returns
 returns g c loose kept =
-    let gathered = c.args.gathered.now in
-    let checked = gathered.judged.checked.items in
-    let candidates = gathered.candidates.items in
-    let count : length candidates ≡ gathered.candidates.len = omega (arith, gathered.candidates.ok.0) in
-    let all = gathered.judged.scan.all.extents in
+    let parts = c.args.parts.now in
+    let checked = parts.judged.checked.items in
+    let candidates = parts.candidates.items in
+    let count : length candidates ≡ parts.candidates.len = omega (arith, parts.candidates.ok.0) in
+    let all = parts.judged.scan.all.extents in
     let old : List ℕ = string_bytes c.args.text.now in
     let mid : List ℕ = string_bytes c.append_candidates.new.text in
     let new : List ℕ = string_bytes c.append_rooms.new.text in
@@ -36,10 +36,10 @@ returns g c loose kept =
     subst (λ (xs : List ℕ). AreBarredExtents checked xs) (sym c.barred-barred.ensures) c.requires.locators.barred in
     let shut : AreShut all loose checked c.barred-barred.result.now c.in_ok-closed.closed =
     record { unsound = barred; shut = c.in_ok-closed.ensures all checked loose kept } in
-    let later : OnOk c.append_rooms.result (new ≡ mid ++ room_lines gathered.judged.scan.plan.geometry all loose checked candidates) =
+    let later : OnOk c.append_rooms.result (new ≡ mid ++ room_lines parts.judged.scan.plan.geometry all loose checked candidates) =
     subst (λ (h : Geometry). OnOk c.append_rooms.result (new ≡ mid ++ room_lines h all loose checked candidates)) c.geometry-geometry.ensures
     (c.append_rooms.ensures loose checked candidates shut c.requires.listed) in
     subst (λ (u : List ℕ). OnOk c.append_rooms.result (new ≡ old ++ u))
-    (some_lines c.args.is_clear loose gathered c.if-not-is_clear.false
+    (some_lines c.args.is_clear loose parts c.if-not-is_clear.false
     (ap (λ (n : ℕ). n == 0) count ∙ sym c.is_empty.ensures ∙ c.if-is_empty.false))
-    (appended_ok c.append_rooms.result old mid new (all_candidate_lines checked candidates) (room_lines gathered.judged.scan.plan.geometry all loose checked candidates) first later)
+    (appended_ok c.append_rooms.result old mid new (all_candidate_lines checked candidates) (room_lines parts.judged.scan.plan.geometry all loose checked candidates) first later)

@@ -1,7 +1,7 @@
 -- A chunk at risk doesn't stay.
 use Rattle.std.proofs.Common.{◌≡◌, ◌++◌, ◌∷◌, [], rules}
 use Rattle.scrub_reclaim.proofs.SpareDoubts.{at_risk_not_kept, stays_too}
-use Rattle.scrub_reclaim.proofs.spare_doubts.add_staying.Goals as goal
+use Rattle.scrub_reclaim.proofs.spare_doubts.add_safe_spare.Goals as goal
 
 pub returns-then-is_at_risk : goal.returns-then-is_at_risk
 returns-then-is_at_risk c checked same =

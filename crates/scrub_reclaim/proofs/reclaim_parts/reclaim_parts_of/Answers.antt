@@ -1,7 +1,7 @@
 -- The index, the candidates and their extents are those of the judged locators, and the copies are those of the disk.
 use Rattle.std.proofs.Common.{[], None}
 use Rattle.scrub_loose.specs.Loose.{AreCopies}
-use Rattle.scrub_reclaim.proofs.gathered.gathered_of.Goals as goal
+use Rattle.scrub_reclaim.proofs.reclaim_parts.reclaim_parts_of.Goals as goal
 
 pub judged_of-requires-after_bounds : goal.judged_of-requires-after_bounds
 judged_of-requires-after_bounds g c κs within = c.requires.whole

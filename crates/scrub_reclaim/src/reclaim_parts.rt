@@ -4,7 +4,7 @@
 ghost use Rattle.std.specs.Prelude.{◌≡◌, IfOk, map};
 ghost use Rattle.std.specs.List.Sorted.{IsPermutation};
 ghost use Rattle.scrub_found.specs.Judged.{IsScan};
-ghost use Rattle.scrub_reclaim.specs.steps.Gathered.{IsGatheredOn};
+ghost use Rattle.scrub_reclaim.specs.steps.ReclaimParts.{AreReclaimParts};
 
 use scrub_check::{Candidate, ExtentSet, LocatorIndex, candidates_by};
 use scrub_disk::{OutOfMemory, PageSource};
@@ -15,14 +15,14 @@ use std::thread::Threads;
 
 /// What the lines of a disk are made of.
 #[derive(Drop)]
-pub(crate) struct Gathered<'d, D: PageSource> {
+pub(crate) struct ReclaimParts<'d, D: PageSource> {
     /// What was found, up to the status of each named locator.
     pub judged: Judged<'d, D>,
     /// What these locators say of places and extents.
     pub locators: LocatorIndex,
     /// The extents that may be reclaimed, by what is freed, falling, and then by number.
     pub candidates: Vec<Candidate>,
-    /// The same extents by number.
+    /// The extents of the candidates, by number.
     pub listed: ExtentSet,
     /// The spares and the loose copies of these locators, and the crowded extents.
     pub copies: Copies,
@@ -44,13 +44,13 @@ fn extents_of(alloc: Global, candidates: &[Candidate]) -> Result<ExtentSet, OutO
 
 /// What the lines of a scanned disk are made of. The named locators are sorted once, and nothing is made of
 /// them that the lines don't need.
-pub(crate) fn gathered_of<'d, R: Threads + Sync, D: PageSource>(
+pub(crate) fn reclaim_parts_of<'d, R: Threads + Sync, D: PageSource>(
     rt: &R,
     alloc: Global,
     scan: Scan<'d, D>,
-) -> Result<Gathered<'d, D>, OutOfMemory>
+) -> Result<ReclaimParts<'d, D>, OutOfMemory>
     requires { IsScan (D.image scan.disk.now) scan }
-    ensures { IfOk result (IsGatheredOn (D.image scan.entry.disk.now)) }
+    ensures { IfOk result (AreReclaimParts (D.image scan.entry.disk.now)) }
 {
     let disk = scan.disk;
     let judged = judged_of(rt, alloc, scan)?;
@@ -59,7 +59,7 @@ pub(crate) fn gathered_of<'d, R: Threads + Sync, D: PageSource>(
     let candidates = candidates_by(alloc, plan, all, &locators, judged.in_doubt)?;
     let listed = extents_of(alloc, &candidates)?;
     let copies = Copies::of(rt, alloc, disk, plan, all, &[], &judged.checked)?;
-    Ok(Gathered {
+    Ok(ReclaimParts {
         judged,
         locators,
         candidates,

@@ -2,7 +2,7 @@
 use Rattle.std.proofs.Common.{arith}
 use Rattle.scrub_scan.specs.Scanned.{scanned, result_image}
 use Rattle.scrub_check.proofs.Sizes.{sizes_fit}
-use Rattle.scrub_listings.proofs.summary.tally_in.Goals as goal
+use Rattle.scrub_listings.proofs.summary.counted_in.Goals as goal
 
 pub chunk_bytes-requires : goal.chunk_bytes-requires
 chunk_bytes-requires g c =

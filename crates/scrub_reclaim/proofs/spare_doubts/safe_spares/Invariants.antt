@@ -2,9 +2,9 @@
 use Rattle.std.proofs.Common.{◌≡◌, List, take}
 use Rattle.scrub_check.specs.declared.statuses.checked.Checked.{Checked}
 use Rattle.scrub_check.specs.steps.LocatorIndex.{IsLocatorIndex}
-use Rattle.scrub_reclaim.specs.Doubts.{staying}
-use Rattle.scrub_reclaim.proofs.spare_doubts.staying.Given as goal
+use Rattle.scrub_reclaim.specs.Doubts.{safe_spares}
+use Rattle.scrub_reclaim.proofs.spare_doubts.safe_spares.Given as goal
 
 abbrev pub invariant-loop-spare : goal.invariant-loop-spare
 invariant-loop-spare l = (checked : List Checked) → IsLocatorIndex checked l.locators →
-    l.stay.items ≡ staying checked l.extents (take l.spare-index l.some)
+    l.stay.items ≡ safe_spares checked l.extents (take l.spare-index l.some)

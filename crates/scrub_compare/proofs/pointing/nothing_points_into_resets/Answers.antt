@@ -1,6 +1,0 @@
--- A named locator there would have a line.
-use Rattle.scrub_compare.proofs.Safe.{none_points}
-use Rattle.scrub_compare.proofs.pointing.nothing_points_into_resets.Goals as goal
-
-pub returns : goal.returns
-returns c resets before after rest s = none_points resets before after s.text rest s.safe
