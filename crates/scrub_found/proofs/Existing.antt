@@ -6,7 +6,7 @@ use Rattle.std.proofs.lemmas.List.Elements.{All-cons, All-replicate}
 use Rattle.std.proofs.lemmas.List.Sorted.{IsPermutation-refl}
 use Rattle.scrub_disk.specs.Image.{Image}
 use Rattle.scrub_frame.specs.declared.locator.Locator.{Locator}
-use Rattle.scrub_super.specs.Plan.{IsPlan, PlanValue}
+use Rattle.scrub_super.specs.Plan.{IsPlan}
 use Rattle.scrub_super.specs.steps.Limits.{AreRunLocators}
 use Rattle.scrub_super.proofs.PlansFit.{plan_fits}
 use Rattle.scrub_super.proofs.RecordsThere.{some_choice, some_plan}

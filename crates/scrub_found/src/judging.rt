@@ -179,7 +179,7 @@ pub fn liveness_and_twins<R: Threads + Sync, D: PageSource>(
     ensures liveness { IfOk result (λ r. IsLivenessOf judged.now r.0) }
     ensures twins { IfOk result (λ r. r.1.items ≡ twins judged.now.scan.all.extents) }
 {
-    let locators = LocatorIndex::of(alloc, &judged.checked)?;
+    let locators = LocatorIndex::by_threads(rt, alloc, &judged.checked)?;
     liveness_and_twins_by(rt, alloc, &judged.scan, &locators, judged.in_doubt)
 }
 

@@ -14,6 +14,7 @@ use crate::places::chunk_at::ChunkAt;
 use crate::statuses::checked::Checked;
 use scrub_disk::OutOfMemory;
 use std::alloc::Global;
+use std::thread::Threads;
 
 /// What the named locators say of places and extents.
 #[derive(Drop)]
@@ -49,6 +50,19 @@ impl LocatorIndex {
         ensures { IfOk result (IsLocatorIndex checked.now) }
     {
         let sound = SoundPlaces::of(alloc, checked)?;
+        let barred = barred_extents(alloc, checked)?;
+        Ok(LocatorIndex { sound, barred })
+    }
+
+    /// What these locators say, the sound ones sorted by threads.
+    pub fn by_threads<R: Threads + Sync>(
+        rt: &R,
+        alloc: Global,
+        checked: &[Checked],
+    ) -> Result<LocatorIndex, OutOfMemory>
+        ensures { IfOk result (IsLocatorIndex checked.now) }
+    {
+        let sound = SoundPlaces::by_threads(rt, alloc, checked)?;
         let barred = barred_extents(alloc, checked)?;
         Ok(LocatorIndex { sound, barred })
     }

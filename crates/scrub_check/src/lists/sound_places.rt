@@ -57,6 +57,18 @@ impl SoundPlaces {
         Ok(SoundPlaces { starts })
     }
 
+    /// The places that the sound ones of these locators point to, sorted by threads.
+    pub(crate) fn by_threads<R: Threads + Sync>(
+        rt: &R,
+        alloc: Global,
+        checked: &[Checked],
+    ) -> Result<SoundPlaces, OutOfMemory>
+        ensures { IfOk result (AreSoundPlaces checked.now) }
+    {
+        let starts = starts_of(alloc, checked)?;
+        SoundPlaces::of_starts(rt, alloc, starts)
+    }
+
     /// These places, sorted by threads.
     pub(crate) fn of_starts<R: Threads + Sync>(
         rt: &R,

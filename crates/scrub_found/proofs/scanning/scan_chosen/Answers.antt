@@ -1,5 +1,5 @@
 -- The plan follows from the choice, and is of the disk's sizes.
-use Rattle.std.proofs.Common.{None, ◌∙◌}
+use Rattle.std.proofs.Common.{None}
 use Rattle.scrub_found.proofs.GivenPlans.{geometry_from}
 use Rattle.scrub_found.proofs.scanning.scan_chosen.Goals as goal
 
