@@ -25,9 +25,9 @@ closing false ts = refl
 -- the text up to the first value of a list, that of its values, and the text from its closing bracket on
 parts_printed : (opens : List Token) (ds : List Data) (ts : List Token) → left false opens ≡ false →
     print (opens ++ (values_tokens ds ++ end_array ∷ ts)) ≡ print opens ++ (print (values_tokens ds) ++ print (end_array ∷ ts))
-parts_printed opens ds ts open =
+parts_printed opens ds ts begun =
     let rest = values_tokens ds ++ end_array ∷ ts in
-    print_from-append false opens rest ∙ ap (λ c. print opens ++ print_from c rest) open
+    print_from-append false opens rest ∙ ap (λ c. print opens ++ print_from c rest) begun
     ∙ ap (λ t. print opens ++ t)
     (print_from-append false (values_tokens ds) (end_array ∷ ts) ∙ ap (λ t. print (values_tokens ds) ++ t) (closing _ ts))
 

@@ -114,7 +114,7 @@ fn nth_texts<R: Threads + Sync, D: PageSource>(
     ensures count { IfOk result (λ v. length v.items ≡ div_ceil (length all.now.extents) size) }
     ensures each { IfOk result (λ v. (n : ℕ) → IfSome (slice_get v.items n) (λ text.
         IfOk text (λ bytes. bytes.items ≡
-            piece_text (extent_values all.now.extents live.now) (n * size) size))) }
+        piece_text (extent_values all.now.extents live.now) (n * size) size))) }
 {
     map_indices(
         rt,

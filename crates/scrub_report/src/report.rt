@@ -209,9 +209,9 @@ pub(crate) fn report_text<R: Threads + Sync, D: PageSource>(
         rt,
         move || -> Result<Vec<u8>, OutOfMemory>
             ensures { (xs ys : List Data) (n m : ℕ) → 0 < n → 0 < m →
-                ArePieces xs n extents.entry.items → ArePieces ys m later.entry.orphans.items →
+                ArePieces xs n extents.items → ArePieces ys m later.orphans.items →
                 IfOk result (λ text. text.items ≡
-                joined_text begun.entry.items xs later.entry.middle.items ys later.entry.end.items) }
+                joined_text begun.items xs later.middle.items ys later.end.items) }
         { joined(begun, extents, later) },
         move || { free(listed) },
     );

@@ -2,8 +2,8 @@
 use Rattle.scrub_report.proofs.ListedReport.{as_many, reported}
 use Rattle.scrub_report.proofs.answer.report_of.Goals as goal
 
-pub report_text-requires : goal.report_text-requires
-report_text-requires g c κs within = as_many c.args.rest c.args.shards c.in_ok-listed.listed c.requires c.in_ok-listed.ensures
+pub report_text-requires-clause-live : goal.report_text-requires-clause-live
+report_text-requires-clause-live g c κs within = as_many c.args.rest c.args.shards c.in_ok-listed.listed c.requires c.in_ok-listed.ensures
 
 pub returns : goal.returns
 returns g c = λ image checked found are same shards broken.

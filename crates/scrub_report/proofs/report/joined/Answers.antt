@@ -17,9 +17,9 @@ returns c = λ xs ys n m some more extents orphans.
     let x3 = print (values_tokens ys) in
     let x4 = c.args.later.end.items in
     let e1 = c.in_ok-append_pieces.ensures xs n some extents ∙ ap (λ t. t ++ x1) c.in_ok-reserve.ensures.items in
-    let e2 = c.in_ok-extend_from_slice.ensures.items ∙ ap (λ t. t1 ++ t) c.deref.ensures.value in
+    let e2 = c.in_ok-extend_from_slice.ensures.items ∙ ap (λ t. t1 ++ t) c.deref-3.ensures.value in
     let e3 = c.in_ok-append_pieces-2.ensures ys m more orphans in
-    let e4 = c.in_ok-extend_from_slice-2.ensures.items ∙ ap (λ t. t3 ++ t) c.deref-2.ensures.value in
+    let e4 = c.in_ok-extend_from_slice-2.ensures.items ∙ ap (λ t. t3 ++ t) c.deref-4.ensures.value in
     c.in_ok-push.ensures.items
     ∙ ap (λ t. t ++ 10 ∷ [])
     (chain t0 t1 t4 x1 (x2 ++ (x3 ++ x4)) e1 (chain t1 t2 t4 x2 (x3 ++ x4) e2 (chain t2 t3 t4 x3 x4 e3 e4)))
