@@ -352,11 +352,10 @@ class Records(PartCase):
                       (report["retired"], {row["extent"]: row["pointer"] for row in report["extents"]}, report["runs"]), (retired, pointers, []))
 
 
-# On page 0: a record that names a run, one without, and two of generation 7 and 8; the last two on page 2.
-EMPTY, FIRST = record(64, 4, 3, [0, 0], []), plain(7)
+# Records of generation 1, with a run and without, and one of generation 7. Then those of generations 7 and 8, of both kinds, for page 2.
+NAMED, EMPTY, FIRST = plain(1, abc(1, 0)), record(64, 4, 3, [0, 0], []), plain(7)
 EQUAL, NEWER = (record(64, 4, 3, [0, 155], [], generation) for generation in (7, 8))
 EQUAL_LISTING, NEWER_LISTING = (record(64, 4, 3, [0, 155], [], generation, []) for generation in (7, 8))
-NAMED = plain(1, abc(1, 0))
 # The parts of extent 0, and its unreadable pages. Then the page and the generation of the superblock that counts, the number of records,
 # whether there is a tie, the pointers, and the places of the runs.
 CHOSEN = [
