@@ -17,7 +17,7 @@ ABC, SEALED_ABC = frame(ONES, b"abc"), sealed_frame(ONES, b"abc")
 SHORT, LONG = b"x" * 26, b"x" * 91
 # UUIDs with another first byte, and with another last byte.
 OTHER_FIRST, OTHER_LAST = b"\x10" + ONES[1:], ONES[:-1] + b"\x10"
-# The UUID of the overwritten frame, and one whose last byte is no longer that of the magic.
+# A UUID that lacks only the last byte of the magic at its end.
 OTHERWISE = ENDS_IN_MAGIC[:-1] + b"\x5f"
 
 
@@ -83,11 +83,12 @@ def naming(named, frames, pointer):
 
 
 class StatusCase(RoomCase):
-    def put(self, disk):
-        """Writes a disk, and returns the words for its sizes and its file."""
+    def put(self, made):
+        """Writes a disk, maybe with unreadable pages. Returns the words for its sizes, its file and these pages."""
+        disk, *bad = made if isinstance(made, tuple) else (made,)
         path = self.room / "disk.img"
         path.write_bytes(disk.bytes)
-        return [*disk.geometry(), str(path)]
+        return [*disk.geometry(), str(path), *bad]
 
     def report(self, words):
         """What a scan by the caller alone reports."""
@@ -98,7 +99,7 @@ class StatusCase(RoomCase):
 class Statuses(StatusCase):
     def has(self, what, disk, bad, named, status):
         """Checks the line of the shard's only locator. After it may come the line of a copy."""
-        _, out, error = answer("locators", *self.put(disk), *bad)
+        _, out, error = answer("locators", *self.put((disk, *bad)))
         lines = [line for line in out.decode().splitlines() if line.startswith("shard ")]
         self.same(what, (lines, error), ([line_of(named, status)], b""))
 
@@ -170,8 +171,7 @@ class Named(StatusCase):
     """Which locators a disk names, and whether its one shard is known and in doubt."""
 
     def check(self, made, lines, shards, doubtful=()):
-        disk, *bad = made if isinstance(made, tuple) else (made,)
-        words = [*self.put(disk), *bad]
+        words = self.put(made)
         _, out, error = answer("locators", *words)
         self.same("locators", (out.decode().splitlines(), error), (lines, b""))
         report = self.report(words)
@@ -220,8 +220,7 @@ class Runs(StatusCase):
     def test_runs_of_worked_disks_are_read_or_lost(self):
         """What a run has is the manifest by it alone."""
         for what, (make, runs) in RUNS.items():
-            disk, *bad = made if isinstance(made := make(), tuple) else (made,)
-            words = [*self.put(disk), *bad]
+            words = self.put(make())
             self.states(words, *(row[:3] for row in runs))
             for extent, offset, state, text in runs:
                 right = (0, text.encode(), b"") if text else (2, b"", f"shardscrub: run not found: {extent}:{offset}\n".encode())
