@@ -209,6 +209,16 @@ class Faults(AnswerCase):
                                             (65536, 1024, 65, "TotalBytes")):
             self.refused(f"items --page {page} --pages {pages} --extents {extents} --extent 1 disk.img", 2, f"geometry refused: {fault}")
 
+    def test_sizes_within_the_limits(self):
+        """A small disk, and one of 4 GiB with extents of 64 MiB, of which the empty file has no byte."""
+        self.given()
+        for page, pages, extents in ((64, 4, 3), (65536, 1024, 64)):
+            words = f"items --page {page} --pages {pages} --extents {extents} --extent {extents - 1}"
+            lines = "".join(f"lost {page * number} {page * (number + 1)}\n" for number in range(pages))
+            for pointer in ("", f" --pointer {page * pages}"):
+                self.check(f"{words}{pointer} disk.img", 1, lines)
+            self.refused(f"{words} --pointer {page * pages + 1} disk.img", 2, "pointer out of range")
+
     def test_places_outside_the_disk(self):
         self.given(bytes(768))
         for words, text in (("--extent 3 disk.img", "extent out of range"), ("--extent 1 --pointer 257 disk.img", "pointer out of range"),
@@ -469,6 +479,17 @@ class Disks(AnswerCase):
         self.listed("scan", 1, TWINS)
         self.listed("locators", 1, self.RUN_LINE.replace("117", "194") + line + line.replace(ID, f"{2:032}"))
         self.listed("index", 1, run(*entries))
+
+    def test_an_unreadable_page_of_extent_0_leaves_no_candidate(self):
+        """The report differs from that of the last disk above only in the page and the candidate."""
+        entries = [(shard(number), [abc(1, 41)]) for number in (1, 2)]
+        self.given(with_run([(0, ONES, b"abc"), (41, ONES, b"abc")], *entries))
+        report = TWINS
+        for old, new in (('{"extent":1,"free":41,"keep":[41]}', ""), ('"super":{"bad":[]', '"super":{"bad":[3]')):
+            self.same(f"{old} is there", report.count(old), 1)
+            report = report.replace(old, new)
+        self.listed("scan", 1, report, " 0:3")
+        self.listed("index", 1, run(*entries), " 0:3")
 
 
 # What each help has.

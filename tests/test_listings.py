@@ -215,35 +215,6 @@ COPIES = [
      "runs lost 0 hidden 1\n"
      f"shard {S1} 00 3 {ABC} sound plain\n"
      "total 1 1\n"),
-    (worked.nine_locators, ["locators"], 1,
-     f"run 0 3 0 597 {U2} sound\n"
-     f"shard {S1} 4 0 3 {U1} out_of_range\n"
-     f"spare 1 0 3 {U1} 1\n"
-     f"shard {S1} 1 600 3 {U1} past_pointer\n"
-     f"spare 1 0 3 {U1} 1\n"
-     f"shard {S1} 1 300 3 {U1} unreadable\n"
-     f"spare 1 0 3 {U1} 1\n"
-     f"shard {S1} 1 41 3 {U1} no_frame\n"
-     f"spare 1 0 3 {U1} 1\n"
-     f"shard {S1} 1 0 3 {U2} wrong_uuid\n"
-     f"spare 1 0 3 {U1} 1\n"
-     f"shard {S1} 1 0 4 {U1} wrong_length\n"
-     f"shard {S1} 1 0 3 {U1} wrong_digest\n"
-     f"shard {S1} 2 256 3 {U1} hidden\n"
-     f"shard {S1} 1 0 3 {U1} sound\n"),
-    (worked.nine_locators, ["manifest"], 1,
-     "retired\n"
-     "runs lost 0 hidden 0\n"
-     f"shard {S1} 00 3 {ABC} out_of_range 4 0 {U1} spare\n"
-     f"shard {S1} 01 3 {ABC} past_pointer 1 600 {U1} spare\n"
-     f"shard {S1} 02 3 {ABC} unreadable 1 300 {U1} spare\n"
-     f"shard {S1} 03 3 {ABC} no_frame 1 41 {U1} spare\n"
-     f"shard {S1} 04 3 {ABC} wrong_uuid 1 0 {U2} spare\n"
-     f"shard {S1} 05 4 {ABC} wrong_length 1 0 {U1} none\n"
-     f"shard {S1} 06 3 {ZERO} wrong_digest 1 0 {U1} none\n"
-     f"shard {S1} 07 3 {ABC} hidden 2 256 {U1}\n"
-     f"shard {S1} 08 3 {ABC} sound plain\n"
-     "total 1 9\n"),
     (worked.nine_locators, ["manifest", "--reset=1"], 1,
      "retired\n"
      "runs lost 0 hidden 0\n"
@@ -278,6 +249,39 @@ COPIES = [
         "tail_bytes 0 candidates 0 candidate_bytes 0 chunks_to_move 0")),
 ]
 
+# The same of nine locators, no two of which have the same status.
+NINE = [
+    (worked.nine_locators, ["locators"], 1,
+     f"run 0 3 0 597 {U2} sound\n"
+     f"shard {S1} 4 0 3 {U1} out_of_range\n"
+     f"spare 1 0 3 {U1} 1\n"
+     f"shard {S1} 1 600 3 {U1} past_pointer\n"
+     f"spare 1 0 3 {U1} 1\n"
+     f"shard {S1} 1 300 3 {U1} unreadable\n"
+     f"spare 1 0 3 {U1} 1\n"
+     f"shard {S1} 1 41 3 {U1} no_frame\n"
+     f"spare 1 0 3 {U1} 1\n"
+     f"shard {S1} 1 0 3 {U2} wrong_uuid\n"
+     f"spare 1 0 3 {U1} 1\n"
+     f"shard {S1} 1 0 4 {U1} wrong_length\n"
+     f"shard {S1} 1 0 3 {U1} wrong_digest\n"
+     f"shard {S1} 2 256 3 {U1} hidden\n"
+     f"shard {S1} 1 0 3 {U1} sound\n"),
+    (worked.nine_locators, ["manifest"], 1,
+     "retired\n"
+     "runs lost 0 hidden 0\n"
+     f"shard {S1} 00 3 {ABC} out_of_range 4 0 {U1} spare\n"
+     f"shard {S1} 01 3 {ABC} past_pointer 1 600 {U1} spare\n"
+     f"shard {S1} 02 3 {ABC} unreadable 1 300 {U1} spare\n"
+     f"shard {S1} 03 3 {ABC} no_frame 1 41 {U1} spare\n"
+     f"shard {S1} 04 3 {ABC} wrong_uuid 1 0 {U2} spare\n"
+     f"shard {S1} 05 4 {ABC} wrong_length 1 0 {U1} none\n"
+     f"shard {S1} 06 3 {ZERO} wrong_digest 1 0 {U1} none\n"
+     f"shard {S1} 07 3 {ABC} hidden 2 256 {U1}\n"
+     f"shard {S1} 08 3 {ABC} sound plain\n"
+     "total 1 9\n"),
+]
+
 # The listings of the halved disk of many shards. In each line of a chunk, the extent's number is its shard's.
 CHUNKS = [(shard(number).hex(), number, "-".join(f"{number:02x}" * size for size in (4, 2, 2, 2, 6))) for number in range(1, 39)]
 HALVED = {
@@ -309,6 +313,11 @@ class Listings(RoomCase):
 
     def test_disks_with_copies(self):
         for make, words, status, lines in COPIES:
+            self.listed(make(), words, status, lines)
+
+    def test_nine_locators_have_nine_statuses(self):
+        """They are listed in the order of the entry, after that of the run."""
+        for make, words, status, lines in NINE:
             self.listed(make(), words, status, lines)
 
     def test_any_number_of_workers_lists_the_same_lines(self):

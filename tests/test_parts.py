@@ -1,11 +1,14 @@
-"""What single parts of the program find, on small images made by hand: which bytes a map lacks, records of any sizes, and what the
-pages of extent 0 hold. What is right was written by hand, from docs/FORMAT.md and docs/REPORT.md.
+"""What single parts of the program find, on small images made by hand: which bytes a map lacks, records of any sizes, what the pages of
+extent 0 hold and which superblock counts, and which payloads are index runs. What is right was written by hand, from docs/FORMAT.md and
+docs/REPORT.md.
 """
+import json
+
 from lib import disks
-from lib.disks import fields, locator, record, record_head, run, shard, uuid, with_digest
+from lib.disks import Disk, be, fields, locator, record, record_head, run, shard, uuid, with_digest
 from lib.system import FAILING_READS, run_failing
 from reference.shardscrub import answered
-from test_answers import SMALL, AnswerCase, abc, disk_with
+from test_answers import NO_SHARDS, SMALL, AnswerCase, abc, disk_with
 
 # The start of a map, before its blocks.
 STATE = "0x0 + 1\n"
@@ -280,7 +283,14 @@ def changed(text, *places, sealed=True):
     return with_digest(bytes(text[:-disks.DIGEST])) if sealed else bytes(text)
 
 
-class Records(AnswerCase):
+class PartCase(AnswerCase):
+    def report(self, pages="", sizes=SMALL):
+        """What a scan by the caller alone reports."""
+        _, out, _ = self.answer(f"scan --workers 0 {sizes} disk.img{pages}")
+        return json.loads(out)
+
+
+class Records(PartCase):
     """A record is taken as one only if each of its bytes may be. If not, its first page is damaged and the next ones are stray."""
 
     def is_none(self, text, kind="SSB1", sizes=SMALL, size=768):
@@ -327,5 +337,150 @@ class Records(AnswerCase):
                 self.is_none(changed(RETIRING, *places), "SSB2")
 
     def test_retired_extents_rise_and_are_on_the_disk(self):
+        """At last the record has one of them, and says that it has 255."""
         for retired in ([2, 1], [1, 1], [0], [3], [1, 2, 2]):
             self.is_none(record(64, 4, 3, [41, 155], [], 7, retired), "SSB2")
+        self.is_none(changed(RETIRING, (27, 255)), "SSB2")
+
+    def test_retired_extents_are_read(self):
+        """One, and none: the others have their pointers."""
+        for retired, pointers in (([1], {2: 155}), ([], {1: 41, 2: 155})):
+            self.is_one(record(64, 4, 3, [41, 155], [], 7, retired), "SSB2 7")
+            report = self.report()
+            self.same("the superblock", report["super"], {"bad": [], "generation": 7, "page": 0, "records": 1, "tie": False})
+            self.same("retired extents, pointers and runs",
+                      (report["retired"], {row["extent"]: row["pointer"] for row in report["extents"]}, report["runs"]), (retired, pointers, []))
+
+
+# Records of generation 1, with a run and without, and one of generation 7. Then those of generations 7 and 8, of both kinds, for page 2.
+NAMED, EMPTY, FIRST = plain(1, abc(1, 0)), record(64, 4, 3, [0, 0], []), plain(7)
+EQUAL, NEWER = (record(64, 4, 3, [0, 155], [], generation) for generation in (7, 8))
+EQUAL_LISTING, NEWER_LISTING = (record(64, 4, 3, [0, 155], [], generation, []) for generation in (7, 8))
+# The parts of extent 0, and its unreadable pages. Then the page and the generation of the superblock that counts, the number of records,
+# whether there is a tie, the pointers, and the places of the runs.
+CHOSEN = [
+    ([], [], None, 0, False, [256, 256], []),
+    ([(0, NAMED)], [0, 1, 2, 3], None, 0, False, [256, 256], []),
+    ([(0, NAMED)], [], (0, 1), 1, False, [41, 155], [(1, 0)]),
+    ([(0, EMPTY)], [], (0, 1), 1, False, [0, 0], []),
+    ([(0, FIRST), (128, EQUAL)], [], (0, 7), 2, True, [41, 155], []),
+    ([(0, FIRST), (128, NEWER)], [], (2, 8), 2, False, [0, 155], []),
+    # A byte of the generation is changed.
+    ([(0, FIRST), (128, NEWER), (132, b"\x01")], [], (0, 7), 1, False, [41, 155], []),
+    ([(0, FIRST), (128, EQUAL_LISTING)], [], (0, 7), 2, True, [41, 155], []),
+    ([(0, FIRST), (128, NEWER_LISTING)], [], (2, 8), 2, False, [0, 155], []),
+]
+
+
+class Chosen(PartCase):
+    def test_the_newest_readable_record_counts_or_that_on_the_lowest_page(self):
+        """Its pointers are those of the extents, and its runs are read. Without it each pointer is at the end of its extent."""
+        for parts, bad, newest, records, tie, pointers, runs in CHOSEN:
+            self.given(disk_with(*parts))
+            report = self.report("".join(f" 0:{page}" for page in bad))
+            page, generation = newest or (None, None)
+            self.same("the superblock", report["super"], {"bad": bad, "generation": generation, "page": page, "records": records, "tie": tie})
+            self.same("extents and pointers", [(row["extent"], row["pointer"]) for row in report["extents"]], list(enumerate(pointers, 1)))
+            self.same("runs", [(row["extent"], row["offset"]) for row in report["runs"]], runs)
+
+
+def run_head(entries):
+    """The magic of a run, and how many entries it claims."""
+    return b"RUN1" + be(4, entries)
+
+
+def entry(name, claimed, *locators):
+    """An entry of the shard with this number or identifier, and how many locators it claims."""
+    return (name if isinstance(name, bytes) else shard(name)) + be(1, claimed) + b"".join(locators)
+
+
+AT_0, AT_41 = abc(1, 0), abc(1, 41)
+TWO = entry(1, 1, AT_0) + entry(2, 1, AT_0)
+# Entries without locators, of identifiers that differ in their last two bytes.
+LOW, MIDDLE, HIGH = (entry(b"\x7f" * 14 + bytes(last), 0) for last in ((0, 2), (1, 1), (1, 2)))
+# What payloads that aren't runs have before their digests. No memory could hold as many entries as the first claims.
+NO_RUNS = {
+    "the greatest count": run_head((1 << 32) - 1),
+    "65 locators": run_head(1) + entry(1, 65, *[AT_0] * 65),
+    "one of 64 locators missing": run_head(1) + entry(1, 64, *[AT_0] * 63),
+    "another magic": b"RUN2" + be(4, 2) + TWO,
+    "a count one less": run_head(1) + TWO,
+    "a count one more": run_head(3) + TWO,
+    "a count far too great": run_head(0xFF000002) + TWO,
+    "two equal identifiers": run_head(2) + entry(1, 1, AT_0) * 2,
+    "falling identifiers": run_head(2) + entry(1, 1, AT_0) + entry(0, 1, AT_0),
+    "a first entry that claims no locator": run_head(2) + entry(1, 0, AT_0) + entry(2, 1, AT_0),
+    "a last entry that claims two": run_head(2) + entry(1, 1, AT_0) + entry(2, 2, AT_0),
+    "the first two similar identifiers swapped": run_head(3) + MIDDLE + LOW + HIGH,
+    "the last two similar identifiers swapped": run_head(3) + LOW + HIGH + MIDDLE,
+}
+# The run of one shard with the chunk of `abc` at the start of extent 1; the digest is by another program.
+OF_ONE = bytes.fromhex(
+    "52554e310000000100000000000000000000000000000001010000000100000000000000031111111111111111111111"
+    "1111111111ba7816bf8f01cfea414140de5dae2223b00361a396177a9cb410ff61f20015adb49d3acdf7599e0e611b32"
+    "f179ab8ab68ea53e82e649da20c0f99481d0110e8d")
+# Identifiers in the order of their bytes.
+RISING = [*map(shard, (1, 2, 0x7F, 0x80, 0xFF)), b"\x7f" + b"\xff" * 15, b"\x80" + bytes(15)]
+
+
+class Payloads(PartCase):
+    """A payload is taken as an index run only if each of its bytes may be."""
+
+    SIZES = "--page 4096 --pages 4 --extents 4"
+
+    def read(self, *payloads):
+        """Writes a disk of `abc` twice in extent 1 and these payloads in extents 2 and 3, which the superblock names as runs, newest
+        first. Returns how many entries each has, or its state if it isn't read."""
+        disk = Disk(4, 4, 4096)
+        named = [disk.chunk(2 + number, 0, uuid(0x22 + number), payload) for number, payload in enumerate(payloads)]
+        for offset in (0, 41):
+            disk.chunk(1, offset, uuid(0x11), b"abc")
+        disk.superblock(0, 1, *named)
+        self.given(bytes(disk.bytes))
+        return [row["entries"] if row["state"] == "read" else row["state"] for row in self.report(sizes=self.SIZES)["runs"]]
+
+    def index(self):
+        return self.answer(f"index {self.SIZES} disk.img")[1]
+
+    def test_the_runs_of_one_shard_and_of_none_are_read_and_printed(self):
+        for payload, entries in ((OF_ONE, 1), (NO_SHARDS, 0)):
+            self.same("its entries", self.read(payload), [entries])
+            self.same("the index", self.index(), payload)
+
+    def test_a_payload_that_is_not_a_run_is_refused(self):
+        sound = with_digest(run_head(2) + TWO)
+        self.same("its length", len(sound), 194)
+        self.same("two entries", self.read(sound), [2])
+        self.same("64 locators", self.read(with_digest(run_head(1) + entry(1, 64, *[AT_0] * 64))), [1])
+        for what, body in NO_RUNS.items():
+            self.same(what, self.read(with_digest(body)), ["not_a_run"])
+
+    def test_a_run_ends_with_its_digest(self):
+        self.same("its length", len(OF_ONE), 117)
+        for what, payload in (("another digest", changed(OF_ONE, (116, OF_ONE[116] ^ 1), sealed=False)),
+                              ("the digest of other bytes", changed(OF_ONE, (40, OF_ONE[40] ^ 1), sealed=False)),
+                              ("a byte missing", OF_ONE[:116]), ("nothing", b""), ("a byte after the digest", OF_ONE + b"\0"),
+                              ("a byte in front of it", with_digest(OF_ONE[:85] + b"\0"))):
+            self.same(what, self.read(payload), ["not_a_run"])
+
+    def test_identifiers_are_ordered_as_bytes(self):
+        """In a run, and in the index, which has those of two runs."""
+        payload = run(*((name, [AT_0]) for name in RISING))
+        self.same("all", self.read(payload), [7])
+        self.same("its index", self.index(), payload)
+        self.same("in two runs", self.read(*(run(*((name, [AT_0]) for name in RISING[first::2])) for first in (0, 1))), [4, 3])
+        self.same("the index of two runs", self.index(), payload)
+        for one, other in zip(RISING, RISING[1:]):
+            self.same(f"{other.hex()} before {one.hex()}", self.read(run((other, [AT_0]), (one, [AT_0]))), ["not_a_run"])
+
+    def test_entries_are_read_in_their_order(self):
+        """Deleted shards are those that an older run has and the index hasn't. Then shards of no locator, of one and of two."""
+        names = [name[:16] for name in (LOW, MIDDLE, HIGH)]
+        kept = [b"\x7f" * 14 + bytes(last) for last in ((0, 1), (0, 3), (1, 0), (1, 3))]
+        older = run(*((name, [AT_0]) for name in sorted(names + kept)))
+        self.same("deleted shards", self.read(with_digest(run_head(3) + LOW + MIDDLE + HIGH), older), [3, 7])
+        self.same("the index without them", self.index(), run(*((name, [AT_0]) for name in kept)))
+        three = with_digest(run_head(3) + entry(1, 0) + entry(2, 1, AT_0) + entry(3, 2, AT_0, AT_41))
+        self.same("none, one and two", self.read(three, run(*((shard(number), [AT_41]) for number in range(1, 5)))), [3, 4])
+        right = run((shard(2), [AT_0]), (shard(3), [AT_0, AT_41]), (shard(4), [AT_41]))
+        self.same("the index of none, one and two", self.index(), right)

@@ -19,7 +19,10 @@ from test_system import answer, written
 
 S1, OWNER = shard(1).hex(), f"shard {shard(1).hex()}"
 U1, U2, U3 = ("-".join(digit * size for size in (8, 4, 4, 4, 12)) for digit in "123")
+MAGIC_END = "33333333-3333-3333-3333-33333333c55e"
 ABC = frame(ONES, b"abc")
+# The SHA-256 of `abc`, as FIPS 180-4 gives it.
+ABC_DIGEST = "ba7816bf8f01cfea414140de5dae2223b00361a396177a9cb410ff61f20015ad"
 SMALL = geometry(64, 4, 3)
 PADS = ["pad 64 128", "pad 128 192", "pad 192 256"]
 
@@ -43,13 +46,6 @@ def counted(generation, page, records, tie=False, bad=()):
     return {"bad": list(bad), "generation": generation, "page": page, "records": records, "tie": tie}
 
 
-def torn_frame():
-    """A frame of 98 bytes in extent 1, whose page 1 is unreadable."""
-    disk = Disk(4, 3)
-    disk.chunk(1, 0, ONES, b"x" * 60)
-    return finish(disk, [98, 0], []), "1:1"
-
-
 def runs_of_a_superblock():
     """A superblock with all of the 32 runs that it can have."""
     disk = Disk(2, 3, 1024)
@@ -65,7 +61,7 @@ DANGLING = [at(number, offset, length, name) | {"owner": OWNER, "reason": reason
 REPORTS = {
     "bytes past a pointer are a tail": (worked.past_the_pointer, 0, {
         "extents": [extent(1, [], 0, 0, tail=38, tail_at=0), extent(2, [], 0, 0)], "candidates": []}, NO_SHARDS),
-    "a frame with an unreadable page is torn and lost": (torn_frame, 1, {
+    "a frame with an unreadable page is torn and lost": (worked.torn_frame, 1, {
         "extents": [extent(1, ["torn 0 64", "lost 64 98"], 0, 98, bad=[1]), extent(2, [], 0, 0)], "candidates": []}, NO_SHARDS),
     "a run with a wrong digest leaves doubt": (worked.broken_newest_run, 1, {
         "candidates": [], "doubtful": [S1], "runs": [a_run(None, 2, state="not_a_run"), a_run(1, 3)], "shards": 1}, None),
@@ -91,7 +87,10 @@ REPORTS = {
         "runs": [a_run(1, 2), a_run(1, 2, 95), a_run(1, 3)], "shards": 0}, NO_SHARDS),
     "a shard whose locators dangle is broken": (worked.nine_locators, 1, {
         "broken": [S1], "candidates": [], "dangling": DANGLING, "hidden": [at(2, 256, 3, U1) | {"owner": OWNER}],
-        "orphans": [at(2, 0, 220, "33333333-3333-3333-3333-33333333c55e")], "shards": 1}, NO_SHARDS),
+        "extents": [extent(1, [f"chunk 0 41 {U1} 3", "pad 41 256", "lost 256 512"], 41, 512, bad=[1]),
+                    extent(2, [f"chunk 0 258 {MAGIC_END} 220", "noise 258 297"], 0, 297),
+                    extent(3, [f"chunk 0 635 {U2} 597"], 635, 635)],
+        "orphans": [at(2, 0, 220, MAGIC_END)], "shards": 1}, NO_SHARDS),
     "the content of a retired extent is ignored": (worked.broken_and_retired, 0, {
         "clean": True, "extents": [FIRST, SECOND], "retired": [3], "runs": [a_run(1, 2)]}, None),
     "a locator into a retired extent dangles": (lambda: worked.one_shard(retired=[1]), 1, {
@@ -100,6 +99,20 @@ REPORTS = {
     "nothing is scanned if all extents are retired": (lambda: worked.one_shard(retired=[1, 2]), 1, {
         "candidates": [], "dangling": [at(2, 0, 117, U2) | {"owner": "run 0", "reason": "retired"}], "extents": [], "retired": [1, 2],
         "runs": [a_run(None, 2, state="retired")], "shards": 0}, NO_SHARDS),
+}
+
+# Disks on which each locator is sound, and all chunks but the runs are `abc`, in extent 1. How many locators each disk has, the live bytes
+# of each extent, the offsets of the `abc` that are orphans, and of those that are twins, the shared places, and the candidates.
+HALF_LIVE = [{"extent": 1, "free": 41, "keep": [41]}]
+LISTS = {
+    "one shard": (worked.one_shard, 2, [41, 155], [], [], [], []),
+    "a run that is named twice is live once": (
+        lambda: worked.one_shard(times=2), 3, [41, 155], [], [], [{"count": 2, "extent": 2, "offset": 0}], []),
+    "no locator names extent 1": (
+        worked.deleted_in_the_newest_run, 3, [0, 250, 155], [0], [], [], [{"extent": 1, "free": 41, "keep": []}]),
+    "half of extent 1 is live": (lambda: worked.second_of_two(1), 2, [41, 155], [0], [0, 41], [], HALF_LIVE),
+    "twins and a shared place": (
+        lambda: worked.second_of_two(1, 2), 3, [41, 232], [0], [0, 41], [{"count": 2, "extent": 1, "offset": 41}], HALF_LIVE),
 }
 
 
@@ -126,6 +139,32 @@ class Reports(RoomCase):
             for key, part in parts.items():
                 self.same(f"{what}: {key}", report[key], part)
             self.same(f"{what}: the index", found, index or run((shard(1), [abc(1, 0)])))
+
+    def listed(self, what, make, count, live, orphans, twins, shared, candidates):
+        """Compares the lists of a disk. With an unreadable page of extent 0 it has no candidate."""
+        disk = make()
+        report, _ = self.scrubbed(what, disk, int(bool(shared)))
+        report = json.loads(report)
+        self.same(f"{what}: live bytes", [row["live"] for row in report["extents"]], live)
+        for key, right in {"orphans": [at(1, offset, 3, U1) for offset in orphans], "twins": [at(1, offset, 3, U1) for offset in twins],
+                           "shared": shared, "candidates": candidates, "broken": [], "dangling": [], "hidden": []}.items():
+            self.same(f"{what}: {key}", report[key], right)
+        _, lines, _ = answer("locators", *disk.geometry(), self.room / "disk.img")
+        self.same(f"{what}: the statuses", [line.split()[-1] for line in lines.decode().splitlines()], ["sound"] * count)
+        report, _ = self.scrubbed(f"{what}: in doubt", (disk, "0:3"), 1)
+        self.same(f"{what}: in doubt", json.loads(report)["candidates"], [])
+
+    def test_lists_of_worked_disks(self):
+        for what, row in LISTS.items():
+            self.listed(what, *row)
+
+    def test_live_bytes_of_both_forms(self):
+        """A chunk takes 41 bytes if it is plain, and 75 if it is sealed."""
+        self.listed("chunks of both forms", worked.both_forms, 3, [116, 215], [], [], [], [])
+        found = answer("manifest", *SMALL, self.room / "disk.img")
+        lines = "".join(f"shard {S1} {number} 3 {ABC_DIGEST} sound {form}\n" for number, form in (("00", "plain"), ("01", "sealed")))
+        self.same("the forms", found, (0, f"retired\nruns lost 0 hidden 0\n{lines}total 1 2\n".encode(), b""))
+        self.listed("a sealed run", worked.sealed_run, 2, [41, 189], [], [], [], [])
 
     def test_a_record_of_the_second_kind_on_a_later_page(self):
         """If it has the generation of the first, that counts; otherwise the newer one does, whatever its kind."""

@@ -262,6 +262,57 @@ class Tilings(TilingCase):
                 self.compare("items", "--extent", "1", "--pointer", str(pointer), *image, *bad)
 
 
+# The parts of an extent, its unreadable pages, its pointer, and the lines of its items.
+SEALED = [
+    ([(0, SEALED_ABC)], [], 75, ["sealed 0 75 11111111-1111-1111-1111-111111111111 3"]),
+    ([(0, SEALED_ABC)], [], 74, ["torn 0 64", "noise 64 74"]),
+    # Its payload is changed.
+    ([(0, SEALED_ABC), (56, b"d")], [], 75, ["torn 0 64", "noise 64 75"]),
+    ([(0, SEALED_ABC)], [1], 75, ["torn 0 64", "lost 64 75"]),
+    # Frames of both forms end to end.
+    ([(0, ABC), (41, sealed_frame(TWOS, b"abc"))], [], 116, [ABC_LINE, "sealed 41 116 22222222-2222-2222-2222-222222222222 3"]),
+    # The closing mark prevents the collision.
+    ([(0, sealed_frame(ENDS_IN_MAGIC, b"x" * 58)), (128, ABC)], [], 169, [
+        "torn 0 64", "noise 64 128", "chunk 128 169 11111111-1111-1111-1111-111111111111 3"]),
+]
+PADS = ["pad 64 128", "pad 128 192", "pad 192 256"]
+# The length that a head of the zero UUID claims at the start of an extent of zeros, and the lines of the whole extent.
+CLAIMS = [
+    (218, ["chunk 0 256 00000000-0000-0000-0000-000000000000 218"]),
+    (219, ["torn 0 64", *PADS]),
+    (0, ["chunk 0 38 00000000-0000-0000-0000-000000000000 0", "pad 38 64", *PADS]),
+]
+
+
+class Items(TilingCase):
+    """The lines of an extent, by hand."""
+
+    def listed(self, text, pointer, lines, bad=()):
+        """Checks the lines of extent 1 of a disk without a superblock."""
+        words = ["--extent", "1", "--pointer", str(pointer), *self.write(disk_of([text])), *(f"1:{page}" for page in bad)]
+        is_good = not any(line.startswith(("torn ", "noise ", "lost ")) for line in lines)
+        self.same(f"the items under {pointer} without {bad}", answer("items", *words),
+                  (0 if is_good else 1, "".join(f"{line}\n" for line in lines).encode(), b""))
+
+    def test_sealed_frames_are_whole_or_torn(self):
+        for parts, bad, pointer, lines in SEALED:
+            self.listed(extent_of(*parts), pointer, lines, bad)
+
+    def test_an_item_of_each_kind_has_its_line(self):
+        """Page 1 up to byte 98: zeros, a frame that is cut off, a byte that begins no frame, and bytes that can't be read."""
+        self.listed(extent_of((0, ABC)), 41, [ABC_LINE])
+        for part, bad, line in ((b"", [], "pad 64 98"), (ABC, [], "torn 64 98"), (b"x", [], "noise 64 98"), (ABC, [1], "lost 64 98")):
+            self.listed(extent_of((64, part)), 98, ["pad 0 64", line], bad)
+
+    def test_each_of_eight_heads_that_claim_the_rest_of_an_extent_is_torn(self):
+        lines = ["torn 0 64", "torn 64 128", "torn 128 192", "torn 192 256", "torn 256 320", "torn 320 384", "torn 384 448", "torn 448 512"]
+        self.listed(heads(), 512, lines)
+
+    def test_a_head_of_the_zero_uuid_claims_a_chunk_up_to_the_last_byte(self):
+        for length, lines in CLAIMS:
+            self.listed(extent_of((0, head(bytes(16), length))), 256, lines)
+
+
 class Findings(TilingCase):
     def found(self, parts, pointer, bad, items, tail=0, first=None):
         """Checks what a scan of extent 1 finds with these unreadable pages, and that one of extent 2 finds nothing."""
@@ -280,6 +331,9 @@ class Findings(TilingCase):
         """Three bytes of pages 2 and 3 aren't zero."""
         parts = [(0, ABC), (64, b"\7" * 64), (130, b"\7\0\11"), (255, b"\7")]
         self.found(parts, 41, [1], [ABC_LINE], 3, 130)
+
+    def test_a_sealed_frame_one_byte_too_long_leaves_that_byte_as_a_tail(self):
+        self.found([(0, SEALED_ABC)], 74, [], ["torn 0 64", "noise 64 74"], 1, 74)
 
     def test_unreadable_pages_on_both_sides_of_the_pointer(self):
         parts = [(0, frame(ONES, b"x" * 60))]

@@ -17,12 +17,6 @@ from reference.shardscrub import Image, index, locators, manifest, scan, told
 from test_system import answer
 
 
-def torn_frame():
-    disk = Disk(4, 3)
-    disk.chunk(1, 0, ONES, b"x" * 60)
-    return finish(disk, [98, 0], []), "1:1"
-
-
 # The bytes of the frame of a run with one locator, and how many such runs are in a row.
 RUN_FRAME, IN_A_ROW = 155, 32
 
@@ -52,7 +46,7 @@ WALKED = {
     "zeros": lambda: Disk(4, 3),
     "one shard": one_shard,
     "a chunk past the pointer": worked.past_the_pointer,
-    "a torn frame": torn_frame,
+    "a torn frame": worked.torn_frame,
     "half garbage": lambda: worked.second_of_two(1),
     "an overwritten end": worked.overwritten_end,
     "twins and a shared chunk": lambda: worked.second_of_two(1, 2),
@@ -110,6 +104,17 @@ class Walks(WalkCase):
         self.same("clean", (report["candidates"], report["orphans"], report["clean"]), ([], [], False))
         self.same("live", [row["live"] for row in report["extents"]], [41, 192_928])
         self.same("index", answer("index", *words), (1, payload, b""))
+
+
+    def test_each_of_3201_locators_is_sound_and_in_its_place(self):
+        """That of the run comes first, and then 64 of each shard."""
+        _, words, _ = self.put(fifty_shards()[0])
+        twos, ones = ("-".join(digit * size for size in (8, 4, 4, 4, 12)) for digit in "21")
+        lines = [f"run 0 2 0 192890 {twos} sound\n"]
+        for number in range(1, 51):
+            lines += [f"shard {number:032x} 1 0 3 {ones} sound\n"] * 64
+        self.same("lines", len(lines), 3_201)
+        self.same("locators", answer("locators", *words), (1, "".join(lines).encode(), b""))
 
 
 add_tests(Walks, Walks.check, WALKED.items())

@@ -3,7 +3,7 @@ is found on them is in the tests.
 
 A disk with unreadable pages is a tuple: the disk, and the words of these pages.
 """
-from lib.disks import Disk, be, frame, locator, record, run, shard, uuid
+from lib.disks import Disk, be, frame, locator, record, run, sealed_frame, shard, uuid
 
 
 ONES, TWOS, THREES, FOURS, FIVES = map(uuid, (0x11, 0x22, 0x33, 0x44, 0x55))
@@ -90,6 +90,27 @@ def two_superblocks(generation, is_broken=False):
     if is_broken:
         disk.spoil(0, 192 + 61)
     return disk
+
+
+def torn_frame():
+    """A frame of 98 bytes in extent 1, whose page 1 is unreadable."""
+    disk = Disk(4, 3)
+    disk.chunk(1, 0, ONES, b"x" * 60)
+    return finish(disk, [98, 0], []), "1:1"
+
+
+def both_forms():
+    """A plain and a sealed chunk of `abc` in extent 1, and in extent 2 the run of one shard that names both."""
+    disk = Disk(4, 3)
+    plain, sealed = disk.chunk(1, 0, ONES, b"abc"), disk.chunk(1, 41, TWOS, b"abc", sealed_frame)
+    return finish(disk, [116, 215], [put_run(disk, 2, 0, THREES, plain, sealed)])
+
+
+def sealed_run():
+    """The disk with one shard, whose run is sealed."""
+    disk = Disk(4, 3)
+    chunk = disk.chunk(1, 0, ONES, b"abc")
+    return finish(disk, [41, 189], [disk.chunk(2, 0, TWOS, run((shard(1), [chunk])), sealed_frame)])
 
 
 def past_the_pointer():

@@ -1,28 +1,15 @@
-//! Tests of the checks by their calls: index runs, bindings, named locators, statuses, and the lists that
-//! follow from them. What the program prints of them is tested in `tests/`. No crate depends on this one.
+//! Tests of the checks by calls that the program does not make: merges of index runs by one thread, the
+//! search for an item, the live bytes of single extents, and how often pages of hidden frames are asked for.
+//! What the program prints of locators, runs and lists is tested in `tests/`. No crate depends on this one.
 #![tactic(auto)]
 
 #[cfg(test)]
 mod bindings;
 #[cfg(test)]
-mod checks;
-#[cfg(test)]
 mod compare;
 #[cfg(test)]
 mod hidden_places;
 #[cfg(test)]
-mod index_runs;
-#[cfg(test)]
-mod lists;
-#[cfg(test)]
-mod named;
-#[cfg(test)]
-mod nine;
-#[cfg(test)]
-mod sealed;
-#[cfg(test)]
-mod shared_chunk;
+mod live_bytes;
 #[cfg(test)]
 mod starts;
-#[cfg(test)]
-mod status;

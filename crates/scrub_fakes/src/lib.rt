@@ -1,5 +1,5 @@
 //! For tests: raw images, writers and page sources that misbehave or count, builders that put bytes, chunks
-//! and records on disks in memory, the worked disks of the format's description, and the published reports.
+//! and records on disks in memory, the worked disks of the format's description, and published reports.
 #![tactic(auto)]
 
 pub mod disk;

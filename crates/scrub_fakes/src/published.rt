@@ -1,5 +1,5 @@
-//! The published reports of whole scrubs, as the format's description prints them, and the index of no shard.
-//! Each report is one line with its line feed.
+//! Published reports of two whole scrubs, as the format's description prints them, and the index of no shard.
+//! Each report is one line with its line feed. The others are in `tests/test_answers.py`.
 
 /// The report of the disk with one shard.
 pub const ONE_SHARD: &str = concat!(
@@ -12,40 +12,6 @@ pub const ONE_SHARD: &str = concat!(
     r#""tail_at":null}],"#,
     r#""geometry":{"extents":3,"page":64,"pages":4},"hidden":[],"orphans":[],"retired":[],"#,
     r#""runs":[{"entries":1,"extent":2,"offset":0,"state":"read"}],"shards":1,"shared":[],"#,
-    r#""super":{"bad":[],"generation":1,"page":0,"records":1,"tie":false},"twins":[]}"#,
-    "\n"
-);
-
-/// The report of a disk of zeros.
-pub const ZEROS: &str = concat!(
-    r#"{"broken":[],"candidates":[],"clean":false,"dangling":[],"doubtful":[],"extents":[{"bad":[],"#,
-    r#""extent":1,"#,
-    r#""items":["pad 0 64","pad 64 128","pad 128 192","pad 192 256"],"live":0,"pointer":256,"tail":0,"#,
-    r#""tail_at":null},"#,
-    r#"{"bad":[],"extent":2,"#,
-    r#""items":["pad 0 64","pad 64 128","pad 128 192","pad 192 256"],"live":0,"pointer":256,"tail":0,"#,
-    r#""tail_at":null}],"#,
-    r#""geometry":{"extents":3,"page":64,"pages":4},"hidden":[],"orphans":[],"retired":[],"runs":[],"#,
-    r#""shards":0,"#,
-    r#""shared":[],"super":{"bad":[],"generation":null,"page":null,"records":0,"tie":false},"twins":[]}"#,
-    "\n"
-);
-
-/// The report of the disk with a chunk whose last two bytes are the magic of the next one.
-pub const COLLISION: &str = concat!(
-    r#"{"broken":[],"candidates":[],"clean":false,"dangling":[],"doubtful":[],"extents":[{"bad":[],"#,
-    r#""extent":1,"#,
-    r#""items":["chunk 0 66 33333333-3333-3333-3333-33333333c55e 28","noise 66 105"],"live":0,"#,
-    r#""pointer":105,"#,
-    r#""tail":0,"tail_at":null},"#,
-    r#"{"bad":[],"extent":2,"#,
-    r#""items":["chunk 0 155 22222222-2222-2222-2222-222222222222 117"],"live":155,"pointer":155,"tail":0,"#,
-    r#""tail_at":null}],"#,
-    r#""geometry":{"extents":3,"page":64,"pages":4},"#,
-    r#""hidden":[{"extent":1,"length":3,"offset":64,"owner":"shard 00000000000000000000000000000001","#,
-    r#""uuid":"11111111-1111-1111-1111-111111111111"}],"#,
-    r#""orphans":[{"extent":1,"length":28,"offset":0,"uuid":"33333333-3333-3333-3333-33333333c55e"}],"#,
-    r#""retired":[],"runs":[{"entries":1,"extent":2,"offset":0,"state":"read"}],"shards":1,"shared":[],"#,
     r#""super":{"bad":[],"generation":1,"page":0,"records":1,"tie":false},"twins":[]}"#,
     "\n"
 );

@@ -36,7 +36,7 @@ pub fn four_extents(alloc: Global) -> Result<MemDisk, Misfit>
 }
 
 /// A disk of four extents with `abc` at the start of extent 1.
-pub fn abc_on_four_extents(alloc: Global) -> Result<MemDisk, Misfit> {
+fn abc_on_four_extents(alloc: Global) -> Result<MemDisk, Misfit> {
     let mut disk = four_extents(alloc)?;
     put_chunk(alloc, &mut disk, 1, 0, ONES, b"abc")?;
     Ok(disk)
@@ -68,7 +68,7 @@ pub fn broken_newest_run(alloc: Global) -> Result<MemDisk, Misfit> {
 
 /// A disk of three extents with `abc` in extent 1 and the run that names it in extent 2. The superblock names
 /// the run twice.
-pub fn run_named_twice(alloc: Global) -> Result<MemDisk, Misfit> {
+fn run_named_twice(alloc: Global) -> Result<MemDisk, Misfit> {
     let mut disk = small_disk(alloc)?;
     let run = put_abc_and_its_run(alloc, &mut disk)?;
     let record = put_superblock(alloc, &mut disk, &[41, 155], &[run; 2])?;
@@ -124,11 +124,11 @@ pub fn collision(alloc: Global) -> Result<MemDisk, Misfit> {
     Ok(disk)
 }
 
-/// A disk of three extents. Extent 1 begins with a frame of 66 bytes under this UUID; `abc`, written at 64,
-/// overwrites its last two bytes. Extent 2 has the run of one shard with this `abc`.
-pub fn overwritten_end(alloc: Global, uuid: [u8; 16]) -> Result<MemDisk, Misfit> {
+/// A disk of three extents. Extent 1 begins with a frame of 66 bytes whose UUID ends in the magic; `abc`,
+/// written at 64, overwrites its last two bytes. Extent 2 has the run of one shard with this `abc`.
+fn overwritten_end(alloc: Global) -> Result<MemDisk, Misfit> {
     let mut disk = small_disk(alloc)?;
-    put_chunk(alloc, &mut disk, 1, 0, uuid, &[0x78; 28])?;
+    put_chunk(alloc, &mut disk, 1, 0, ENDS_IN_MAGIC, &[0x78; 28])?;
     put_chunk(alloc, &mut disk, 1, 64, ONES, b"abc")?;
     let run = put_run(alloc, &mut disk, 2, 0, TWOS, &[abc_at(1, 64)])?;
     put_superblock(alloc, &mut disk, &[105, 155], slice::from_ref(&run))?;
@@ -136,7 +136,7 @@ pub fn overwritten_end(alloc: Global, uuid: [u8; 16]) -> Result<MemDisk, Misfit>
 }
 
 /// A disk of three extents with `abc` at 0 and 41 of extent 1, and a run that names only the second.
-pub fn half_garbage(alloc: Global) -> Result<MemDisk, Misfit> {
+fn half_garbage(alloc: Global) -> Result<MemDisk, Misfit> {
     let mut disk = abc_alone(alloc)?;
     put_chunk(alloc, &mut disk, 1, 41, ONES, b"abc")?;
     let run = put_run(alloc, &mut disk, 2, 0, TWOS, &[abc_at(1, 41)])?;
@@ -153,7 +153,7 @@ pub fn one_shard(alloc: Global) -> Result<MemDisk, Misfit> {
 }
 
 /// The disk of `one_shard`, with these pages of an extent unreadable.
-pub fn one_shard_without(alloc: Global, extent: u32, pages: &[u32]) -> Result<MemDisk, Misfit> {
+fn one_shard_without(alloc: Global, extent: u32, pages: &[u32]) -> Result<MemDisk, Misfit> {
     let mut disk = one_shard(alloc)?;
     for page in pages {
         mark_bad(&mut disk, extent, *page)?;
@@ -257,7 +257,6 @@ pub enum Worked {
     PastThePointer,
     TornFrame,
     HalfGarbage,
-    /// The overwritten frame has a UUID that ends in the magic.
     OverwrittenEnd,
     TwinsAndShared,
     RunNamedTwice,
@@ -278,7 +277,7 @@ impl Worked {
             Worked::PastThePointer => past_the_pointer(alloc),
             Worked::TornFrame => torn_frame(alloc),
             Worked::HalfGarbage => half_garbage(alloc),
-            Worked::OverwrittenEnd => overwritten_end(alloc, ENDS_IN_MAGIC),
+            Worked::OverwrittenEnd => overwritten_end(alloc),
             Worked::TwinsAndShared => Ok(twins_and_shared(alloc)?.0),
             Worked::RunNamedTwice => run_named_twice(alloc),
             Worked::DeletedInTheNewestRun => deleted_in_the_newest_run(alloc),

@@ -13,8 +13,6 @@ mod faults;
 #[cfg(test)]
 mod frames;
 #[cfg(test)]
-mod geometries;
-#[cfg(test)]
 mod lanes;
 #[cfg(test)]
 mod loading;

@@ -5,7 +5,7 @@
 use crate::compare::same;
 use scrub_disk::Geometry;
 use scrub_fakes::TWOS;
-use scrub_frame::{Locator, digest_of};
+use scrub_frame::Locator;
 use scrub_super::{MAX_RUNS, Superblock, read_record, write_record};
 use std::alloc::Global;
 use std::process::Abort;
@@ -147,50 +147,4 @@ fn records_of_the_most_runs_and_pointers_are_written_and_read(rt: HostRuntime) -
     let extents = Geometry::new(64, 1, 65536)?;
     let pointers = vec![in rt.alloc(); 64u32; 65535]?;
     check_written(&rt, rt.alloc(), extents, &pointers, &[], 262_198)
-}
-
-/// The record of generation 7 for pages of 64 bytes, four pages an extent and three extents, with pointers 41
-/// and 155, no runs, and these retired extents, whose number it gives as `count`.
-fn listing(alloc: Global, count: u8, retired: &[u8]) -> Result<Vec<u8>, Fail> {
-    let mut record = Vec::new(alloc);
-    record.extend_from_slice(b"SSB2\x00\x00\x00\x00\x00\x00\x00\x07")?;
-    record.extend_from_slice(&[0, 0, 0, 64, 0, 0, 0, 4, 0, 0, 0, 3, 0, 0, 0, count])?;
-    record.extend_from_slice(&[0, 0, 0, 41, 0, 0, 0, 155])?;
-    for extent in retired {
-        record.extend_from_slice(&[0, 0, 0, *extent])?;
-    }
-    let digest = digest_of(&record);
-    record.extend_from_slice(&digest)?;
-    Ok(record)
-}
-
-/// How many retired extents are claimed, and which are listed. The last number is forged.
-const REFUSED: [(u8, &[u8]); 6] = [
-    (2, &[2, 1]),
-    (2, &[1, 1]),
-    (1, &[0]),
-    (1, &[3]),
-    (3, &[1, 2, 2]),
-    (255, &[1]),
-];
-
-#[test]
-fn retired_extents_are_read_if_they_rise_and_are_on_the_disk(rt: HostRuntime) -> Result<(), Fail> {
-    let geometry = Geometry::new(64, 4, 3)?;
-    for (count, listed, retired) in [(1, &[1][..], &[1][..]), (0, &[][..], &[][..])] {
-        let record = listing(rt.alloc(), count, listed)?;
-        let wanted = Contents {
-            version: 2,
-            generation: 7,
-            pointers: &[41, 155],
-            retired,
-            runs: &[],
-        };
-        check_read(&rt, rt.alloc(), &record, geometry, &wanted)?;
-    }
-    for (count, listed) in &REFUSED {
-        let record = listing(rt.alloc(), *count, listed)?;
-        assert!(rt; read_record(rt.alloc(), &record, geometry)?.is_none());
-    }
-    Ok(())
 }

@@ -5,7 +5,7 @@ ghost use Rattle.std.specs.Prelude.{◌≡◌};
 
 use crate::compare::same;
 use crate::extents::{disk_with, mark_all};
-use scrub_disk::{Geometry, MemDisk, PageSource};
+use scrub_disk::{Geometry, MemDisk, PageSource, read_extent};
 use scrub_fakes::{
     CountingSource, ONES, TWOS, plan_of, put, put_chunk, put_superblock, small_disk,
 };
@@ -93,6 +93,22 @@ fn asked_by_scan<D: PageSource>(
     assert!(rt; plan.planned().contains(&extent));
     let scanned = scan_extent(alloc, disk, plan, extent)?;
     Ok(scanned.pages_asked())
+}
+
+#[test]
+fn reading_a_whole_extent_asks_for_8_pages_and_tiling_it_for_more(
+    rt: HostRuntime,
+) -> Result<(), Fail> {
+    let disk = heads(rt.alloc())?;
+    let whole = CountingSource::new(rt.alloc(), &disk)?;
+    let geometry = whole.geometry();
+    assert!(&rt; geometry.extents() == 2 && geometry.extent_bytes() == 512);
+    let _extent = read_extent(rt.alloc(), &whole, 1)?;
+    same(&rt, whole.reads_of(1), 8);
+    let scanned = CountingSource::new(rt.alloc(), &disk)?;
+    let _items = tile(rt.alloc(), &scanned, 1, 512)?;
+    assert!(&rt; scanned.reads_of(1) > 8);
+    Ok(())
 }
 
 /// The disk of `heads`, with or without a far end that agrees with the heads, and with these pages

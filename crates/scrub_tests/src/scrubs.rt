@@ -1,9 +1,8 @@
-//! Tests of whole scrubs that the program can't show: published reports by one reader, how often pages are
-//! asked for, reads of one byte, and calls that only tests make.
+//! Tests of whole scrubs that the program can't show: how often pages are asked for, reads of one byte, and
+//! calls that only tests make.
 
 pub mod loaded;
 pub mod page_counts;
-pub mod published;
 pub mod retired;
 pub mod shards;
 pub mod sizes;

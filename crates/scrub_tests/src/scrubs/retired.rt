@@ -1,12 +1,11 @@
-//! Disks whose superblock retires extents: which pages are asked for, what workers take, a pool over nothing,
-//! and the status of locators into retired extents.
+//! Disks whose superblock retires extents: which pages are asked for, what workers take, and a pool over
+//! nothing.
 
 ghost use Rattle.std.specs.Prelude.{◌≤◌};
 
 use crate::support::compare::{check_answer, same};
 use crate::support::reported::{scrubbed, scrubbed_by};
 use scrub_book::{Book, Event, PoolCore, StepRefused};
-use scrub_check::{Status, status_of};
 use scrub_disk::{Geometry, MemDisk, PageSource};
 use scrub_fakes::payloads::put_run;
 use scrub_fakes::published::NO_SHARDS;
@@ -16,7 +15,6 @@ use scrub_fakes::{
 };
 use scrub_frame::Locator;
 use scrub_pool::{NoGate, Takings};
-use scrub_scan::scan_in_order;
 use scrub_super::{Plan, Superblock, choose};
 use std::alloc::Global;
 use std::process::Abort;
@@ -179,31 +177,4 @@ fn a_pool_over_nothing_is_complete_once_its_members_have_retired(
         (Event::Retire(0), None),
     ];
     check_pool(&rt, rt.alloc(), &disk, 1, &steps)
-}
-
-/// The status of a locator on a disk.
-fn status_on(alloc: Global, disk: &MemDisk, locator: &Locator) -> Result<Status, Fail> {
-    let chosen = choose(alloc, disk)?;
-    let plan = Plan::make(alloc, &chosen, disk.geometry())?;
-    let all = scan_in_order(alloc, disk, &plan)?;
-    Ok(status_of(alloc, disk, &plan, &all, locator)?)
-}
-
-#[test]
-fn out_of_range_comes_before_retired_and_retired_before_the_rest(
-    rt: HostRuntime,
-) -> Result<(), Fail> {
-    let disk = one_shard_retiring(&rt, rt.alloc(), &[1], 132)?;
-    let cases = [
-        (abc_at(1, 216), Status::OutOfRange),
-        (abc_at(1, 215), Status::Retired),
-        (abc_at(1, 0), Status::Retired),
-        (abc_at(2, 0), Status::WrongUuid),
-        (abc_at(2, 200), Status::PastPointer),
-        (abc_at(3, 0), Status::OutOfRange),
-    ];
-    for (locator, status) in cases {
-        same(&rt, status_on(rt.alloc(), &disk, &locator)?, status);
-    }
-    Ok(())
 }
