@@ -14,7 +14,7 @@ use Rattle.scrub_check.proofs.ListsThere.{some_broken, some_candidates, some_sha
 use Rattle.scrub_check.specs.declared.statuses.checked.Checked.{Checked}
 use Rattle.scrub_found.specs.declared.judging.DrawnScan.{DrawnScan}
 use Rattle.scrub_found.specs.declared.judging.Judged.{Judged}
-use Rattle.scrub_found.specs.Judged.{AreJudgedBut, AreJudgedFrom, Beside, IsDrawnFrom, IsFoundBut, IsFoundFrom, found_by}
+use Rattle.scrub_found.specs.Judged.{AreJudgedBut, AreJudgedFrom, Beside, IsDrawnFrom, IsFoundBut, IsFoundFrom, found_with}
 use Rattle.scrub_found.specs.Scrubbed.{IsScrubbed}
 use Rattle.scrub_found.proofs.GivenPlans.{rising_from}
 
@@ -109,7 +109,7 @@ module _ {D : Type 0} (image : Image) (checked : List Checked) (d : DrawnScan D)
   -- with lists that follow from the checked locators, what is found
   pub found_drawn : (shared : List SharedPlace) (candidates : List CandidateValue) → AreShared checked shared →
       AreCandidates d.scan.plan d.scan.all.extents checked d.in_doubt candidates →
-      IsScrubbed image (found_by d.scan d.map checked (beside_drawn shared candidates))
+      IsScrubbed image (found_with d.scan d.map checked (beside_drawn shared candidates))
   found_drawn shared candidates x z = record {
     choice = are.scanned.chosen;
     plan = are.scanned.planned;

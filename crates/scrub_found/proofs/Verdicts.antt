@@ -9,7 +9,7 @@ use Rattle.scrub_check.specs.Checked.{dangling, hidden, is_sound}
 use Rattle.scrub_found.specs.declared.judging.Judged.{Judged}
 use Rattle.scrub_found.specs.declared.runs.RunRow.{RunRow}
 use Rattle.scrub_found.specs.declared.scanning.Scan.{Scan}
-use Rattle.scrub_found.specs.Judged.{AreRowsOf, Beside, found_by, found_in, is_clean_by}
+use Rattle.scrub_found.specs.Judged.{AreRowsOf, Beside, found_with, found_in, is_clean_by}
 use Rattle.scrub_found.specs.Scrubbed.{entry_counts, is_clean_disk, is_clean_choice, is_clean_extent}
 use Rattle.scrub_found.proofs.CleanLists.{sound_alone}
 
@@ -31,7 +31,7 @@ module _ {D : Type 0} (s : Scan D) (rows : List RunRow) (bindings : List Binding
   -- by the locators that dangle or are hidden
   pub clean_by_lists :
       is_clean_by s rows (length (dangling checked) == 0 && length (hidden checked) == 0) b.shared
-      ≡ is_clean_disk (found_by s bindings checked b)
+      ≡ is_clean_disk (found_with s bindings checked b)
   clean_by_lists =
       let none_wrong = length (dangling checked) == 0 && length (hidden checked) == 0 in
       and_assoc

@@ -107,8 +107,8 @@ pub record Beside : Type 0 where
 
 module _ {D : Type 0} where
   -- all that is found on a scanned disk with this shard map and these checked locators
-  abbrev pub found_by : Scan D → List BindingValue → List Checked → Beside → Scrubbed
-  found_by s bindings checked b = record {
+  abbrev pub found_with : Scan D → List BindingValue → List Checked → Beside → Scrubbed
+  found_with s bindings checked b = record {
     choice = s.chosen;
     plan = s.plan;
     all = s.all.extents;
@@ -122,7 +122,7 @@ module _ {D : Type 0} where
 
   -- all that is found on the disk
   abbrev pub found_in : Judged D → Beside → Scrubbed
-  found_in j b = found_by j.scan j.map j.checked.items b
+  found_in j b = found_with j.scan j.map j.checked.items b
 
   -- with these beside them, the judged locators are what is found in the image, with the plan by these index runs, if they are given,
   -- or else by the choice as if these extents had been reset; and the rows are those of the runs that were read

@@ -4,7 +4,7 @@ use Rattle.std.specs.List.{All, flat_map, range_with_len}
 use Rattle.std.proofs.lemmas.Bool.{eqb-true, eq-eqb, false≢true}
 use Rattle.std.proofs.lemmas.List.Elements.{All-cons, All-head, All-tail}
 use Rattle.scrub_reclaim.specs.declared.page_ranges.PageRange.{PageRange}
-use Rattle.scrub_reclaim.specs.Doubts.{AreApart, AreJoined, page_ranges, pages_within, with_page}
+use Rattle.scrub_reclaim.specs.Doubts.{HaveGapsBetween, AreJoined, page_ranges, pages_within, with_page}
 use Rattle.scrub_reclaim.proofs.PageRanges.{alone, from_page}
 
 abbrev IsFilled : PageRange → Type 0
@@ -56,13 +56,13 @@ same_with q (r ∷ rs) filled = same_by (q + 1 == r.first) q r rs refl (All-head
 no_neighbour : (q : ℕ) (r : PageRange) → (q + 1 == r.first) ≡ false → q + 1 ≢ r.first
 no_neighbour q r e same = false≢true (sym e ∙ eq-eqb (q + 1) r.first same)
 
-apart_by : (b : Bool) (q : ℕ) (r : PageRange) (rs : List PageRange) → (q + 1 == r.first) ≡ b → AreApart (r ∷ rs) →
-    AreApart (in_front b q r rs)
+apart_by : (b : Bool) (q : ℕ) (r : PageRange) (rs : List PageRange) → (q + 1 == r.first) ≡ b → HaveGapsBetween (r ∷ rs) →
+    HaveGapsBetween (in_front b q r rs)
 apart_by true q r [] e apart = tt
 apart_by true q r (s ∷ rs) e apart = apart
 apart_by false q r rs e apart = (no_neighbour q r e, apart)
 
-apart_with : (q : ℕ) (rs : List PageRange) → AreApart rs → AreApart (with_page q rs)
+apart_with : (q : ℕ) (rs : List PageRange) → HaveGapsBetween rs → HaveGapsBetween (with_page q rs)
 apart_with q [] apart = tt
 apart_with q (r ∷ rs) apart = apart_by (q + 1 == r.first) q r rs refl apart
 

@@ -47,16 +47,16 @@ abbrev pub pages_within : PageRange → List ℕ
 pages_within r = range_with_len r.first (r.last + 1 - r.first)
 
 -- no range is directly followed by the next
-abbrev pub AreApart : List PageRange → Type 0
-AreApart [] = ⊤
-AreApart (r ∷ []) = ⊤
-AreApart (r ∷ s ∷ rs) = (r.last + 1 ≢ s.first) × AreApart (s ∷ rs)
+abbrev pub HaveGapsBetween : List PageRange → Type 0
+HaveGapsBetween [] = ⊤
+HaveGapsBetween (r ∷ []) = ⊤
+HaveGapsBetween (r ∷ s ∷ rs) = (r.last + 1 ≢ s.first) × HaveGapsBetween (s ∷ rs)
 
 -- no range is empty, the ranges hold just these pages in their order, and none is directly followed by the next
 pub record AreJoined (pages : List ℕ) (ranges : List PageRange) : Type 0 where
   pub filled : All (λ r. r.first ≤ r.last) ranges
   pub same : flat_map pages_within ranges ≡ pages
-  pub apart : AreApart ranges
+  pub apart : HaveGapsBetween ranges
 
 -- ---- each kind of doubt
 

@@ -16,7 +16,7 @@ use Rattle.scrub_found.specs.declared.runs.RunRow.{RunRow}
 use Rattle.scrub_report.specs.declared.shards.Shards.{Shards}
 use Rattle.scrub_report.specs.Json.{list, natural, with_keys}
 use Rattle.scrub_report.specs.steps.Lists.{AreListsOf, AreOfSome, AreShardsOf, IsReportBy, is_clean_listed, unlisted}
-use Rattle.scrub_found.specs.Judged.{Beside, IsDrawnFrom, IsLivenessBy, found_by, is_clean_by}
+use Rattle.scrub_found.specs.Judged.{Beside, IsDrawnFrom, IsLivenessBy, found_with, is_clean_by}
 use Rattle.scrub_found.specs.Scrubbed.{entry_counts}
 use Rattle.scrub_report.specs.Report.{candidate_data, dangling_data, extent_data, ids_data, numbers_data, place_data, report_text, runs_data, shared_data, super_data}
 use Rattle.scrub_found.specs.Scrubbed.{IsScrubbed, Scrubbed, is_clean_disk}
@@ -45,7 +45,7 @@ module _ {D : Type 0} (image : Image) (broken : List ShardId) (checked : List Ch
   beside_it = beside_drawn image checked d drawn l.liveness.shared.items l.liveness.candidates.items
 
   abbrev found : Scrubbed
-  found = found_by d.scan d.map checked beside_it
+  found = found_with d.scan d.map checked beside_it
 
   found_there : IsScrubbed image found
   found_there =
