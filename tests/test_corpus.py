@@ -10,7 +10,7 @@ from pathlib import Path
 
 from lib.cases import RoomCase, add_tests
 from lib.corpus import EACH_PAGE, PAIRS, ROWS, wrong_seals
-from lib.disks import geometry, shard
+from lib.disks import Disk, geometry, shard
 from lib.worked import EXTENTS, PAGE, PAGES, many_shards
 from reference.shardscrub import SCANS, answered
 from test_system import answer
@@ -117,13 +117,14 @@ class EachPage(CorpusCase):
 class Pairs(CorpusCase):
     def check(self, given):
         """Two images of a disk, by the caller alone and by three workers."""
-        before, after, *lines = given
+        *images, lines = given[0], given[1], given[2:]
+        sizes = images[0].geometry() if isinstance(images[0], Disk) else geometry(PAGE, PAGES, EXTENTS)
         paths = [str(self.room / name) for name in ("before", "after")]
-        for path, content in zip(paths, (before, after)):
-            Path(path).write_bytes(content)
+        for path, image in zip(paths, images):
+            Path(path).write_bytes(image.bytes if isinstance(image, Disk) else image)
         for line in lines:
             options, pages = ([word for word in line.split() if (":" in word) == is_page] for is_page in (False, True))
-            self.compare(["compare", *geometry(PAGE, PAGES, EXTENTS), *options, *paths, *pages], "03")
+            self.compare(["compare", *sizes, *options, *paths, *pages], "03")
 
 
 class Workers(CorpusCase):

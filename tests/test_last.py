@@ -64,6 +64,9 @@ class Worked(LastCase):
         self.listed(disk, ["--last", "8"], [])
         self.judged(disk, ["--last", "8"], "sound")
         self.judged(disk, ["--last", "7"], "doubt")
+        for last, status in ((8, 0), (9, 1)):
+            found = answer("summary", "--last", str(last), self.room / "image")
+            self.same(f"summary --last {last}, the sizes from the disk", found[::2], (status, b""))
 
     def test_a_shorter_superblock_over_a_longer_one(self):
         disk = worked.shorter_over_longer()

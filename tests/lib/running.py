@@ -119,7 +119,7 @@ class Long(NamedTuple):
 # The seconds of each module on one processor, without those of the classes below. A module without its seconds is begun first.
 SECONDS = {
     "answers": 5, "checklist": .1, "compare": .3, "corpus": 1, "costs": .3, "documents": 4, "examples": 5, "gate": 4, "help": .6,
-    "last": .3, "listings": .2, "loose": 5, "memory": 1, "messages": 4, "monitoring": 1, "outside": 45, "package": 8, "page": 12,
+    "last": .3, "listings": .2, "loose": 1, "memory": 1, "messages": 4, "monitoring": 1, "outside": 45, "package": 8, "page": 12,
     "parts": 1, "plan": 14, "questions": .7, "reads": 22, "release": .7, "scrubs": 4, "shard": .3, "sources": .1, "start": 3,
     "statuses": 1, "system": 7, "tilings": 7,
 }

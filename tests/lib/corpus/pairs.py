@@ -1,5 +1,5 @@
-"""Pairs of images for `compare`: a name, the image before and the one after, and words of calls. The images are of the disk of IMAGES in
-lib/worked.py.
+"""Pairs of images for `compare`: a name, the image before and the one after, and words of calls. They are images of the disk of IMAGES in
+lib/worked.py, or disks.
 """
 from lib.disks import frame, locator, run, sealed_frame, shard, uuid
 from lib.worked import (EXTENTS, FIRST, IMAGES, NEW, OLD, OLD_RUN, PAGE, PAGES, POINTERS, SECOND, SEVENTH, SIZE, abc_at, moved,

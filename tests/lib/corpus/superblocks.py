@@ -28,22 +28,18 @@ def the_superblock_that_counts():
 
 @row
 def superblocks_in_doubt():
-    """Pages that can't be read, damaged records, a torn one, ties; and nothing of that."""
-    for pages in (["0:9"], ["0:15", "0:4", "0:3"], ["0:0"], ["0:1"], ["2:3", "1:15"]):
-        yield of_one_chunk(), *pages
-    for page, text in ((8, b"SSB1"), (8, b"SSB2"), (14, b"stray"), (15, b"SSB2")):
-        disk = of_one_chunk()
-        disk.put(0, page * 64, text)
-        yield disk
+    """Without a page of the only one, a torn one, and ties of two and of three, of which one names no run."""
+    for page in ("0:0", "0:1"):
+        yield of_one_chunk(), page
     disk = of_one_chunk()
     disk.superblock(8, 8, *disk.runs)
     disk.put(0, 9 * 64, bytes(64))
     yield disk
-    for *others, last in ([(8, 7)], [(8, 7), (11, 7)], [(8, 6)]):
-        disk = of_one_chunk()
-        for page, generation in (*others, last):
-            disk.superblock(page, generation)
-        yield disk
+    disk = of_one_chunk()
+    disk.superblock(8, 7)
+    yield disk
+    disk.superblock(11, 7, *disk.runs)
+    yield disk
 
 
 @row
@@ -70,6 +66,13 @@ def what_is_said_of_superblocks_runs_and_shards():
     disk.superblock(8, 7, *disk.runs)
     disk.put(0, 14 * 64, b"SSB1")
     yield disk, "0:13", "0:6", f"shard --id {shard(4).hex()}"
+    disk = Made()
+    disk.lose_run()
+    disk.finish((shard(1), [disk.chunk(1, 0, ONES, FIRST)]))
+    yield disk, "0:9"
+    disk.superblock(8, 7)
+    yield disk
+    yield disk, "0:13"
 
 
 @row
