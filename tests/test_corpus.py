@@ -15,7 +15,8 @@ from lib.worked import EXTENTS, PAGE, PAGES, many_shards
 from reference.shardscrub import SCANS, answered
 from test_system import answer
 
-# What is called on each disk. Of most calls the caller alone and three workers take turns; some are made by both.
+# What is called on each disk. Some calls are made by the caller alone and by three workers, and so are all calls on the first disk of a row;
+# of the others both take turns.
 CALLS = ("scan", "index", "summary", "locators", "manifest", "manifest --reset 1", "runs", "shards", "shards --partial", "reclaimable",
          "superblocks", "items --extent 1")
 BY_BOTH = "scan", "reclaimable"
@@ -64,8 +65,8 @@ class CorpusCase(RoomCase):
 class Rows(CorpusCase):
     def check(self, make):
         """The disks of a row."""
-        self.turns = cycle("03")
-        for made in make():
+        for number, made in enumerate(make()):
+            self.turns = cycle(["03"] if number == 0 else "30" if number % 2 else "03")
             _, image, pages, more = self.put(made)
             words = [*image, *pages]
             right = {line: self.call(line, words) for line in CALLS}
@@ -103,7 +104,7 @@ class EachPage(CorpusCase):
         for page in (None, *(f"{extent}:{page}" for extent in range(disk.extents) for page in range(disk.pages))):
             words = [*image, *bad, *[page] * (page is not None)]
             for command in ("scan", "locators", "index", "manifest"):
-                self.compare([command, *words], next(turns) if page else "03")
+                self.compare([command, *words], "03" if command == "scan" else next(turns))
         for extent in range(disk.extents):
             self.compare(["items", "--extent", str(extent), *image, *bad])
 

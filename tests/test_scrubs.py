@@ -229,6 +229,14 @@ class Runs(CorpusCase):
             right = [(shard(number).hex(), str(number)) for number in read] if own_shards else [(S1, str(read[0]))]
             self.same("shards", (len(read), [(line[1], line[7]) for line in lines]), (21, right))
 
+    def test_one_thread_reads_the_runs_of_worked_disks(self):
+        limit = {"preexec_fn": partial(os.sched_setaffinity, 0, self.processors[0])}
+        for make in (lambda: Disk(4, 3), worked.one_shard, lambda: worked.one_shard("2:2"), lambda: worked.one_shard(times=2),
+                     worked.broken_newest_run, worked.deleted_in_the_newest_run):
+            _, image, bad, _ = self.put(make())
+            for command in ("scan", "locators", "index", "manifest"):
+                self.compare([command, *image, *bad], "03", **limit)
+
     def test_several_threads_read_32_runs(self):
         """Nothing else in this command starts threads, since no run has the shard."""
         library = ALLOCATIONS.made(self.room)

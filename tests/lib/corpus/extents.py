@@ -2,7 +2,7 @@
 from itertools import product
 
 from lib import worked
-from lib.corpus.rows import GREATEST, row, with_
+from lib.corpus.rows import GREATEST, altered, row
 from lib.disks import CLOSING_MARK, DIGEST, MAGIC, ROUND_PAYLOAD, ROUND_SEALED, SEALED_MAGIC, Disk, be, frame, head, sealed_frame
 from lib.worked import FIVES, ONES, THREES, TWOS, finish, one_shard, put_run
 
@@ -98,7 +98,7 @@ def shards_of_frames_with_wrong_seals():
     """One shard names each frame, though some seals are wrong, and another one names each with a wrong digest."""
     disk = Disk(64, 6)
     named = [one for extent, changed in ((1, None), (2, 5), (3, 6)) for one in put_touching(disk, extent, changed)]
-    runs = [put_run(disk, 4, 0, FIVES, *named), put_run(disk, 5, 0, FIVES, *(with_(one, digest=bytes(DIGEST)) for one in named), number=2)]
+    runs = [put_run(disk, 4, 0, FIVES, *named), put_run(disk, 5, 0, FIVES, *(altered(one, digest=bytes(DIGEST)) for one in named), number=2)]
     yield finish(disk, disk.pointers, runs)
 
 

@@ -55,13 +55,13 @@ def in_turn(*entries):
     return [(shard(number), locators) for number, locators in enumerate(entries, 1)]
 
 
-def with_(named, length=None, name=None, digest=None):
+def altered(named, length=None, name=None, digest=None):
     """The locator with another length, another UUID or another digest."""
     length = named[8:12] if length is None else be(4, length)
     return named[:8] + length + (name or named[12:28]) + (digest or named[28:])
 
 
-def two():
+def two_chunks():
     """A disk with two chunks, and their locators."""
     disk = Made()
     return disk, disk.chunk(1, 0, ONES, FIRST), disk.chunk(2, 0, TWOS, SECOND)

@@ -3,7 +3,7 @@ import hashlib
 import random
 
 from lib import worked
-from lib.corpus.rows import FIRST, FORMS, GREATEST, SECOND, THIRD, Made, in_turn, row, two, with_
+from lib.corpus.rows import FIRST, FORMS, GREATEST, SECOND, THIRD, Made, altered, in_turn, row, two_chunks
 from lib.disks import Disk, be, frame, locator, run, sealed_frame, shard, uuid
 from lib.worked import ENDS_IN_MAGIC, FIVES, FOURS, ONES, THREES, TWOS, abc, finish, put_run
 
@@ -115,8 +115,8 @@ def what_is_no_spare():
     disk.spoil(2, 192 + 60)
     disk.put(3, 0, frame(THREES, FIRST)[:-1])
     disk.chunk(4, 0, FOURS, FIRST)
-    wrong = with_(empty, digest=hashlib.sha256(b"x").digest())
-    disk.put_run(*in_turn([chunk], [with_(chunk, length=len(FIRST) + 1)], [empty, wrong], [with_(empty, length=1)]))
+    wrong = altered(empty, digest=hashlib.sha256(b"x").digest())
+    disk.put_run(*in_turn([chunk], [altered(chunk, length=len(FIRST) + 1)], [empty, wrong], [altered(empty, length=1)]))
     yield disk.finish(retired=[4])
     yield disk.finish()
 
@@ -177,7 +177,7 @@ PIECES = {
     # There is no chunk of this content; it has the wrong UUID for the chunk without a payload; or no bytes have this digest.
     "lost": locator(1, 700, ONES, b"lost"),
     "other-empty": locator(1, 159, TWOS, b""),
-    "lost-empty": with_(locator(1, 159, FOURS, b""), digest=b"x" * 32),
+    "lost-empty": altered(locator(1, 159, FOURS, b""), digest=b"x" * 32),
 }
 ENTRIES = ("abc de", "de abc", "abc de abc", "sealed", "empty", "de empty sealed abc", "rotted", "past", "past abc rotted", "lost abc",
            "abc lost", "abc rotted lost de lost", "other-empty", "empty other-empty abc other-empty", "empty lost-empty lost", "")
@@ -251,7 +251,7 @@ def lost_runs():
     for spoil, retired, *pages in ((lambda disk: disk.rot(4, 0), None), (lost_run_of_no_run, None), (lost_run_past_the_pointer, None),
                                    (lambda disk: None, [4]), (lambda disk: None, None, "4:1"), (lost_run_out_of_range, None),
                                    (lost_run_that_another_chunk_holds, None)):
-        disk, first, second = two()
+        disk, first, second = two_chunks()
         disk.put_run((shard(1), [first]))
         disk.runs.insert(0, disk.chunk(4, 0, uuid(0xEE), run((shard(1), [second]))))
         spoil(disk)
@@ -262,7 +262,7 @@ def lost_runs():
 
 @row
 def a_hidden_run_is_read():
-    disk, first, second = two()
+    disk, first, second = two_chunks()
     disk.put_run((shard(1), [first]))
     payload = run((shard(1), [second]))
     disk.chunk(4, 0, uuid(0xEE), frame(uuid(0xEF), payload))
@@ -276,7 +276,7 @@ def a_hidden_run_is_read():
 @row
 def shards_that_may_have_a_newer_entry():
     """With a spare, with a lost payload, without bytes."""
-    disk, first, second = two()
+    disk, first, second = two_chunks()
     disk.chunk(3, 0, THREES, FIRST)
     disk.rot(1, 0)
     disk.rot(2, 0)
@@ -288,7 +288,7 @@ def shards_that_may_have_a_newer_entry():
 @row
 def identifiers():
     """Those that differ in one byte from that of the one shard, the smallest and the greatest; no runs; a run without entries."""
-    disk, first, second = two()
+    disk, first, second = two_chunks()
     name = bytes(range(16))
     others = bytes(16), b"\xff" * 16, name[::-1], b"\x01" + name[1:], name[:-1] + b"\x0e", name[:-1] + b"\x10"
     disk.finish((name, [first]))
@@ -300,7 +300,7 @@ def identifiers():
     disk = Made()
     disk.put_run()
     yield disk.finish()
-    disk, first, second = two()
+    disk, first, second = two_chunks()
     names = [bytes(16), shard(1), shard(256), name, b"\x10" + bytes(15), b"\xff" * 16]
     disk.put_run(*((name, [first]) for name in names[::2]))
     yield disk.finish(*((name, [second]) for name in names[1::2]))

@@ -1,6 +1,6 @@
 """Rows of the corpus on extent 0: which superblock counts, and what else is on its pages."""
 from lib import worked
-from lib.corpus.rows import FIRST, LASTS, THIRD, Made, in_turn, row, two, with_
+from lib.corpus.rows import FIRST, LASTS, THIRD, Made, altered, in_turn, row, two_chunks
 from lib.disks import DIGEST, Disk, frame, locator, record, run, shard, uuid, with_digest
 from lib.worked import FOURS, ONES, TWOS, abc, finish
 
@@ -16,7 +16,7 @@ def of_one_chunk():
 @row
 def the_superblock_that_counts():
     """The newest one; on a tie that on the lowest page."""
-    disk, first, second = two()
+    disk, first, second = two_chunks()
     for named in (first, second):
         disk.put_run((shard(1), [named]))
     second_run, first_run = disk.runs
@@ -78,7 +78,7 @@ def what_is_said_of_superblocks_runs_and_shards():
 @row
 def what_else_is_wrong_with_a_disk():
     """A torn chunk, noise, a tail, unreadable pages, twins, a damaged superblock, a broken shard, and a lost run that is older."""
-    disk, first, second = two()
+    disk, first, second = two_chunks()
     disk.put(1, 64, frame(uuid(0x12), THIRD)[:40])
     disk.put(1, 128, b"noise")
     disk.pointers[0] = 192
@@ -87,7 +87,7 @@ def what_else_is_wrong_with_a_disk():
     disk.put(0, 512, b"SSB1")
     gone = disk.rotted(3, 0, THIRD)
     disk.lose_run((shard(1), [second]))
-    disk.finish(*in_turn([first, second], [gone, with_(gone, name=FOURS, digest=b"x" * 32)]))
+    disk.finish(*in_turn([first, second], [gone, altered(gone, name=FOURS, digest=b"x" * 32)]))
     yield disk, "0:15", "1:15", "4:3"
 
 
