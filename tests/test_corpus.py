@@ -100,11 +100,10 @@ class EachPage(CorpusCase):
 
     def check(self, make):
         disk, image, bad, _ = self.put(make())
-        turns = cycle("03")
         for page in (None, *(f"{extent}:{page}" for extent in range(disk.extents) for page in range(disk.pages))):
             words = [*image, *bad, *[page] * (page is not None)]
             for command in ("scan", "locators", "index", "manifest"):
-                self.compare([command, *words], "03" if command == "scan" else next(turns))
+                self.compare([command, *words], "03" if command == "scan" else ())
         for extent in range(disk.extents):
             self.compare(["items", "--extent", str(extent), *image, *bad])
 
@@ -118,10 +117,10 @@ class EachPage(CorpusCase):
 class Pairs(CorpusCase):
     def check(self, given):
         """Two images of a disk, by the caller alone and by three workers."""
-        *images, lines = given[0], given[1], given[2:]
-        sizes = images[0].geometry() if isinstance(images[0], Disk) else geometry(PAGE, PAGES, EXTENTS)
+        before, after, *lines = given
+        sizes = before.geometry() if isinstance(before, Disk) else geometry(PAGE, PAGES, EXTENTS)
         paths = [str(self.room / name) for name in ("before", "after")]
-        for path, image in zip(paths, images):
+        for path, image in zip(paths, (before, after)):
             Path(path).write_bytes(image.bytes if isinstance(image, Disk) else image)
         for line in lines:
             options, pages = ([word for word in line.split() if (":" in word) == is_page] for is_page in (False, True))
