@@ -13,18 +13,14 @@ Each of the others has two superblocks, too. The one that counts would give up a
 superblock, which names that chunk, is written over the other one, which is shorter, as long or longer, and only some of its sectors
 arrive.
 """
-import subprocess
-import tempfile
-
-from lib.cases import Case, add_tests
+from lib.cases import RoomCase, add_tests
 from lib.disks import Disk, geometry, record, run, shard, uuid
-from lib.program import program
 from reference.shardscrub import Image, candidates, choose, reclaimable, records_of, scrub, superblocks
+from test_system import answer
 
 EXTENTS = 5
 # The bytes per page and pages per extent of each disk. The older superblock is on page 0, the newer one in the middle.
 PLAIN, WITH_TAILS = (256, 4), (64, 8)
-SECONDS = 300
 
 
 def made(tails):
@@ -64,25 +60,6 @@ def harmed(image):
         yield f"page {page} unreadable", changed(image, image.raw, [(0, page)])
 
 
-def answer(image, command, *own):
-    """The status and both outputs of a command with options of its own; None if it doesn't end."""
-    with tempfile.NamedTemporaryFile() as file:
-        file.write(image.raw)
-        file.flush()
-        words = [*own, *geometry(image.page, image.pages, image.extents), file.name]
-        words += [f"{extent}:{page}" for extent, page in sorted(image.unreadable)]
-        try:
-            done = subprocess.run([program(), command, *words], stdin=subprocess.DEVNULL, capture_output=True, timeout=SECONDS)
-        except subprocess.TimeoutExpired:
-            return None
-    return done.returncode, done.stdout.decode(), done.stderr.decode()
-
-
-def reclaimable_answer(image, accepted=(), last=None):
-    words = [word for line in accepted for word in ("--accept", line)] + ["--last", str(last)] * (last is not None)
-    return answer(image, "reclaimable", "--workers", "0", *words)
-
-
 def named(text):
     """The extents of the lines that begin with `reclaim`."""
     return {int(line.split()[1]) for line in text.splitlines() if line.startswith("reclaim ")}
@@ -97,16 +74,31 @@ def given_up(image):
     return {candidate.extent for candidate in candidates(scrub(image))}
 
 
-class Damage(Case):
+class DamageCase(RoomCase):
+    """Disks in a file, one after another."""
+
+    def answer(self, image, command, *own):
+        """The status and both outputs of a command with options of its own; None if it doesn't end."""
+        path = self.room / "image"
+        path.write_bytes(image.raw)
+        pages = (f"{extent}:{page}" for extent, page in sorted(image.unreadable))
+        return answer(command, *own, *geometry(image.page, image.pages, image.extents), path, *pages, text=True)
+
+    def reclaimable(self, image, accepted=(), last=None):
+        words = [word for line in accepted for word in ("--accept", line)] + ["--last", str(last)] * (last is not None)
+        return self.answer(image, "reclaimable", "--workers", "0", *words)
+
+
+class Damage(DamageCase):
     def check(self, image, accepted=(), last=None):
         let_go = given_up(image)
         middle = image.size // 2
         alone = changed(image, image.raw[:middle] + bytes(middle) + image.raw[image.size:])
         self.true("the newer superblock gives up an extent, and the older one alone another",
                   let_go and given_up(alone) - let_go, (let_go, given_up(alone)))
-        self.same("the whole disk", reclaimable_answer(image, accepted, last), right(image, accepted, last))
+        self.same("the whole disk", self.reclaimable(image, accepted, last), right(image, accepted, last))
         for what, disk in harmed(image):
-            found = reclaimable_answer(disk, accepted, last)
+            found = self.reclaimable(disk, accepted, last)
             is_safe = found is not None and named(found[1]) <= let_go
             if last is not None and choose(disk)["generation"] != last:
                 is_safe = is_safe and found[0] == 1 and not named(found[1])
@@ -197,7 +189,7 @@ def is_newest_whole(image):
     return any(found.generation == 3 for found in records_of(image).values())
 
 
-class Torn(Case):
+class Torn(DamageCase):
     """A newest superblock of which only some sectors arrive."""
 
     def check(self, sizes):
@@ -207,7 +199,7 @@ class Torn(Case):
             let_go = given_up(one.with_sectors(one.record, len(one.record), [0]))
             self.true(f"{what}: each gives up another extent", let_go and 1 in given_up(one.image) - let_go)
             for how, disk in one.torn():
-                found = [answer(disk, "superblocks"), reclaimable_answer(disk), reclaimable_answer(disk, last=3)]
+                found = [self.answer(disk, "superblocks"), self.reclaimable(disk), self.reclaimable(disk, last=3)]
                 self.check_torn(f"{what}, {how}", one.image, disk, let_go, found)
 
     def check_torn(self, what, before, disk, let_go, found):
@@ -240,8 +232,8 @@ class Torn(Case):
                 one = Overwritten(*sizes, before, newest)
                 what = f"pages of {sizes[0]} bytes, {newest} runs over {before}"
                 whole, alone = (one.with_sectors(text, len(text), [0]) for text in (one.in_pages, one.record))
-                self.same(f"{what}, in whole pages", answer(whole, "superblocks")[0], 0)
-                self.same(f"{what}, the record alone", answer(alone, "superblocks")[0], int(before > newest))
+                self.same(f"{what}, in whole pages", self.answer(whole, "superblocks")[0], 0)
+                self.same(f"{what}, the record alone", self.answer(alone, "superblocks")[0], int(before > newest))
 
 
 add_tests(Torn, Torn.check, [(f"pages of {page} bytes", (page, pages)) for page, pages in TORN])

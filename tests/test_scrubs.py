@@ -1,20 +1,23 @@
-"""Whole scrubs: the reports and indexes of worked disks, disks from files that are cut short or whose reads fail, and disks with more
-of one thing than in any example. What is right was written by hand, from docs/FORMAT.md and docs/REPORT.md; of the small disks
-reference/shardscrub.py has to give the same.
+"""Whole scrubs: the reports and indexes of worked disks, disks from files that are cut short or whose reads fail, runs as threads read
+them, and disks with more of one thing than in any example. What is right was written by hand, from docs/FORMAT.md and docs/REPORT.md.
 
 A body that answers out of memory for a long list meets every contract, so each list is made long by one of these disks.
 """
 import json
 import os
 import struct
+from functools import partial
+from itertools import product
 
 from lib import worked
 from lib.cases import RoomCase
+from lib.corpus.runs import IN_A_ROW, RUN_FRAME, runs_in_a_row
 from lib.disks import Disk, be, frame, geometry, locator, record, run, sealed_frame, shard, uuid, with_digest
-from lib.system import FAILING_READS, run_failing
+from lib.system import ALLOCATIONS, FAILING_READS, run_counted, run_failing
 from lib.worked import ONES, TWOS, abc, finish
 from reference.shardscrub import answered
 from test_answers import NO_SHARDS, ONE_SHARD
+from test_corpus import CorpusCase
 from test_system import answer, written
 
 S1, OWNER = shard(1).hex(), f"shard {shard(1).hex()}"
@@ -116,43 +119,34 @@ LISTS = {
 }
 
 
-class Reports(RoomCase):
-    """The report and the index of a disk, by the caller alone and with two workers."""
+class Reports(CorpusCase):
+    """The report and the index of a disk."""
 
-    def scrubbed(self, what, disk, status):
-        """Compares the report and the index with those of the reference. Returns both."""
-        disk, *bad = disk if isinstance(disk, tuple) else (disk,)
-        path = self.room / "disk.img"
-        path.write_bytes(disk.bytes)
-        for command in ("scan", "index"):
-            words = [*disk.geometry(), str(path), *bad]
-            right = answered([command, *words])
-            for workers in "02":
-                self.same(f"{command}: {what}: by {workers} workers", answer(command, "--workers", workers, *words), right)
-            self.same(f"{command}: {what}: the status", right[0], status)
-            yield right[1]
+    def report(self, what, made, status, workers="2"):
+        """Puts a disk, and returns its report and the words for its sizes, its file and its unreadable pages."""
+        _, image, bad, _ = self.put(made)
+        found, report, error = answer("scan", "--workers", workers, *image, *bad)
+        self.same(f"{what}: the status", (found, error), (status, b""))
+        return json.loads(report), [*image, *bad]
 
     def test_worked_disks(self):
         for what, (make, status, parts, index) in REPORTS.items():
-            report, found = self.scrubbed(what, make(), status)
-            report = json.loads(report)
+            report, words = self.report(what, make(), status)
             for key, part in parts.items():
                 self.same(f"{what}: {key}", report[key], part)
-            self.same(f"{what}: the index", found, index or run((shard(1), [abc(1, 0)])))
+            self.same(f"{what}: the index", answer("index", *words), (status, index or run((shard(1), [abc(1, 0)])), b""))
 
     def listed(self, what, make, count, live, orphans, twins, shared, candidates):
         """Compares the lists of a disk. With an unreadable page of extent 0 it has no candidate."""
-        disk = make()
-        report, _ = self.scrubbed(what, disk, int(bool(shared)))
-        report = json.loads(report)
+        report, words = self.report(what, make(), int(bool(shared)))
         self.same(f"{what}: live bytes", [row["live"] for row in report["extents"]], live)
         for key, right in {"orphans": [at(1, offset, 3, U1) for offset in orphans], "twins": [at(1, offset, 3, U1) for offset in twins],
                            "shared": shared, "candidates": candidates, "broken": [], "dangling": [], "hidden": []}.items():
             self.same(f"{what}: {key}", report[key], right)
-        _, lines, _ = answer("locators", *disk.geometry(), self.room / "disk.img")
+        _, lines, _ = answer("locators", *words)
         self.same(f"{what}: the statuses", [line.split()[-1] for line in lines.decode().splitlines()], ["sound"] * count)
-        report, _ = self.scrubbed(f"{what}: in doubt", (disk, "0:3"), 1)
-        self.same(f"{what}: in doubt", json.loads(report)["candidates"], [])
+        report, _ = self.report(f"{what}: in doubt", (make(), "0:3"), 1)
+        self.same(f"{what}: in doubt", report["candidates"], [])
 
     def test_lists_of_worked_disks(self):
         for what, row in LISTS.items():
@@ -171,26 +165,86 @@ class Reports(RoomCase):
         for generation, status, superblock, pages, retired in (
                 (7, 1, counted(7, 0, 2, tie=True), "record 0 SSB1 7 tie\nrecord 2 SSB2 7 tie\n", []),
                 (8, 0, counted(8, 2, 2), "record 0 SSB1 7 older\nrecord 2 SSB2 8 counts\n", [1])):
-            disk = finish(Disk(4, 3), [41, 155], [], 7)
-            report, _ = self.scrubbed(f"generation {generation}", finish(disk, [0, 155], [], generation, [1], 2), status)
-            report = json.loads(report)
+            disk = finish(finish(Disk(4, 3), [41, 155], [], 7), [0, 155], [], generation, [1], 2)
+            report, words = self.report(f"generation {generation}", disk, status)
             self.same(f"generation {generation}", (report["super"], report["retired"]), (superblock, retired))
-            found = answer("superblocks", *SMALL, self.room / "disk.img")
-            self.same(f"generation {generation}: the pages", found, (status, pages.encode(), b""))
+            self.same(f"generation {generation}: the pages", answer("superblocks", *words), (status, pages.encode(), b""))
 
-    def test_three_and_a_hundred_extents_are_retired(self):
-        for end in (6, 103):
-            disk, retired = Disk(16, 104), list(range(3, end))
-            finish(disk, [41, 155, *[0] * 101], [worked.abc_and_its_run(disk)], retired=retired)
-            report, _ = self.scrubbed(f"{len(retired)} extents", disk, 0)
-            report = json.loads(report)
-            self.same(f"{len(retired)} retired", report["retired"], retired)
-            self.same(f"{len(retired)} retired: the others", [one["extent"] for one in report["extents"]], [1, 2, *range(end, 104)])
-            for words, lines in ((["superblocks"], "record 0 SSB2 1 counts\n"),
-                                 (["locators", "--workers", "2"], f"run 0 2 0 117 {U2} sound\n{OWNER} 1 0 3 {U1} sound\n"),
-                                 (["reclaimable", "--workers", "2"], "")):
-                found = answer(*words, *disk.geometry(), self.room / "disk.img")
-                self.same(f"{len(retired)} retired: {words[0]}", found, (0, lines.encode(), b""))
+
+def fifty_shards():
+    """Each of fifty shards has 64 locators of the one chunk in extent 1. Returns the payload of the run, too."""
+    disk = Disk(64, 3, 4096)
+    chunk = disk.chunk(1, 0, ONES, b"abc")
+    payload = run(*((shard(number), [chunk] * 64) for number in range(1, 51)))
+    return finish(disk, [41, 192_928], [disk.chunk(2, 0, TWOS, payload)]), payload
+
+
+class FiftyShards(CorpusCase):
+    def test_a_chunk_of_fifty_shards_leaves_nothing_to_reclaim(self):
+        disk, payload = fifty_shards()
+        _, image, *_ = self.put(disk)
+        _, out, _ = self.compare(["scan", *image], "03")
+        report = json.loads(out)
+        self.same("payload", len(payload), 192_890)
+        self.same("shards", report["shards"], 50)
+        self.same("shared", report["shared"], [{"count": 3200, "extent": 1, "offset": 0}])
+        self.same("clean", (report["candidates"], report["orphans"], report["clean"]), ([], [], False))
+        self.same("live", [row["live"] for row in report["extents"]], [41, 192_928])
+        self.same("index", answer("index", *image), (1, payload, b""))
+
+    def test_each_of_3201_locators_is_sound_and_in_its_place(self):
+        """That of the run comes first, and then 64 of each shard."""
+        lines = [f"run 0 2 0 192890 {U2} sound\n"]
+        for number in range(1, 51):
+            lines += [f"shard {number:032x} 1 0 3 {U1} sound\n"] * 64
+        self.same("lines", len(lines), 3_201)
+        self.same("locators", answer("locators", *self.put(fifty_shards()[0])[1]), (1, "".join(lines).encode(), b""))
+
+
+def state_in_a_row(number):
+    return "no_frame" if number % 5 == 0 else "not_a_run" if number % 7 == 0 else "read"
+
+
+class Runs(CorpusCase):
+    """Index runs as one thread reads them, and as one on each processor does."""
+
+    def setUp(self):
+        every = sorted(os.sched_getaffinity(0))
+        self.processors = [set(every[:number]) for number in range(1, len(every) + 1)][:IN_A_ROW]
+
+    def test_each_of_32_runs_is_read_or_lost_at_its_place(self):
+        """They are of one shard, or of as many shards. Then each shard that is read has its own locator; nothing is in extent 1."""
+        states = [(2, number * RUN_FRAME + (number % 5 == 0), state_in_a_row(number)) for number in range(IN_A_ROW)]
+        read = [number for number, (_, _, state) in enumerate(states) if state == "read"]
+        for own_shards, processors in product((False, True), (self.processors[0], self.processors[-1])):
+            _, image, *_ = self.put(runs_in_a_row(own_shards))
+            limit = {"preexec_fn": partial(os.sched_setaffinity, 0, processors)}
+            _, out, _ = self.compare(["scan", *image], "03", **limit)
+            found = [(row["extent"], row["offset"], row["state"], row["entries"]) for row in json.loads(out)["runs"]]
+            self.same(f"states, {len(processors)} processors", found, [(*one, 1 if one[2] == "read" else None) for one in states])
+            for command in ("locators", "index"):
+                self.compare([command, *image], **limit)
+            _, out, _ = self.compare(["manifest", *image], **limit)
+            lines = [line.split() for line in out.decode().splitlines() if line.startswith("shard ")]
+            right = [(shard(number).hex(), str(number)) for number in read] if own_shards else [(S1, str(read[0]))]
+            self.same("shards", (len(read), [(line[1], line[7]) for line in lines]), (21, right))
+
+    def test_one_thread_reads_the_runs_of_worked_disks(self):
+        limit = {"preexec_fn": partial(os.sched_setaffinity, 0, self.processors[0])}
+        for make in (lambda: Disk(4, 3), worked.one_shard, lambda: worked.one_shard("2:2"), lambda: worked.one_shard(times=2),
+                     worked.broken_newest_run, worked.deleted_in_the_newest_run):
+            _, image, bad, _ = self.put(make())
+            for command in ("scan", "locators", "index", "manifest"):
+                self.compare([command, *image, *bad], "03", **limit)
+
+    def test_several_threads_read_32_runs(self):
+        """Nothing else in this command starts threads, since no run has the shard."""
+        library = ALLOCATIONS.made(self.room)
+        _, image, *_ = self.put(runs_in_a_row(False))
+        for processors in self.processors:
+            _, found = run_counted(self.program, ["shard", "--id", "f" * 32, "--workers", "0", *image], library, processors=processors)
+            is_right = found is not None and (found.threads > 0) == (len(processors) > 1)
+            self.true(f"{len(processors)} processors", is_right, found)
 
 
 class Loaded(RoomCase):

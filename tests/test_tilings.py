@@ -1,17 +1,13 @@
-"""What is in an extent: the items below its write pointer, its tail and its unreadable pages, on disks made by hand. They are compared
-with the slow reference, and the tails with lines written by hand from docs/FORMAT.md and docs/REPORT.md.
+"""What is in an extent: the items below its write pointer, its tail and its unreadable pages. Under each pointer they are compared with the
+slow reference; some, and the tails, with lines written by hand from docs/FORMAT.md and docs/REPORT.md. Other disks are in the corpus.
 """
 import json
 
-from lib.cases import RoomCase
-from lib.disks import (CLOSING_MARK, DIGEST, MAGIC, ROUND_PAYLOAD, ROUND_SEALED, SEALED_MAGIC, Disk, be, frame, head,
-                       record_head, sealed_frame, uuid)
-from lib.worked import (ENDS_IN_MAGIC, ONES, THREES, TWOS, broken_newest_run, deleted_in_the_newest_run, finish, many_shards,
-                        nine_locators, one_shard, overwritten_end, past_the_pointer, put_run, second_of_two, two_superblocks)
-from reference.shardscrub import answered
+from lib.corpus.extents import TILED, TWO_FRAMES, below, disk_of, extent_of, frames_of_a_page, heads, sealed_heads
+from lib.disks import DIGEST, frame, head, record_head, sealed_frame
+from lib.worked import ENDS_IN_MAGIC, ONES, TWOS, many_shards
+from test_corpus import CorpusCase
 from test_system import answer
-
-RUN = uuid(0xAA)
 
 ABC, SEALED_ABC, EMPTY = frame(ONES, b"abc"), sealed_frame(ONES, b"abc"), frame(ONES, b"")
 ABC_LINE = "chunk 0 41 11111111-1111-1111-1111-111111111111 3"
@@ -19,64 +15,6 @@ ABC_LINE = "chunk 0 41 11111111-1111-1111-1111-111111111111 3"
 RECORD = len(record_head(64, 4, 3, 0)) + DIGEST
 # One worker scans all extents, and keeps its memory from one to the next.
 SCAN = ["scan", "--workers", "0"]
-
-
-def extent_of(*parts, pages=4, page=64):
-    """The bytes of an extent with these parts, each at its offset; later ones are written over earlier ones."""
-    text = bytearray(page * pages)
-    for offset, part in parts:
-        text[offset:offset + len(part)] = part
-    assert len(text) == page * pages
-    return bytes(text)
-
-
-def heads(*more, count=8, magic=MAGIC, around=ROUND_PAYLOAD):
-    """An extent of eight pages with these further parts. Each of the first pages begins with the head of a frame that would end with
-    the extent."""
-    return extent_of(*((64 * number, head(ONES, 512 - 64 * number - around, magic)) for number in range(count)), *more, pages=8)
-
-
-def sealed_heads():
-    """Seven heads of sealed frames. The bytes at their end are there, but no digest is that of its payload."""
-    return heads((494, ONES + CLOSING_MARK), count=7, magic=SEALED_MAGIC, around=ROUND_SEALED)
-
-
-def frames_of_a_page(pages, changed=()):
-    """The parts of an extent whose pages have 128 bytes, and are each a frame: two sealed ones, then a plain one, and so on. In frames
-    of these numbers a byte of the payload was changed."""
-    frames = [frame(TWOS, be(1, n) * 90) if n % 3 == 2 else sealed_frame(ONES, be(1, n) * 56) for n in range(pages)]
-    return [(128 * n, text) for n, text in enumerate(frames)] + [(128 * n + 70, b"changed") for n in changed]
-
-
-def put_touching(disk, extent, changed):
-    """Puts twenty frames of 67 to 301 bytes that touch, all sealed but each fourth. In the one of this number a byte of the payload
-    was changed. Returns their locators."""
-    named, offset = [], 0
-    for number in range(20):
-        name, form = (TWOS, frame) if number % 4 == 3 else (ONES, sealed_frame)
-        named.append(disk.chunk(extent, offset, name, be(1, number) * (29 + number * 83 % 201), form))
-        if number == changed:
-            disk.put(extent, offset + 60, b"changed")
-        offset = disk.pointers[extent - 1]
-    return named
-
-
-def disk_of(contents, pointers=None, page=64):
-    """A disk whose extents from 1 on have these bytes. Without pointers it has no superblock."""
-    disk = Disk(len(contents[0]) // page, len(contents) + 1, page)
-    for extent, text in enumerate(contents, 1):
-        disk.put(extent, 0, text)
-    return disk if pointers is None else finish(disk, pointers, [])
-
-
-def below(pointer, *parts):
-    """A disk of three extents. Extent 1 has these parts and this pointer, and extent 2 has nothing."""
-    return disk_of([extent_of(*parts), b""], [pointer, 0])
-
-
-TWO_LARGE_PAGES = extent_of((0, ABC), (44, frame(TWOS, b"")), (128, frame(THREES, b"abc")), pages=2, page=128)
-GREATEST_LENGTH = [(0, head(ONES, (1 << 32) - 1))]
-TWO_FRAMES = [(0, frame(ONES, b"x" * 12)), (50, ABC)]
 
 # The parts of extents of four pages.
 PARTS = [
@@ -100,133 +38,19 @@ PARTS = [
 # Extents of eight pages: heads whose far end doesn't agree with them, heads whose far end does, and heads of sealed frames.
 OF_HEADS = [heads(), heads((496, ONES)), sealed_heads()]
 
-# Disks, some of them with unreadable pages. The extents of those in the second list are also tiled under each pointer.
-SCANNED = [
-    Disk(4, 3),
-    one_shard(),
-    past_the_pointer(),
-    (below(98, (0, frame(ONES, b"x" * 60))), "1:1"),
-    second_of_two(1),
-    overwritten_end(),
-    second_of_two(1, 2),
-    one_shard(times=2),
-    two_superblocks(7),
-    two_superblocks(8),
-    two_superblocks(8, True),
-    nine_locators(),
-]
-TILED = [
-    below(91, *TWO_FRAMES),
-    below(38, (0, EMPTY)),
-    below(41, (0, ABC)),
-    below(40, (0, ABC)),
-    below(1, (0, ABC)),
-    disk_of([extent_of(*GREATEST_LENGTH), b""]),
-    disk_of([TWO_LARGE_PAGES, b""], [169, 0], page=128),
-    disk_of([heads()]),
-    Disk(4, 4),
-    deleted_in_the_newest_run(),
-    broken_newest_run(),
-    one_shard("2:2", "2:3"),
-    one_shard("0:0", "0:1", "0:2", "0:3"),
-]
 
-# The numbers of pages of an extent whose pages are each a frame, and of the frames in it that were changed.
-CHANGED = [
-    (1, []), (1, [0]),
-    (2, []), (2, [0]), (2, [1]), (2, [0, 1]),
-    (4, []), (4, [0]), (4, [1]), (4, [3]), (4, [1, 3]),
-    (48, []), (48, [0]), (48, [1]), (48, [3]), (48, [24]), (48, [46]),
-    # Plain frames have no seal.
-    (48, [2, 47]),
-    # Two of them, side by side and far apart; and many.
-    (48, [6, 7]), (48, [4, 45]), (48, [0, 1, 3, 4, 6, 7, 9, 10, 12, 13, 15, 16, 18, 19, 21, 22]),
-]
-
-
-def parted(disk):
-    """A disk and its unreadable pages."""
-    disk, *bad = disk if isinstance(disk, tuple) else (disk,)
-    return disk, bad
-
-
-def extents_of(disk):
-    """The bytes of each extent."""
+def extents_of(made):
+    """The bytes of each extent of a disk."""
+    disk = made[0] if isinstance(made, tuple) else made
     size = disk.page * disk.pages
-    return [bytes(disk.bytes[extent * size:(extent + 1) * size]) for extent in range(disk.extents)]
+    return [(disk.page, bytes(disk.bytes[extent * size:(extent + 1) * size])) for extent in range(disk.extents)]
 
 
-class TilingCase(RoomCase):
-    def write(self, disk):
-        """Writes a disk, and returns its sizes and its path as arguments."""
-        path = self.room / "disk.img"
-        path.write_bytes(disk.bytes)
-        return [*disk.geometry(), str(path)]
-
-    def compare(self, *words):
-        """Compares an answer with that of the reference."""
-        self.same(" ".join(words), answer(*words), answered(words))
-
-    def scans(self, disk, *lists):
-        """Scans a disk with each of these lists of unreadable pages."""
-        image = self.write(disk)
-        for bad in lists:
-            self.compare(*SCAN, *image, *bad)
-
-
-class Scans(TilingCase):
-    def test_disks_whole_and_with_each_page_unreadable(self):
-        for disk, bad in map(parted, SCANNED + TILED):
-            pages = (f"{extent}:{page}" for extent in range(disk.extents) for page in range(disk.pages))
-            self.scans(disk, bad, *([*bad, page] for page in pages))
-
-    def test_a_disk_of_forty_extents(self):
-        """What is found in an extent depends on its own pages and pointer alone, so each can have an unreadable page in one scan. The
-        superblock is on pages 0 to 4."""
-        of_superblock = [[f"0:{page}"] for page in range(5)]
-        of_each = [[f"{extent}:{page}" for extent in range(page < 5, 40)] for page in range(64)]
-        self.scans(many_shards(), [], *of_superblock, *of_each)
-
-    def test_wrong_seals_among_right_ones(self):
-        for pages, changed in CHANGED:
-            self.scans(disk_of([extent_of(*frames_of_a_page(pages, changed), pages=pages, page=128)], [128 * pages], 128), [])
-        for changed in range(21):
-            disk = Disk(64, 2)
-            put_touching(disk, 1, changed)
-            self.scans(finish(disk, disk.pointers, []), [])
-
-    def test_extents_that_are_scanned_in_the_same_memory(self):
-        """Wrong seals among right ones, with and without an unreadable page, and then heads of both forms, eight times."""
-        for page in (64, 128):
-            disk, bad = Disk(4096 // page, 41, page), []
-            for changed in range(8):
-                first = 5 * changed + 1
-                for extent in (first, first + 1):
-                    for part in frames_of_a_page(16, [changed]):
-                        disk.put(extent, *part)
-                put_touching(disk, first + 2, changed)
-                disk.put(first + 3, 0, heads())
-                disk.put(first + 4, 0, sealed_heads())
-                disk.pointers[first - 1:first + 1] = [2048, 2048]
-                disk.pointers[first + 2:first + 4] = [512, 512]
-                bad.append(f"{first + 1}:11")
-            self.scans(finish(disk, disk.pointers, []), [], bad)
-
-    def test_the_digests_of_chunks(self):
-        """One shard names each frame, though some seals are wrong, and another one names each with a wrong digest."""
-        disk = Disk(64, 6)
-        named = [one for extent, changed in ((1, None), (2, 5), (3, 6)) for one in put_touching(disk, extent, changed)]
-        wrong = [one[:-DIGEST] + bytes(DIGEST) for one in named]
-        runs = [put_run(disk, 4, 0, RUN, *named), put_run(disk, 5, 0, RUN, *wrong, number=2)]
-        self.compare("locators", "--workers", "0", *self.write(finish(disk, disk.pointers, runs)))
-
-
-class Tilings(TilingCase):
+class Tilings(CorpusCase):
     def contents(self):
         """The page size and the bytes of each extent, each pair once."""
         found = [(64, extent_of(*parts)) for parts in PARTS] + [(64, text) for text in OF_HEADS]
-        found += [(disk.page, text) for disk, _ in map(parted, TILED) for text in extents_of(disk)]
-        return list(dict.fromkeys(found))
+        return list(dict.fromkeys([*found, *(one for make in TILED.values() for one in extents_of(make()))]))
 
     def under_each_pointer(self, page, text, *lists):
         """Scans disks whose extents all have these bytes. Each extent has another pointer, from 0 on to the end. Each list has the
@@ -235,8 +59,9 @@ class Tilings(TilingCase):
         for first in range(0, len(text) + 1, most):
             pointers = range(first, min(first + most, len(text) + 1))
             extents = range(1, len(pointers) + 1)
-            self.scans(disk_of([text] * len(pointers), pointers, page),
-                       *([f"{extent}:{number}" for extent in extents for number in bad] for bad in lists))
+            _, image, *_ = self.put(disk_of([text] * len(pointers), pointers, page))
+            for bad in lists:
+                self.compare([*SCAN, *image, *(f"{extent}:{number}" for extent in extents for number in bad)])
 
     def test_each_pointer_with_each_page_unreadable(self):
         for page, text in self.contents():
@@ -246,20 +71,20 @@ class Tilings(TilingCase):
         for changed in ([], [4], [3, 6]):
             self.under_each_pointer(128, extent_of(*frames_of_a_page(8, changed), pages=8, page=128), [])
 
-    def test_items_of_each_extent(self):
-        for disk, bad in map(parted, SCANNED + TILED):
-            image = self.write(disk)
-            for extent in range(disk.extents):
-                self.compare("items", "--extent", str(extent), *image, *bad)
+    def test_a_disk_of_forty_extents(self):
+        """What is found in an extent depends on its own pages and pointer alone, so each can have an unreadable page in one scan. The
+        superblock is on pages 0 to 4."""
+        _, image, *_ = self.put(many_shards())
+        for bad in ([], *([f"0:{page}"] for page in range(5)), *([f"{extent}:{page}" for extent in range(page < 5, 40)] for page in range(64))):
+            self.compare([*SCAN, *image, *bad])
 
     def test_items_under_a_pointer(self):
         """Some pointers, on the whole disk and with each page unreadable in turns."""
         for page, text in self.contents():
-            image = self.write(disk_of([text], page=page))
+            _, image, *_ = self.put(disk_of([text], page=page))
             for turn, pointer in enumerate(range(0, len(text) + 1, 23)):
                 number = turn % (len(text) // page + 1)
-                bad = [f"1:{number - 1}"] if number else []
-                self.compare("items", "--extent", "1", "--pointer", str(pointer), *image, *bad)
+                self.compare(["items", "--extent", "1", "--pointer", str(pointer), *image, *[f"1:{number - 1}"] * (number > 0)])
 
 
 # The parts of an extent, its unreadable pages, its pointer, and the lines of its items.
@@ -284,12 +109,12 @@ CLAIMS = [
 ]
 
 
-class Items(TilingCase):
+class Items(CorpusCase):
     """The lines of an extent, by hand."""
 
     def listed(self, text, pointer, lines, bad=()):
         """Checks the lines of extent 1 of a disk without a superblock."""
-        words = ["--extent", "1", "--pointer", str(pointer), *self.write(disk_of([text])), *(f"1:{page}" for page in bad)]
+        words = ["--extent", "1", "--pointer", str(pointer), *self.put(disk_of([text]))[1], *(f"1:{page}" for page in bad)]
         is_good = not any(line.startswith(("torn ", "noise ", "lost ")) for line in lines)
         self.same(f"the items under {pointer} without {bad}", answer("items", *words),
                   (0 if is_good else 1, "".join(f"{line}\n" for line in lines).encode(), b""))
@@ -313,10 +138,10 @@ class Items(TilingCase):
             self.listed(extent_of((0, head(bytes(16), length))), 256, lines)
 
 
-class Findings(TilingCase):
+class Findings(CorpusCase):
     def found(self, parts, pointer, bad, items, tail=0, first=None):
         """Checks what a scan of extent 1 finds with these unreadable pages, and that one of extent 2 finds nothing."""
-        image = self.write(below(pointer, *parts))
+        _, image, *_ = self.put(below(pointer, *parts))
         _, out, _ = answer(*SCAN, *image, *(f"1:{page}" for page in bad))
         rows = [[row[key] for key in ("extent", "pointer", "items", "tail", "tail_at", "bad")] for row in json.loads(out)["extents"]]
         right = [[1, pointer, items, tail, first, bad], [2, 0, [], 0, None, []]]
