@@ -23,7 +23,7 @@ WITHOUT_GROWTH = {"ExtentQueue::split"}
 # These look as if they took memory, but take none: an empty list, the contents of a list, a fault of another kind.
 TAKING_NONE = {"Batch::new", "Workspace::new", "WorkerCore::new", "Geometry::new", "fill", "write_out"}
 # Functions that no command makes, each with the call that makes it.
-WITHIN_CALLS = {"Entry::copy": "merge", "scan_by_one": "scrub_in_order"}
+WITHIN_CALLS = {"Entry::copy": "merge", "LocatorIndex::of": "orphans", "scan_by_one": "scrub_in_order"}
 # Functions that are tried in whole runs alone, each with a command line of tests/test_memory.py that makes it.
 IN_RUNS = {
     "Batch::append": "locators with a spare",
@@ -49,7 +49,7 @@ IN_RUNS = {
     "RunWriter::finish": "index of several findings",
     "merge_by_threads": "scan",
     "liveness_by": "scan",
-    "LocatorIndex::of": "summary",
+    "LocatorIndex::by_threads": "summary",
     "twins_by_threads": "scan",
     "Spares::of": "locators with a spare",
     "Spares::among": "reclaimable",
