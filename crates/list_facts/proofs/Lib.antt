@@ -5,6 +5,8 @@
 pub mod Bools
 pub mod Decisions
 pub mod Options
+-- conditions that exactly one value meets
+pub mod OneAnswers
 -- how two values compare, and quotients
 pub mod Orders
 pub mod Arithmetic

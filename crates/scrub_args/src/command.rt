@@ -28,7 +28,7 @@ use std::alloc::{AllocError, Global};
 const PROGRAM: &str = "shardscrub";
 
 /// The program's name and version, as a line.
-pub const VERSION: &str = "shardscrub 4.1.1\n";
+pub const VERSION: &str = "shardscrub 4.1.2\n";
 
 /// The command that prints the report of a disk.
 pub const SCAN: &str = "scan";
@@ -168,7 +168,8 @@ fn disk_command<'a>(
     with_image(alloc, command)
 }
 
-/// A command like those of `disk_command` whose sizes may be left out, since only a person reads what it prints.
+/// A command like those of `disk_command` whose sizes may be left out, since only a person reads what it
+/// prints.
 fn command_without_sizes<'a>(
     alloc: Global,
     name: &'a str,

@@ -666,8 +666,8 @@ pub(crate) const ID_HELP: &str =
     "Identifier of the shard: 32 hexadecimal digits, as locators prints them";
 
 pub(crate) const RUN_HELP: &str =
-    "Place of an index run to go by in place of any superblock; of several, whose order is yours to judge, the \
-     newest first. May be repeated";
+    "Place of an index run to go by in place of any superblock; of several, whose order is yours to judge, \
+     the newest first. May be repeated";
 
 pub(crate) const PARTIAL_HELP: &str =
     "Also write what is there of a shard that lacks payloads: a file ID.NUMBER for each payload";

@@ -7,10 +7,13 @@ pub mod Payloads
 pub mod RunStates
 pub mod Listed
 pub mod RunsApart
+pub mod IndexRuns
 -- the status of a locator
+pub mod StatusKinds
 pub mod ClaimedFrames
 pub mod Gaps
 pub mod StatusByFrame
+pub mod StatusThere
 pub mod OneStatus
 pub mod OpenPlaces
 pub mod JudgedPlaces
@@ -40,8 +43,6 @@ pub mod SameUuids
 pub mod Sizes
 pub mod Reclaimable
 pub mod KeptChunks
--- worked examples; that there is one answer
-pub mod Examples
 pub mod OneList
-pub mod StatusThere
-pub mod ListsThere
+-- worked examples
+pub mod Examples

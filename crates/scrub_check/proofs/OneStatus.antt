@@ -11,6 +11,7 @@ use Rattle.scrub_check.specs.declared.statuses.status.Status.{Status}
 use Rattle.scrub_check.specs.declared.statuses.status.Status.TheVariants.{OutOfRange, Retired, PastPointer, Unreadable, NoFrame, WrongUuid, WrongLength, WrongDigest, Hidden, Sound}
 use Rattle.scrub_check.specs.Status.{end_of, InRange, HasUnreadableByte, CanStand, FindsFrame, NamesChunk, BeginsAt, HasStatus, HasStatusInRetired, HasStatusIn, is_retired, ExactlyOne}
 use Rattle.scrub_check.proofs.RunStates.{HasStatusInUse, unnamed}
+use Rattle.scrub_check.proofs.StatusThere.{some_status}
 
 -- a frame of the locator's UUID, of either form, is there
 abbrev HasUuid : Image → ℕ → Locator → Type 0
@@ -93,57 +94,9 @@ one_status_lem image w l s t h k =
     same_after_test WrongDigest s t _ _ _ (
     same_after_test Hidden s t _ _ _ (λ a b. sym a ∙ b)))))))) (by_tests image w l s h) (by_tests image w l t k)
 
--- no status at all
-abbrev NoStatus : Image → ℕ → Locator → Type 0
-NoStatus image w l = (s : Status) → ¬ HasStatus image w l s
-
-chunk_judged : (image : Image) (w : ℕ) (l : Locator) → NoStatus image w l → ¬ NamesChunk image w l
-chunk_judged image w l none n = none Hidden (n, λ begins. none Sound (n, begins))
-
-frame_judged : (image : Image) (w : ℕ) (l : Locator) (b : List ℕ) → NoStatus image w l → ¬ FindsFrame image w l l.uuid b
-frame_judged image w l b none f =
-    none WrongLength (
-      b,
-      f,
-      λ same. none WrongDigest (
-        b,
-        f,
-        same,
-        λ digest.
-            chunk_judged image w l none (record { payload = b; found = f; length = same; digest = digest }),
-      ),
-    )
-
-place_judged : (image : Image) (w : ℕ) (l : Locator) → NoStatus image w l → ¬ CanStand image w l
-place_judged image w l none can =
-    none NoFrame (
-      can,
-      λ g u b f. none WrongUuid (
-        u,
-        (
-          b,
-          record { can = can; form = g; frame = f },
-          λ same.
-              frame_judged image w l b none (record { can = can; form = g; frame = rw same at f }),
-        ),
-      ),
-    )
-
-some_status_lem : (image : Image) (w : ℕ) (l : Locator) → ¬ NoStatus image w l
-some_status_lem image w l none =
-    none OutOfRange (λ in_range. none PastPointer (
-      in_range,
-      λ below.
-          place_judged image w l none (record {
-            in_range = in_range;
-            below = below;
-            readable = λ gap. none Unreadable (in_range, below, gap);
-          }),
-    ))
-
 -- Under a write pointer a locator has exactly one status.
 pub one_under_pointer : (image : Image) (w : ℕ) (l : Locator) → ExactlyOne (HasStatus image w l)
-one_under_pointer image w l = record { one = one_status_lem image w l; some = some_status_lem image w l }
+one_under_pointer image w l = record { one = one_status_lem image w l; some = λ none. none (some_status image w l).0 (some_status image w l).1 }
 
 -- in a retired extent there is one test
 by_range : (image : Image) (l : Locator) (s : Status) → HasStatusInRetired image l s →

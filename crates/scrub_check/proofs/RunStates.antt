@@ -1,5 +1,5 @@
 -- Which statuses say that the chunk that a locator names is there.
-use Rattle.std.proofs.Common.{ap, Bool, false, inl, inr, length, List, MatchBool, MatchOption, refl, true, ℕ, ◌∙◌, ◌≡◌, ◌⊎◌}
+use Rattle.std.proofs.Common.{ap, Bool, false, inl, inr, length, List, MatchBool, MatchOption, refl, sym, true, ℕ, ◌∙◌, ◌≡◌, ◌⊎◌}
 use Rattle.std.proofs.lemmas.Bool.{false≢true}
 use Rattle.scrub_disk.specs.Image.{Image}
 use Rattle.scrub_frame.specs.declared.locator.Locator.{Locator}
@@ -9,21 +9,18 @@ use Rattle.scrub_scan.specs.Extent.{extent_of}
 use Rattle.scrub_scan.specs.steps.OneFrame.{one_frame_at}
 use Rattle.scrub_check.specs.declared.statuses.status.Status.{Status}
 use Rattle.scrub_check.specs.declared.statuses.status.Status.TheVariants.{OutOfRange, Retired, PastPointer, Unreadable, NoFrame, WrongUuid, WrongLength, WrongDigest, Hidden, Sound}
-use Rattle.scrub_check.specs.Checked.{is_sound}
+use Rattle.scrub_check.specs.Checked.{is_dangling, is_sound}
 use Rattle.scrub_check.specs.Status.{NamesChunk, HasStatus, HasStatusInRetired, HasStatusIn, is_retired}
+use Rattle.scrub_check.proofs.StatusKinds.{dangling_is_neither, status_kinds}
 
 -- the status for which the test holds
 pub Sound_from_is_sound : (s : Status) → is_sound s ≡ true → s ≡ Sound
-Sound_from_is_sound Sound e = refl
-Sound_from_is_sound OutOfRange e = absurd (false≢true e)
-Sound_from_is_sound Retired e = absurd (false≢true e)
-Sound_from_is_sound PastPointer e = absurd (false≢true e)
-Sound_from_is_sound Unreadable e = absurd (false≢true e)
-Sound_from_is_sound NoFrame e = absurd (false≢true e)
-Sound_from_is_sound WrongUuid e = absurd (false≢true e)
-Sound_from_is_sound WrongLength e = absurd (false≢true e)
-Sound_from_is_sound WrongDigest e = absurd (false≢true e)
-Sound_from_is_sound Hidden e = absurd (false≢true e)
+Sound_from_is_sound s sound = by (status_kinds s)
+  where
+    by : (s ≡ Sound) ⊎ ((s ≡ Hidden) ⊎ (is_dangling s ≡ true)) → s ≡ Sound
+    by (inl is) = is
+    by (inr (inl hidden)) = absurd (false≢true (sym (ap is_sound hidden) ∙ sound))
+    by (inr (inr dangles)) = absurd (false≢true (sym (dangling_is_neither s dangles).0 ∙ sound))
 
 -- a sound or hidden locator names a chunk
 pub named : (image : Image) (w : ℕ) (l : Locator) (s : Status) → (s ≡ Sound) ⊎ (s ≡ Hidden) → HasStatus image w l s →

@@ -3,7 +3,7 @@ use Rattle.std.proofs.Common.{◌≡◌, ◌<◌, ◌+◌, ◌++◌, ◌∷◌, 
 use Rattle.std.proofs.Math.Path.{ap₂}
 use Rattle.std.specs.List.{filter, flat_map, list_any, AllZip}
 use Rattle.std.specs.List.Sorted.{IsPermutation}
-use Rattle.std.proofs.lemmas.Bool.{false≢true}
+use Rattle.std.proofs.lemmas.Bool.{and_parts, false_from_ne_true, false≢true}
 use Rattle.std.specs.declared.vec.Vec.{Vec}
 use Rattle.std.proofs.lemmas.Grind.{flat_map-append}
 use Rattle.std.proofs.lemmas.List.{map-append, take_more}
@@ -33,6 +33,7 @@ use Rattle.scrub_check.specs.steps.SoundAndOthers.{AreApart, IsApart, unsound}
 use Rattle.scrub_check.specs.steps.SoundPlaces.{place_of_checked}
 use Rattle.scrub_check.proofs.CheckedLists.{one_list_of_checked}
 use Rattle.scrub_check.proofs.RunStates.{Sound_from_is_sound}
+use Rattle.scrub_check.proofs.StatusKinds.{dangling_is_neither}
 use Rattle.scrub_check.proofs.StatusThere.{some_in_plan}
 
 -- ---- one locator
@@ -71,11 +72,7 @@ other_with image plan n known s has other told = record {
 }
 
 not_sound : (s : Status) → ¬ (s ≡ Sound) → is_sound s ≡ false
-not_sound s other = by (is_sound s) refl
-  where
-    by : (b : Bool) → is_sound s ≡ b → is_sound s ≡ false
-    by true is = absurd (other (Sound_from_is_sound s is))
-    by false is = is
+not_sound s other = false_from_ne_true (is_sound s) (λ sound. other (Sound_from_is_sound s sound))
 
 -- a locator whose place has to be read isn't sound, since no item begins there
 open_other : (image : Image) (plan : PlanValue) (l : Locator) (s : Status) → IsOpen image plan l → HasStatusIn image plan l s → ¬ (s ≡ Sound)
@@ -169,25 +166,13 @@ any_within p q each (x ∷ xs) = by (p x) (q x) refl refl (any_within p q each x
     by false false is kept rest = rw (is, kept) rest
 
 dangling_unsound : (s : Status) → is_dangling s ≡ true → not (is_sound s) ≡ true
-dangling_unsound s is = by (is_sound s) refl
-  where
-    by : (b : Bool) → is_sound s ≡ b → not (is_sound s) ≡ true
-    by true sound = absurd (false≢true (sym (ap (λ b. not b && not (is_hidden s)) sound) ∙ is))
-    by false other = ap not other
+dangling_unsound s is = ap not (dangling_is_neither s is).0
 
 hidden_unsound : (s : Status) → is_hidden s ≡ true → not (is_sound s) ≡ true
-hidden_unsound s is = by (is_sound s) refl
-  where
-    by : (b : Bool) → is_sound s ≡ b → not (is_sound s) ≡ true
-    by true sound = absurd (false≢true (sym (ap is_hidden (Sound_from_is_sound s sound)) ∙ is))
-    by false other = ap not other
+hidden_unsound s is = ap not (not_sound s (λ sound. false≢true (sym (ap is_hidden sound) ∙ is)))
 
 broken_unsound : (id : ShardId) (c : Checked) → (is_owned_by id c.owner && is_dangling c.status) ≡ true → not (is_sound c.status) ≡ true
-broken_unsound id c is = by (is_owned_by id c.owner) refl
-  where
-    by : (b : Bool) → is_owned_by id c.owner ≡ b → not (is_sound c.status) ≡ true
-    by true owned = dangling_unsound c.status (sym (ap (λ b. b && is_dangling c.status) owned) ∙ is)
-    by false other = absurd (false≢true (sym (ap (λ b. b && is_dangling c.status) other) ∙ is))
+broken_unsound id c is = dangling_unsound c.status (and_parts (is_owned_by id c.owner) (is_dangling c.status) is).1
 
 pub dangling_within : (checked : List Checked) → dangling (unsound checked) ≡ dangling checked
 dangling_within checked =

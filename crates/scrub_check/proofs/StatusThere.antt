@@ -1,8 +1,6 @@
--- Each test of a locator is decided, so each locator has a status; and each index run that a plan names was read or lost.
-use Rattle.std.proofs.Common.{◌≡◌, ◌⊎◌, ◌<◌, ◌≤◌, ◌+◌, ◌-◌, ℕ, suc, Bool, true, false, List, [], ◌∷◌, map, zip, length, Contains, arith, refl, sym, ◌∙◌, ap, subst, Option, Some, None, MatchBool, MatchOption, inl, inr}
-use Rattle.std.specs.List.{AllZip}
+-- Each test of a locator is decided, so each locator has a status; and the run of each was read or is lost.
+use Rattle.std.proofs.Common.{◌≡◌, ◌⊎◌, ◌<◌, ◌≤◌, ◌+◌, ◌-◌, ℕ, Bool, true, false, List, map, length, Contains, arith, refl, sym, ◌∙◌, ap, subst, Option, Some, None, MatchBool, MatchOption, inl, inr}
 use Rattle.std.proofs.lemmas.Bool.{false≢true}
-use Rattle.std.proofs.lemmas.List.Elements.{All-cons, All-nil}
 use Rattle.std.proofs.lemmas.Option.{none-some, same_Some}
 use Rattle.sha2.specs.Sha256.{sha256}
 use Rattle.list_facts.proofs.Decisions.{Decided, decided_at_most, decided_both, decided_less, decided_like, decided_none, decided_number, decided_numbers, some_below, some_element}
@@ -19,16 +17,15 @@ use Rattle.scrub_scan.proofs.Tilings.{one_tiling}
 use Rattle.scrub_run.specs.Entry.{EntryValue}
 use Rattle.scrub_run.specs.Run.{IsRun}
 use Rattle.scrub_run.proofs.RunsThere.{some_run}
-use Rattle.scrub_check.specs.declared.named.Named.{Named}
 use Rattle.scrub_check.specs.declared.runs.RunState.{RunState}
 use Rattle.scrub_check.specs.declared.runs.RunState.TheVariants.{Read, BadChunk, NotARun}
-use Rattle.scrub_check.specs.declared.statuses.checked.Checked.{Checked}
 use Rattle.scrub_check.specs.declared.statuses.status.Status.{Status}
 use Rattle.scrub_check.specs.declared.statuses.status.Status.TheVariants.{OutOfRange, Retired, PastPointer, Unreadable, NoFrame, WrongUuid, WrongLength, WrongDigest, Hidden, Sound}
-use Rattle.scrub_check.specs.Checked.{AreChecked}
-use Rattle.scrub_check.specs.Runs.{NamesChunkIn, HasRunIn, ReadRunsValue, AreReadRuns}
+use Rattle.scrub_check.specs.Checked.{is_dangling}
+use Rattle.scrub_check.specs.Runs.{NamesChunkIn, HasRunIn}
 use Rattle.scrub_check.specs.Status.{end_of, InRange, HasUnreadableByte, CanStand, FindsFrame, NamesChunk, BeginsAt, HasStatus, HasStatusInRetired, HasStatusIn, is_retired}
-use Rattle.scrub_check.proofs.RunStates.{HasStatusInUse, unnamed}
+use Rattle.scrub_check.proofs.RunStates.{HasStatusInUse, named, unnamed}
+use Rattle.scrub_check.proofs.StatusKinds.{status_kinds}
 
 -- ---- under a write pointer
 
@@ -120,19 +117,14 @@ module _ (image : Image) (w : ℕ) (l : Locator) where
 
   -- whether the locator names a chunk
   decided_named : Decided (NamesChunk image w l)
-  decided_named = by some_status.0 some_status.1
+  decided_named = by (status_kinds some_status.0)
     where
-      by : (s : Status) → HasStatus image w l s → Decided (NamesChunk image w l)
-      by OutOfRange h = inr (unnamed image w l OutOfRange (λ e. cc) (λ e. cc) h)
-      by Retired h = absurd h
-      by PastPointer h = inr (unnamed image w l PastPointer (λ e. cc) (λ e. cc) h)
-      by Unreadable h = inr (unnamed image w l Unreadable (λ e. cc) (λ e. cc) h)
-      by NoFrame h = inr (unnamed image w l NoFrame (λ e. cc) (λ e. cc) h)
-      by WrongUuid h = inr (unnamed image w l WrongUuid (λ e. cc) (λ e. cc) h)
-      by WrongLength h = inr (unnamed image w l WrongLength (λ e. cc) (λ e. cc) h)
-      by WrongDigest h = inr (unnamed image w l WrongDigest (λ e. cc) (λ e. cc) h)
-      by Hidden h = inl h.0
-      by Sound h = inl h.0
+      by : (some_status.0 ≡ Sound) ⊎ ((some_status.0 ≡ Hidden) ⊎ (is_dangling some_status.0 ≡ true)) → Decided (NamesChunk image w l)
+      by (inl is) = inl (named image w l some_status.0 (inl is) some_status.1)
+      by (inr (inl is)) = inl (named image w l some_status.0 (inr is) some_status.1)
+      by (inr (inr dangles)) =
+          inr (unnamed image w l some_status.0 (λ is. false≢true (sym (ap is_dangling is) ∙ dangles))
+          (λ is. false≢true (sym (ap is_dangling is) ∙ dangles)) some_status.1)
 
 -- ---- by a plan
 
@@ -175,7 +167,8 @@ decided_named_in image plan l = by_use (is_retired plan l.extent) refl
 
 -- ---- index runs
 
-some_run_in : (image : Image) (plan : PlanValue) (l : Locator) →
+-- a run that a locator names was read, or is lost
+pub some_run_in : (image : Image) (plan : PlanValue) (l : Locator) →
     (run : Option (List EntryValue)) × (state : RunState) × HasRunIn image plan l run state
 some_run_in image plan l = by (decided_named_in image plan l)
   where
@@ -188,36 +181,3 @@ some_run_in image plan l = by (decided_named_in image plan l)
             (run : Option (List EntryValue)) × (state : RunState) × HasRunIn image plan l run state
         by_payload (inl x) = (Some x.0, Read, (names, x.1))
         by_payload (inr none) = (None, NotARun, (names, none))
-
-runs_of : (image : Image) (plan : PlanValue) (ls : List Locator) →
-    (runs : List (Option (List EntryValue))) × (states : List RunState) × (length states ≡ length runs)
-    × AllZip (λ l (x : Option (List EntryValue) × RunState). HasRunIn image plan l x.0 x.1) ls (zip runs states)
-runs_of image plan [] = ([], [], refl, tt)
-runs_of image plan (l ∷ ls) =
-    let first = some_run_in image plan l in
-    let rest = runs_of image plan ls in
-    (first.0 ∷ rest.0, first.1 ∷ rest.1, ap suc rest.2, (first.2, rest.3))
-
--- runs that a plan names are read or lost
-pub some_read_runs : (image : Image) (plan : PlanValue) → (r : ReadRunsValue) × AreReadRuns image plan r
-some_read_runs image plan =
-    let all = runs_of image plan plan.runs in
-    (record { runs = all.0; states = all.1 }, record { same = all.2; each = all.3 })
-
--- ---- named locators
-
--- named locators can be checked
-pub some_checked : (image : Image) (plan : PlanValue) (names : List Named) →
-    (checked : List Checked) × AreChecked image plan names checked
-some_checked image plan [] =
-    ([], record { same = refl; statuses = All-nil (λ (c : Checked). HasStatusIn image plan c.locator c.status) })
-some_checked image plan (n ∷ ns) =
-    let s = some_in_plan image plan n.locator in
-    let rest = some_checked image plan ns in
-    let first : Checked = record { owner = n.owner; locator = n.locator; status = s.0 } in (
-      first ∷ rest.0,
-      record {
-        same = ap (λ (ms : List Named). n ∷ ms) rest.1.same;
-        statuses = All-cons (λ (c : Checked). HasStatusIn image plan c.locator c.status) first rest.0 s.1 rest.1.statuses;
-      },
-    )

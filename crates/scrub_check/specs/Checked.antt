@@ -29,7 +29,7 @@ HaveStatuses image plan checked = All (λ c. HasStatusIn image plan c.locator c.
 
 -- these named locators in their order, each with its status
 pub record AreChecked (image : Image) (plan : PlanValue) (names : List Named) (checked : List Checked) : Type 0 where
-  pub same : map named_of checked ≡ names
+  pub same : map (λ c. record { owner = c.owner; locator = c.locator }) checked ≡ names
   pub statuses : All (λ c. HasStatusIn image plan c.locator c.status) checked
 
 -- the status is sound

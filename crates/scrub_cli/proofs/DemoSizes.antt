@@ -8,8 +8,9 @@ use Rattle.scrub_disk.specs.declared.geometry.Geometry.{Geometry}
 use Rattle.scrub_frame.specs.declared.locator.Locator.{Locator}
 use Rattle.scrub_frame.specs.Locator.{locator_bytes}
 use Rattle.scrub_frame.proofs.Locators.{length-locators}
-use Rattle.scrub_run.specs.Entry.{EntryValue, entry_bytes, IsEntry}
-use Rattle.scrub_run.specs.Run.{run_body, IsRun}
+use Rattle.scrub_run.specs.Entry.{EntryValue}
+use Rattle.scrub_run.specs.Run.{IsRun}
+use Rattle.scrub_run.specs.steps.Parts.{entry_bytes, IsEntry, run_body}
 use Rattle.scrub_super.specs.Contents.{Contents}
 use Rattle.scrub_super.specs.Record.{record_bytes, AreContents}
 use Rattle.scrub_super.proofs.RecordParts.{length_record}
@@ -34,8 +35,8 @@ run_size e payload one is =
           arith,
           length-append (entry_bytes e) [],
           length-append e.id.0 (length e.locators ∷ flat_map locator_bytes e.locators),
-          length-locators e.locators entry.each,
-          entry.sixteen,
+          length-locators e.locators entry.2,
+          entry.0,
           one,
         )
 

@@ -1,7 +1,7 @@
 //! The commands, with the answer of each, and what they share: `opened` opens the map and the image that the
 //! arguments name, `geometry` finds the sizes, `disk_image` loads the disk, `disk_extent` one extent of it,
-//! `given_runs` finds the index runs that they give, `rescue` reads the map of a rescue, `remarks` has the lines
-//! beside an answer, and `answer` makes the answers.
+//! `given_runs` finds the index runs that they give, `rescue` reads the map of a rescue, `remarks` has the
+//! lines beside an answer, and `answer` makes the answers.
 
 pub(crate) mod answer;
 pub(crate) mod compare;

@@ -66,8 +66,8 @@ fn write_answer<O: Write, E: Write>(answer: &Answer, out: &mut O, err: &mut E) -
 }
 
 /// Runs the command that the arguments name; the program's name isn't one of them. The answer is written to
-/// `out` once all of it is in memory. Help, faults, and the lines of `shard`, `shards`, `manifest` and `sizes`
-/// are written to `err`, whose own failures are ignored.
+/// `out` once all of it is in memory. Help, faults, and the lines of `shard`, `shards`, `manifest` and
+/// `sizes` are written to `err`, whose own failures are ignored.
 ///
 /// The statuses: 0 clean, help or version; 1 findings, a shard that can't be had, or such lines; 2 invalid
 /// arguments or map, or an index run that isn't there; 3 the map or the image can't be opened, the image

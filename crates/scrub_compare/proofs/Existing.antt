@@ -4,7 +4,7 @@ use Rattle.std.proofs.Common.{◌≡◌, ◌⊎◌, ◌<◌, ◌≤◌, ◌+◌,
 use Rattle.std.specs.List.{range_with_len}
 use Rattle.std.proofs.lemmas.Bool.{cases_lt}
 use Rattle.std.proofs.lemmas.List.FromFn.{get_or-map-range_with_len, length-map-range_with_len}
-use Rattle.std.proofs.lemmas.Option.{get_or_from_slice_get, none-some, slice_get_within}
+use Rattle.std.proofs.lemmas.Option.{get_or_from_slice_get, slice_get_within}
 use Rattle.list_facts.proofs.Decisions.{Decided, decided_at_most, decided_both, decided_less, decided_like, decided_not, decided_some, first_below}
 use Rattle.list_facts.proofs.Sorting.{sorted_once}
 use Rattle.scrub_disk.specs.Image.{Image, image_byte, extent_bytes}
@@ -19,7 +19,7 @@ use Rattle.scrub_found.proofs.GivenPlans.{plan_but_fits}
 use Rattle.scrub_compare.specs.Compare.{AreBoundIds, AreCompared, Compared, IsComparison, comparison_text, is_safe}
 use Rattle.scrub_compare.specs.Written.{AreFirstWritten, IsChanged, IsLeastNumber, IsWrittenIn, IsWrittenInRecords, IsZeroNow, MayChangeInRoom, pointer_in, room_at}
 use Rattle.scrub_compare.proofs.BoundIds.{bound_found}
-use Rattle.scrub_compare.proofs.ChangedBytes.{none_past}
+use Rattle.scrub_compare.proofs.ChangedBytes.{none_past, same_or_other}
 
 -- ---- which bytes may not have changed
 
@@ -28,18 +28,13 @@ decided_either (inl p) d = inl (inl p)
 decided_either (inr n) (inl q) = inl (inr q)
 decided_either (inr n) (inr m) = inr (λ s. elim s [ inl p ↦ n p | inr q ↦ m q ])
 
-decided_options : (a b : Option ℕ) → Decided (a ≡ b)
-decided_options None None = inl refl
-decided_options (Some v) None = inr (λ e. none-some v (sym e))
-decided_options a (Some v) = decided_some a v
-
 module _ (before after : Image) where
   decided_changed : (x p : ℕ) → Decided (IsChanged before after x p)
-  decided_changed x p = decided_not (decided_options (image_byte before x p) (image_byte after x p))
+  decided_changed x p = decided_not (same_or_other (image_byte before x p) (image_byte after x p))
 
   decided_zero : (x p : ℕ) → Decided (IsZeroNow before after x p)
   decided_zero x p =
-      decided_like (decided_both (decided_not (decided_options (image_byte before x p) None)) (decided_some (image_byte after x p) 0))
+      decided_like (decided_both (decided_not (same_or_other (image_byte before x p) None)) (decided_some (image_byte after x p) 0))
       (λ h. record { was_readable = h.0; is_zero = h.1 })
       (λ z. (z.was_readable, z.is_zero))
 

@@ -1,5 +1,5 @@
 -- What is safe keeps the manifest, but that fewer runs may be hidden, and last words may rise.
-use Rattle.std.proofs.Common.{◌≡◌, ◌⊎◌, ◌<◌, ◌≤◌, ◌+◌, ◌++◌, ◌∷◌, [], ℕ, suc, Bool, true, false, List, Option, Some, None, codes, length, get_or, map, max, arith, refl, sym, ◌∙◌, ap, subst, inl, inr, if◌then◌else◌, option_map, append-nil, append_assoc}
+use Rattle.std.proofs.Common.{◌≡◌, ◌⊎◌, ◌<◌, ◌≤◌, ◌+◌, ◌&&◌, ◌++◌, ◌∷◌, [], ℕ, suc, Bool, true, false, List, Option, Some, None, codes, length, get_or, map, max, not, arith, refl, sym, ◌∙◌, ap, subst, inl, inr, if◌then◌else◌, option_map, append-nil, append_assoc}
 use Rattle.std.specs.List.{AllZip, enumerate_from, range_with_len, slice_get}
 use Rattle.std.specs.Str.{bytes_eq}
 use Rattle.std.proofs.Math.Nat.{le-max_left, le-max_right}
@@ -8,15 +8,14 @@ use Rattle.std.proofs.lemmas.List.FromFn.{get_or-range_with_len, length-range_wi
 use Rattle.std.proofs.lemmas.Option.{none-some, same_Some, slice_get-get_or, slice_get_past, slice_get_within}
 use Rattle.std.proofs.lemmas.Slice.Eq.{bytes_eq-Decides}
 use Rattle.scrub_check.specs.declared.statuses.checked.Checked.{Checked}
-use Rattle.scrub_check.specs.declared.statuses.status.Status.{Status}
-use Rattle.scrub_check.specs.declared.statuses.status.Status.TheVariants.{OutOfRange, Retired, PastPointer, Unreadable, NoFrame, WrongUuid, WrongLength, WrongDigest, Hidden, Sound}
-use Rattle.scrub_check.specs.Checked.{is_dangling, is_sound}
+use Rattle.scrub_check.specs.Checked.{is_hidden, is_sound}
 use Rattle.scrub_check.specs.ChunkForms.{form_at}
 use Rattle.scrub_scan.specs.declared.standing.Standing.{Standing}
 use Rattle.scrub_loose.specs.declared.copies.BestCopy.{BestCopy}
 use Rattle.scrub_loose.specs.declared.copies.BestCopy.TheVariants.{Nowhere, Loose, Spare}
 use Rattle.scrub_loose.specs.Loose.{best_of}
-use Rattle.scrub_listings.specs.Manifest.{after_status_in, form_text, looked_for, numbered_line, numbered_text, spare_text}
+use Rattle.scrub_scan.specs.Line.{spaced}
+use Rattle.scrub_listings.specs.Manifest.{after_status_in, copy_word, form_text, looked_for, numbered_line, numbered_text}
 use Rattle.scrub_reclaim.specs.Copy.{IsSameOrRisen, rank}
 use Rattle.scrub_reclaim.proofs.BestCopies.{one_of_rank}
 use Rattle.scrub_found.specs.Scrubbed.{Scrubbed}
@@ -108,32 +107,23 @@ module _ (f g : ℕ → Checked → RowValue) (own now : List Checked) (none : s
 -- the line of a locator in its two parts is that of a manifest
 row_is_line : (s : Scrubbed) (loose : List Standing) (n : ℕ) (c : Checked) →
     row_line (row_in s loose n c) ≡ numbered_line (after_status_in s.all loose) n c
-row_is_line s loose n c = ap (λ (u : List ℕ). u ++ 10 ∷ []) (by c.status refl)
+row_is_line s loose n c = ap (λ (u : List ℕ). u ++ 10 ∷ []) (by (is_sound c.status) (is_hidden c.status))
   where
-    nt : List ℕ
-    nt = numbered_text n c
+    front : List ℕ
+    front = numbered_text n c
 
-    -- by the status
-    lines : Status → Type 0
-    lines t =
-        (nt ++ (if is_sound t then form_text (form_at s.all c.locator) else looked_for c.locator))
-        ++ last_word (if is_dangling t then Some (best_of s.all loose c) else None)
-        ≡ nt ++ (if is_sound t then form_text (form_at s.all c.locator) else looked_for c.locator ++ spare_text t (best_of s.all loose c))
+    form : List ℕ
+    form = form_text (form_at s.all c.locator)
 
-    worded : (nt ++ looked_for c.locator) ++ last_word (Some (best_of s.all loose c)) ≡ nt ++ (looked_for c.locator ++ last_word (Some (best_of s.all loose c)))
-    worded = append_assoc nt (looked_for c.locator) (last_word (Some (best_of s.all loose c)))
+    best : BestCopy
+    best = best_of s.all loose c
 
-    by : (t : Status) → c.status ≡ t → lines c.status
-    by Sound is = subst lines (sym is) (append-nil (nt ++ form_text (form_at s.all c.locator)))
-    by Hidden is = subst lines (sym is) (append_assoc nt (looked_for c.locator) [])
-    by OutOfRange is = subst lines (sym is) worded
-    by Retired is = subst lines (sym is) worded
-    by PastPointer is = subst lines (sym is) worded
-    by Unreadable is = subst lines (sym is) worded
-    by NoFrame is = subst lines (sym is) worded
-    by WrongUuid is = subst lines (sym is) worded
-    by WrongLength is = subst lines (sym is) worded
-    by WrongDigest is = subst lines (sym is) worded
+    by : (sound hidden : Bool) →
+        (front ++ (if sound then form else looked_for c.locator)) ++ last_word (if not sound && not hidden then Some best else None)
+        ≡ front ++ (if sound then form else looked_for c.locator ++ (if not sound && not hidden then spaced (copy_word best) else []))
+    by true hidden = append-nil (front ++ form)
+    by false true = append_assoc front (looked_for c.locator) []
+    by false false = append_assoc front (looked_for c.locator) (spaced (copy_word best))
 
 -- two lines that are alike are the same, or the last word rose
 alike_lines : (x y : RowValue) → are_alike x y ≡ true → IsSameOrRisen (row_line x) (row_line y)

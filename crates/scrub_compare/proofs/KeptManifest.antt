@@ -1,14 +1,15 @@
 -- The manifest that a reset leaves is that of the earlier image, but that fewer runs may be hidden and last words may rise.
 use Rattle.std.proofs.Common.{◌≡◌, ◌<◌, ◌≤◌, ◌+◌, ◌==◌, ◌&&◌, ◌++◌, ◌∷◌, [], ℕ, suc, Bool, true, false, not, nat_lt, List, Option, Some, None, MatchOption, codes, length, get_or, map, append-nil, append_assoc, arith, refl, sym, ◌∙◌, ap, subst, inl, inr, option_map}
 use Rattle.std.specs.List.{All, AllPairs, AllZip, Contains, enumerate_from, filter, flat_map, slice_get}
-use Rattle.std.proofs.lemmas.Bool.{and_parts, eqb-true, false≢true, ltb-false}
+use Rattle.std.proofs.lemmas.Bool.{and_parts, eqb-true, ltb-false}
 use Rattle.std.proofs.lemmas.Grind.{flat_map-append}
 use Rattle.std.proofs.lemmas.List.{get_or-map, length-append, length-map}
 use Rattle.std.proofs.lemmas.List.Elements.{All-contains, All-contains_itself}
 use Rattle.std.proofs.lemmas.List.Folds.{flat_map-map}
 use Rattle.std.proofs.Math.Path.{fun_ext}
 use Rattle.std.proofs.lemmas.Option.{none-some, same_Some}
-use Rattle.list_facts.proofs.Elements.{Contains-behind, Contains-cases, both_nil}
+use Rattle.list_facts.proofs.Bools.{false_from_not}
+use Rattle.list_facts.proofs.Elements.{Contains-from_map}
 use Rattle.list_facts.proofs.Zips.{AllZip-append}
 use Rattle.scrub_disk.specs.Image.{Image}
 use Rattle.scrub_super.specs.Chosen.{Choice}
@@ -17,7 +18,6 @@ use Rattle.scrub_super.specs.Contents.{Contents}
 use Rattle.scrub_super.specs.Plan.{PlanValue, plan_of}
 use Rattle.scrub_super.specs.steps.PlanParts.{IsPlanBy, IsPlanWithout}
 use Rattle.scrub_super.proofs.PlanParts.{plan_parts}
-use Rattle.scrub_super.proofs.Laws.{one_choice_lem}
 use Rattle.scrub_run.specs.declared.shard_id.ShardId.{ShardId}
 use Rattle.scrub_run.specs.Entry.{IsBelow}
 use Rattle.scrub_merge.specs.Binding.{BindingValue}
@@ -26,11 +26,12 @@ use Rattle.scrub_check.specs.Checked.{named_of}
 use Rattle.scrub_check.specs.Named.{named_by_shard}
 use Rattle.scrub_found.specs.Resets.{IsScrubbedBut}
 use Rattle.scrub_found.specs.Scrubbed.{Scrubbed}
-use Rattle.scrub_found.proofs.ResetPlans.{plan_before}
 use Rattle.scrub_listings.specs.Manifest.{after_status_in, hidden_runs, lost_run_count, manifest_text, numbered_line, of_shards, retired_line, runs_line, shard_lines, text_by, total_line}
 use Rattle.scrub_listings.proofs.ShardLines.{along_runs, shards_part}
 use Rattle.scrub_reclaim.specs.Copy.{IsSameButRisen, IsSameOrRisen}
-use Rattle.scrub_compare.specs.Compare.{AreCompared, Compared, HasBinding, are_alike, both_of, generation_of, lost_line, new_line, owned_by, retired_change, row_in, runs_change, shard_change, shard_changes}
+use Rattle.scrub_reclaim.proofs.MoveLines.{flat_parts}
+use Rattle.scrub_reclaim.proofs.ResetCopies.{reset}
+use Rattle.scrub_compare.specs.Compare.{AreCompared, Compared, HasBinding, are_alike, both_of, generation_of, lost_line, new_line, owned_by, row_in, shard_change}
 use Rattle.scrub_compare.specs.Laws.{IsSameButMore}
 use Rattle.scrub_compare.proofs.BoundIds.{one_rising}
 use Rattle.scrub_compare.proofs.Kept.{alike_at, lines_of, same_length, zip_lines}
@@ -46,12 +47,6 @@ zip_parts R f g [] all = tt
 zip_parts {I = I} R f g (i ∷ is) all =
     AllZip-append R (f i) (flat_map f is) (g i) (flat_map g is) (all 0 i (omega arith))
     (zip_parts R f g is (λ k d below. all (suc k) d (omega (arith, below))))
-
-flat_flat : {X I : Type 0} (f : I → List (List X)) (is : List I) → flat_map (λ part. part) (flat_map f is) ≡ flat_map (λ i. flat_map (λ part. part) (f i)) is
-flat_flat f [] = refl
-flat_flat {X} f (i ∷ is) =
-    flat_map-append (λ (part : List X). part) (f i) (flat_map f is)
-    ∙ ap (λ (u : List X). flat_map (λ (part : List X). part) (f i) ++ u) (flat_flat f is)
 
 joined_parts : (a b t : List ℕ) (ps : List (List ℕ)) → a ++ b ++ flat_map (λ part. part) ps ++ t ≡ flat_map (λ part. part) (a ∷ b ∷ ps ++ t ∷ [])
 joined_parts a b t ps =
@@ -69,27 +64,20 @@ module _ (resets : List ℕ) (image : Image) (s : Scrubbed) (x : IsScrubbedBut r
       ∙ along_runs s.plan.runs s.bindings s.checked x.checked.same
 
   rising : AllPairs (λ b c. IsBelow b.id c.id) s.bindings
-  rising = x.bindings.bindings_of_map.rising
+  rising = x.bindings.rising
 
   abbrev size : ShardId → ℕ
   size id = length (owned_by id (of_shards s.checked))
 
   -- a shard is bound exactly if it names a locator
   bound_some : (id : ShardId) → HasBinding s.bindings id → 0 < size id
-  bound_some id there = by (bound_at s.bindings id there)
+  bound_some id there = by (Contains-from_map (λ (b : BindingValue). b.id) s.bindings id there)
     where
-      bound_at : (bs : List BindingValue) (i : ShardId) → HasBinding bs i → (b : BindingValue) × Contains bs b × (b.id ≡ i)
-      bound_at [] i at = absurd (omega (arith, at.1))
-      bound_at (b ∷ bs) i at = elim (Contains-cases b.id (map (λ v. v.id) bs) i at) [
-        | inl here ↦ (b, (0, omega arith, refl), here)
-        | inr later ↦ let m = bound_at bs i later in (m.0, Contains-behind b bs m.0 m.1, m.2)
-      ]
-
       by : (b : BindingValue) × Contains s.bindings b × (b.id ≡ id) → 0 < size id
       by (b, there, is) =
           let own : length (owned_by b.id (of_shards s.checked)) ≡ length b.locators =
           All-contains (λ (v : BindingValue). length (owned_by v.id (of_shards s.checked)) ≡ length v.locators) s.bindings b (each_size (of_shards s.checked) s.bindings along rising) there in
-          let some : 0 < length b.locators = All-contains (λ (v : BindingValue). 0 < length v.locators) s.bindings b x.bindings.bindings_of_map.bound there in
+          let some : 0 < length b.locators = All-contains (λ (v : BindingValue). 0 < length v.locators) s.bindings b x.bindings.bound there in
           let at : size b.id ≡ size id = ap size is in
           omega (arith, own, some, at)
 
@@ -116,7 +104,7 @@ module _ (resets : List ℕ) (image : Image) (s : Scrubbed) (x : IsScrubbedBut r
       ∙ ap (flat_map (shard_lines (after_status_in s.all loose) (of_shards s.checked))) same
       ∙ ap (λ (lines : ShardId → List ℕ). flat_map lines ids)
       (fun_ext (λ id. sym (flat_map-map (λ (part : List ℕ). part) (λ (p : ℕ × Checked). numbered_line (after_status_in s.all loose) p.0 p.1) (enumerate_from 0 (owned_by id (of_shards s.checked))))))
-      ∙ sym (flat_flat (λ (id : ShardId). lines_of s loose 0 (owned_by id (of_shards s.checked))) ids)
+      ∙ sym (flat_parts (λ (part : List ℕ). part) (λ (id : ShardId). lines_of s loose 0 (owned_by id (of_shards s.checked))) ids)
 
 -- a superblock counts where a generation is known
 has_superblock : (choice : Choice) (plan : PlanValue) (n : ℕ) → plan ≡ plan_of choice → generation_of choice ≡ Some n → plan.has_superblock ≡ true
@@ -239,30 +227,19 @@ module _ (resets : List ℕ) (before after : Image) (c : Compared) (are : AreCom
   abbrev shards_now : List Checked
   shards_now = of_shards c.after_resets.checked
 
-  no_changes : (runs_change (lost_run_count c.before) (hidden_runs c.before) (lost_run_count c.after_resets) (hidden_runs c.after_resets) ≡ [])
-      × (shard_changes (row_in c.before c.loose.frames) (row_in c.after_resets c.loose_now.frames) shards shards_now c.ids ≡ [])
-  no_changes =
-      let front = both_nil (retired_change c.before.plan.retired c.after_resets.plan.retired ++ runs_change (lost_run_count c.before) (hidden_runs c.before) (lost_run_count c.after_resets) (hidden_runs c.after_resets)) (shard_changes (row_in c.before c.loose.frames) (row_in c.after_resets c.loose_now.frames) shards shards_now c.ids) none.manifest in
-      let first = both_nil (retired_change c.before.plan.retired c.after_resets.plan.retired) (runs_change (lost_run_count c.before) (hidden_runs c.before) (lost_run_count c.after_resets) (hidden_runs c.after_resets)) front.0 in
-      (first.1, front.1)
-
-  not_true : (b : Bool) → not b ≡ true → b ≡ false
-  not_true true e = absurd (false≢true e)
-  not_true false e = refl
-
   counts : (lost_run_count c.after_resets ≡ lost_run_count c.before) × (hidden_runs c.after_resets ≤ hidden_runs c.before)
   counts =
       let word = lost_line (runs_line (lost_run_count c.before) (hidden_runs c.before)) in
-      let both = passed ((lost_run_count c.after_resets == lost_run_count c.before) && not (nat_lt (hidden_runs c.before) (hidden_runs c.after_resets))) word (new_line (runs_line (lost_run_count c.after_resets) (hidden_runs c.after_resets))) (omega (arith, length-append (codes "lost ") (runs_line (lost_run_count c.before) (hidden_runs c.before)))) no_changes.0 in
+      let both = passed ((lost_run_count c.after_resets == lost_run_count c.before) && not (nat_lt (hidden_runs c.before) (hidden_runs c.after_resets))) word (new_line (runs_line (lost_run_count c.after_resets) (hidden_runs c.after_resets))) (omega (arith, length-append (codes "lost ") (runs_line (lost_run_count c.before) (hidden_runs c.before)))) none.runs in
       let parts = and_parts (lost_run_count c.after_resets == lost_run_count c.before) (not (nat_lt (hidden_runs c.before) (hidden_runs c.after_resets))) both in (
         eqb-true (lost_run_count c.after_resets) (lost_run_count c.before) parts.0,
-        ltb-false (hidden_runs c.before) (hidden_runs c.after_resets) (not_true (nat_lt (hidden_runs c.before) (hidden_runs c.after_resets)) parts.1),
+        ltb-false (hidden_runs c.before) (hidden_runs c.after_resets) (false_from_not (nat_lt (hidden_runs c.before) (hidden_runs c.after_resets)) parts.1),
       )
 
   unchanged : (id : ShardId) → Contains c.ids id → shard_change (row_in c.before c.loose.frames) (row_in c.after_resets c.loose_now.frames) (owned_by id shards) (owned_by id shards_now) ≡ []
   unchanged id there =
       All-contains (λ (i : ShardId). shard_change (row_in c.before c.loose.frames) (row_in c.after_resets c.loose_now.frames) (owned_by i shards) (owned_by i shards_now) ≡ []) c.ids id
-      (all_none (λ (i : ShardId). shard_change (row_in c.before c.loose.frames) (row_in c.after_resets c.loose_now.frames) (owned_by i shards) (owned_by i shards_now)) c.ids no_changes.1) there
+      (all_none (λ (i : ShardId). shard_change (row_in c.before c.loose.frames) (row_in c.after_resets c.loose_now.frames) (owned_by i shards) (owned_by i shards_now)) c.ids none.shards) there
 
   sizes_same : (id : ShardId) → Contains c.ids id → size [] before c.before are.scrubbed_before id ≡ size resets after c.after_resets are.scrubbed_after_resets id
   sizes_same id there = same_length (row_in c.before c.loose.frames) (row_in c.after_resets c.loose_now.frames) (owned_by id shards) (owned_by id shards_now) (unchanged id there)
@@ -302,9 +279,8 @@ module _ (resets : List ℕ) (before after : Image) (c : Compared) (are : AreCom
 
   has_kept : c.after_resets.plan.has_superblock ≡ true
   has_kept =
-      let plain = plan_before resets c.after_resets.choice c.after_resets.plan are.scrubbed_after_resets.plan in
-      let choice : c.after.choice ≡ c.after_resets.choice = one_choice_lem after c.after.choice c.after_resets.choice are.scrubbed_after.choice are.scrubbed_after_resets.choice in
-      plain.4 ∙ has_superblock c.after_resets.choice plain.0 none.new plain.1 (sym (ap generation_of choice) ∙ both_there.1)
+      (reset resets after c.after c.after_resets are.scrubbed_after are.scrubbed_after_resets).has
+      ∙ has_superblock c.after.choice c.after.plan none.new are.scrubbed_after.plan both_there.1
 
   -- Without a line of `compare` the superblock, retired extents, runs and shards of the manifest are kept.
   pub kept : AreKept c.before c.after_resets c.loose.frames c.loose_now.frames

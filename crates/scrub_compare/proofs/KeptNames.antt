@@ -1,11 +1,12 @@
 -- Two disks on which the same is named, and no copy is worse, keep the manifest; and a manifest is that of what is found.
 use Rattle.std.proofs.Common.{◌≡◌, ◌≤◌, ◌&&◌, ◌++◌, [], ℕ, Bool, true, false, List, Option, Some, None, length, map, arith, is_none, refl, sym, ◌∙◌, ap, subst, if◌then◌else◌}
-use Rattle.std.specs.List.{Contains, count_by, filter, slice_get}
+use Rattle.std.specs.List.{Contains, count_by, slice_get}
 use Rattle.std.specs.Str.{bytes_eq}
 use Rattle.std.proofs.lemmas.Bool.{and_from}
-use Rattle.std.proofs.lemmas.List.Elements.{All-contains, All-contains_itself, All-filter}
+use Rattle.std.proofs.lemmas.List.Elements.{All-contains}
 use Rattle.std.proofs.lemmas.Option.{get_or_from_slice_get, same_Some, slice_get_within}
 use Rattle.std.proofs.lemmas.Slice.Eq.{bytes_eq-Decides}
+use Rattle.list_facts.proofs.Elements.{Contains-from_filter}
 use Rattle.scrub_disk.specs.Image.{Image}
 use Rattle.scrub_frame.specs.declared.form.Form.{Form}
 use Rattle.scrub_run.specs.declared.shard_id.ShardId.{ShardId}
@@ -42,10 +43,6 @@ text_of_found image text whole found loose m x l =
 
 -- ---- what a shard names
 
--- What passes a filter is in the list.
-pub among_filter : (p : Checked → Bool) (cs : List Checked) (c : Checked) → Contains (filter p cs) c → Contains cs c
-among_filter p cs c = All-contains (Contains cs) (filter p cs) c (All-filter p (Contains cs) cs (All-contains_itself cs))
-
 -- A locator with a number among those of a shard is one of those that the shard names.
 pub owned_there : (s : Scrubbed) (id : ShardId) (n : ℕ) (c : Checked) → slice_get (owned_by id (of_shards s.checked)) n ≡ Some c →
     Contains (owned_by id (of_shards s.checked)) c
@@ -56,8 +53,8 @@ owned_there s id n c is =
 pub named_there : (s : Scrubbed) (id : ShardId) (n : ℕ) (c : Checked) → slice_get (owned_by id (of_shards s.checked)) n ≡ Some c →
     Contains s.checked c
 named_there s id n c is =
-    among_filter (λ d. is_of_shard d.owner) s.checked c
-    (among_filter (λ d. is_owned_by id d.owner) (of_shards s.checked) c (owned_there s id n c is))
+    (Contains-from_filter (λ d. is_of_shard d.owner) s.checked c
+    (Contains-from_filter (λ d. is_owned_by id d.owner) (of_shards s.checked) c (owned_there s id n c is)).0).0
 
 -- ---- two disks that name the same
 

@@ -1,15 +1,14 @@
 -- Last words that stay or rise, by the ranks of the copies.
-use Rattle.std.proofs.Common.{◌≡◌, ◌≢◌, ◌⊎◌, inl, inr, ◌<◌, ◌≤◌, ◌==◌, ◌∷◌, [], ℕ, suc, Bool, true, false, List, Option, Some, None, nat_lt, length, arith, refl, sym, ◌∙◌, ap, subst, if◌then◌else◌}
+use Rattle.std.proofs.Common.{◌≡◌, ◌≢◌, ◌⊎◌, inl, inr, ◌<◌, ◌≤◌, ◌∷◌, [], true, false, List, Option, Some, None, nat_lt, arith, refl, sym, subst}
 use Rattle.std.specs.List.{Contains}
 use Rattle.std.proofs.lemmas.Bool.{false≢true, ltb-false}
-use Rattle.std.proofs.lemmas.Grind.{common_steps}
 use Rattle.list_facts.proofs.Bools.{false_from_not}
 use Rattle.scrub_scan.specs.declared.standing.Standing.{Standing}
 use Rattle.scrub_loose.specs.declared.copies.BestCopy.{BestCopy}
 use Rattle.scrub_loose.specs.declared.copies.BestCopy.TheVariants.{Nowhere, Loose, Spare}
 use Rattle.scrub_loose.specs.Loose.{best_among}
 use Rattle.scrub_reclaim.specs.Copy.{rank}
-use Rattle.scrub_reclaim.proofs.BestCopies.{not_nil}
+use Rattle.scrub_reclaim.proofs.BestCopies.{loose_best, spare_best}
 use Rattle.scrub_compare.specs.Compare.{has_no_less}
 
 -- what isn't less has no lower rank
@@ -41,16 +40,6 @@ no_less_more (Some x) (Some y) (Some z) a b =
 
 -- ---- the best of some copies
 
--- a number above 0 isn't 0
-not_none : (n : ℕ) → (suc n == 0) ≡ false
-not_none n = grind (arith, common_steps)
-
-spare_best : (s : Standing) (ss ls : List Standing) → best_among (s ∷ ss) ls ≡ Spare
-spare_best s ss ls = ap (λ (b : Bool). if b then (if length ls == 0 then Nowhere else Loose) else Spare) (not_none (length ss))
-
-loose_best : (l : Standing) (ls : List Standing) → best_among [] (l ∷ ls) ≡ Loose
-loose_best l ls = ap (λ (b : Bool). if b then Nowhere else Loose) (not_none (length ls))
-
 -- If the best copy isn't nowhere, there is a spare or a loose copy.
 pub some_copy : (ss ls : List Standing) → 0 < rank (best_among ss ls) →
     ((s : Standing) × Contains ss s) ⊎ ((l : Standing) × Contains ls l)
@@ -63,14 +52,3 @@ pub some_rank : (ss ls : List Standing) (l : Standing) → Contains ls l → 0 <
 some_rank ss [] l there = absurd (omega (arith, there.1))
 some_rank [] (m ∷ ms) l there = subst (λ (b : BestCopy). 0 < rank b) (sym (loose_best m ms)) (omega arith)
 some_rank (s ∷ ss) (m ∷ ms) l there = subst (λ (b : BestCopy). 0 < rank b) (sym (spare_best s ss (m ∷ ms))) (omega arith)
-
--- With the same spares, and loose copies where there were some, the best copy is no worse.
-pub same_spares : (ss ls ms : List Standing) → (ls ≢ [] → ss ≡ [] → ms ≢ []) → rank (best_among ss ls) ≤ rank (best_among ss ms)
-same_spares (s ∷ ss) ls ms still =
-    let same : rank (best_among (s ∷ ss) ls) ≡ rank (best_among (s ∷ ss) ms) = ap rank (spare_best s ss ls ∙ sym (spare_best s ss ms)) in
-    omega (arith, same)
-same_spares [] [] ms still = omega arith
-same_spares [] (l ∷ ls) [] still = absurd (still (not_nil (l ∷ ls) l (0, omega arith, refl)) refl refl)
-same_spares [] (l ∷ ls) (m ∷ ms) still =
-    let same : rank (best_among [] (l ∷ ls)) ≡ rank (best_among [] (m ∷ ms)) = ap rank (loose_best l ls ∙ sym (loose_best m ms)) in
-    omega (arith, same)

@@ -3,7 +3,6 @@
 -- bytes that changed and may not
 pub mod Least
 pub mod ChangedBytes
-pub mod RecordLengths
 pub mod Reaches
 -- the lines of extents, of shards and of the manifest
 pub mod RoomsFound

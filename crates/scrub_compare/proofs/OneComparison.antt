@@ -1,34 +1,25 @@
 -- Two images have one text of what became of them, and one verdict, since each part is determined by them.
-use Rattle.std.proofs.Common.{◌≡◌, ◌+◌, [], ◌∷◌, ℕ, suc, Bool, List, Option, Some, length, arith, refl, sym, subst, ◌∙◌, ap}
-use Rattle.std.specs.List.{slice_get}
+use Rattle.std.proofs.Common.{◌≡◌, ◌+◌, [], ℕ, Bool, List, Option, get_or, arith, sym, ◌∙◌, ap}
+use Rattle.std.proofs.lemmas.List.{same_lists}
+use Rattle.std.proofs.lemmas.Option.{slice_get-get_or}
 use Rattle.scrub_disk.specs.Image.{Image}
 use Rattle.scrub_super.proofs.PageLaws.{one_list_of_pages}
-use Rattle.scrub_loose.specs.Loose.{AreLoose}
 use Rattle.scrub_loose.proofs.OneLoose.{one_loose}
 use Rattle.scrub_found.specs.Scrubbed.{Scrubbed}
 use Rattle.scrub_found.proofs.OneScrub.{one_scrub, one_scrub_but}
 use Rattle.scrub_compare.specs.Written.{AreFirstWritten, IsWrittenIn, IsWrittenInRecords, pointer_in, room_at}
-use Rattle.scrub_compare.specs.Compare.{AreBoundIds, AreCompared, Compared, IsComparison, comparison_text, is_safe}
+use Rattle.scrub_compare.specs.Compare.{AreCompared, Compared, IsComparison, comparison_text, is_safe}
 use Rattle.scrub_compare.proofs.BoundIds.{one_list_of_ids}
 use Rattle.scrub_compare.proofs.Least.{one_least}
-
--- two lists of one length with the same elements, one by one
-same_elements : {X : Type 0} (xs ys : List X) → length xs ≡ length ys →
-    ((k : ℕ) (x y : X) → slice_get xs k ≡ Some x → slice_get ys k ≡ Some y → x ≡ y) → xs ≡ ys
-same_elements [] [] long same = refl
-same_elements [] (y ∷ ys) long same = absurd (omega (arith, long))
-same_elements (x ∷ xs) [] long same = absurd (omega (arith, long))
-same_elements (x ∷ xs) (y ∷ ys) long same =
-    let first : x ≡ y = same 0 x y refl refl in
-    let rest : xs ≡ ys = same_elements xs ys (omega (arith, long)) (λ k. same (suc k)) in
-    λ i. first i ∷ rest i
 
 one_list_of_firsts : (before after : Image) (found_before found_after : Scrubbed) (xs ys : List (Option ℕ)) → AreFirstWritten before after found_before found_after xs →
     AreFirstWritten before after found_before found_after ys → xs ≡ ys
 one_list_of_firsts before after found_before found_after xs ys a b =
-    same_elements xs ys (omega (arith, a.count, b.count))
-    (λ k x y here there.
-    one_least (IsWrittenIn before after (room_at found_before (k + 1)) (pointer_in found_after.plan (k + 1)) (k + 1)) x y (a.each k x here) (b.each k y there))
+    same_lists xs ys (omega (arith, a.count, b.count))
+    (λ k d below.
+    one_least (IsWrittenIn before after (room_at found_before (k + 1)) (pointer_in found_after.plan (k + 1)) (k + 1)) (get_or xs k d) (get_or ys k d)
+    (a.each k (get_or xs k d) (slice_get-get_or xs k d below))
+    (b.each k (get_or ys k d) (slice_get-get_or ys k d (omega (arith, below, a.count, b.count)))))
 
 module _ (resets : List ℕ) (before after : Image) where
   one_compared : (c d : Compared) → AreCompared resets before after c → AreCompared resets before after d → c ≡ d
@@ -55,28 +46,18 @@ module _ (resets : List ℕ) (before after : Image) where
       found_after_resets = one_scrub_but resets after c.after_resets d.after_resets x.scrubbed_after_resets y.scrubbed_after_resets
 
       loose : c.loose ≡ d.loose
-      loose =
-          one_loose [] before d.before.plan c.loose d.loose
-          (subst (λ (f : Scrubbed). AreLoose [] before f.plan c.loose) found_before x.loose) y.loose
+      loose = one_loose [] before d.before.plan c.loose d.loose (rw found_before at x.loose) y.loose
 
       loose_now : c.loose_now ≡ d.loose_now
-      loose_now =
-          one_loose resets after d.after_resets.plan c.loose_now d.loose_now
-          (subst (λ (k : Scrubbed). AreLoose resets after k.plan c.loose_now) found_after_resets x.loose_now) y.loose_now
+      loose_now = one_loose resets after d.after_resets.plan c.loose_now d.loose_now (rw found_after_resets at x.loose_now) y.loose_now
 
       firsts : c.firsts ≡ d.firsts
       firsts =
-          one_list_of_firsts before after d.before d.after c.firsts d.firsts
-          (subst (λ (r : Scrubbed). AreFirstWritten before after d.before r c.firsts) found_after
-          (subst (λ (f : Scrubbed). AreFirstWritten before after f c.after c.firsts) found_before x.firsts))
-          y.firsts
+          one_list_of_firsts before after d.before d.after c.firsts d.firsts (rw (found_before, found_after) at x.firsts) y.firsts
 
       ids : c.ids ≡ d.ids
       ids =
-          one_list_of_ids d.before.bindings d.after_resets.bindings c.ids d.ids
-          (subst (λ (k : Scrubbed). AreBoundIds d.before.bindings k.bindings c.ids) found_after_resets
-          (subst (λ (f : Scrubbed). AreBoundIds f.bindings c.after_resets.bindings c.ids) found_before x.ids))
-          y.ids
+          one_list_of_ids d.before.bindings d.after_resets.bindings c.ids d.ids (rw (found_before, found_after_resets) at x.ids) y.ids
 
   -- Two images have at most one comparison with the same resets, and one verdict.
   pub one_comparison_lem : (a b : List ℕ) (v w : Bool) → IsComparison resets before after a v →

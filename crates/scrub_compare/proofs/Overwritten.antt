@@ -14,9 +14,9 @@ use Rattle.scrub_scan.specs.Scanned.{Scanned}
 use Rattle.scrub_scan.specs.AllFindings.{entry_of}
 use Rattle.scrub_found.specs.Scrubbed.{Scrubbed, IsScrubbed}
 use Rattle.scrub_found.proofs.OneScrub.{one_scrub}
-use Rattle.scrub_reclaim.specs.Reset.{IsPlanIn}
 use Rattle.scrub_reclaim.specs.Room.{has_room, place_in}
 use Rattle.scrub_reclaim.proofs.NextPlaces.{place_above}
+use Rattle.scrub_reclaim.proofs.Reset.{plan_in}
 use Rattle.scrub_reclaim.proofs.SameExtents.{in_disk}
 use Rattle.scrub_compare.specs.Written.{IsLeastNumber, IsWrittenIn, MayChangeInRoom, pointer_in, room_at, room_of}
 use Rattle.scrub_compare.specs.Compare.{AreCompared, Compared, is_reset, lines_in, may_follow, pointer_line, written_line}
@@ -58,9 +58,6 @@ room_number found e place r = eqb-true r.scanned.extent e (find_passes (λ g. g.
 
 module _ (resets : List ℕ) (before after : Image) (sizes : after.geometry ≡ before.geometry) (c : Compared)
     (are : AreCompared resets before after c) (none : HasNoLine resets c) where
-  plan_was : IsPlanIn before c.before.plan
-  plan_was = record { choice = c.before.choice; chosen = are.scrubbed_before.choice; follows = are.scrubbed_before.plan }
-
   -- an extent has neither of its lines
   no_lines_in : (k : ℕ) → k + 1 < before.geometry.extents →
       (may_follow (is_reset resets (k + 1)) (room_at c.before (k + 1)) (pointer_in c.before.plan (k + 1)) (pointer_in c.after.plan (k + 1)) ≡ true)
@@ -140,7 +137,7 @@ module _ (resets : List ℕ) (before after : Image) (sizes : after.geometry ≡ 
     where
       by : (o : Option ℕ) → pointer_of c.before.plan e ≡ o → p < unwrap_or o 0 → (e ≢ 0) × (e < before.geometry.extents)
       by None is less = absurd (omega (arith, less))
-      by (Some w) is less = in_disk before c.before.plan plan_was e w is
+      by (Some w) is less = in_disk before c.before.plan (plan_in before c.before are.scrubbed_before) e w is
 
   -- Without a line each byte below an earlier write pointer is what it was.
   pub bytes_stay : KeepsBytes before after c.before

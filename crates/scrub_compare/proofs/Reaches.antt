@@ -1,5 +1,5 @@
 -- How far the records of extent 0 reach, and the first byte there that changed and may not, page by page.
-use Rattle.std.proofs.Common.{◌≡◌, ◌<◌, ◌≤◌, ◌+◌, ◌*◌, ◌-◌, ◌/◌, ℕ, List, [], Bool, false, Option, Some, None, drop, length, max, arith, refl, sym, ◌∙◌, ap, subst}
+use Rattle.std.proofs.Common.{◌≡◌, ◌<◌, ◌≤◌, ◌+◌, ◌*◌, ◌-◌, ◌/◌, ℕ, [], false, Option, Some, None, max, arith, refl, sym, ◌∙◌, ap, subst}
 use Rattle.std.proofs.lemmas.Option.{none-some}
 use Rattle.scrub_disk.specs.declared.buffered_extent.BufferedExtent.{BufferedExtent}
 use Rattle.scrub_disk.specs.declared.geometry.Geometry.{Geometry}
@@ -8,16 +8,12 @@ use Rattle.scrub_disk.specs.Image.{Image, extent_bytes}
 use Rattle.scrub_disk.proofs.PagesRead.{page_fits}
 use Rattle.scrub_super.specs.declared.pages.SuperblockPage.{SuperblockPage}
 use Rattle.scrub_super.specs.declared.pages.SuperblockPage.TheVariants.{Lost, Record, Damaged, Stray, Held}
-use Rattle.scrub_super.specs.Contents.{Contents}
-use Rattle.scrub_super.specs.Pages.{HasRecord, IsHeldByte, IsSuperblockPage, kind_of}
-use Rattle.scrub_super.specs.Record.{record_bytes}
+use Rattle.scrub_super.specs.Pages.{HasRecord, IsHeldByte, IsSuperblockPage}
 use Rattle.scrub_super.specs.steps.PagesFound.{IsRecordReach}
-use Rattle.scrub_super.proofs.Choices.{front_at}
-use Rattle.scrub_super.proofs.OneRecord.{one_record_lem}
 use Rattle.scrub_super.proofs.PageLaws.{readable_of}
 use Rattle.scrub_super.proofs.PageSteps.{below_held, held_below, reach_kept, reach_more}
 use Rattle.scrub_compare.specs.Written.{IsWrittenInRecords}
-use Rattle.scrub_compare.specs.steps.Changes.{BeginsAsSaid, IsFirstWithin, IsLeastWithin, IsReachWith, is_refused_at, is_refused_in}
+use Rattle.scrub_compare.specs.steps.Changes.{IsFirstWithin, IsLeastWithin, is_refused_at, is_refused_in, reach_with}
 use Rattle.scrub_compare.proofs.ChangedBytes.{page_of_place, record_unwritten_if, record_written_if, refused_read}
 use Rattle.scrub_compare.proofs.Least.{tested}
 
@@ -28,35 +24,16 @@ module _ (image : Image) (q : ℕ) where
   lost_none : image.page 0 q ≡ None → HasRecord image q → ⊥
   lost_none lost (c, stands) = none-some [] (sym lost ∙ readable_of {bytes = []} false lost stands)
 
-  -- a page says whether a record begins there
-  pub said : {bytes : List ℕ} {readable : List Bool} → IsBuffered image 0 bytes readable → (held : SuperblockPage) →
-      IsSuperblockPage image q held → BeginsAsSaid image.geometry (drop (q * image.geometry.page) bytes) held
-  said h Lost is = tt
-  said h (Record kind generation rank stray) is = (is.0, front_at h is.1)
-  said h (Damaged kind) is = tt
-  said h Stray is = tt
-  said h Held is = tt
-
   -- how far records reach with this page
-  pub reach_page : {bytes : List ℕ} {readable : List Bool} → IsBuffered image 0 bytes readable → (held : SuperblockPage) →
-      IsSuperblockPage image q held → (reach new : ℕ) →
-      IsReachWith image.geometry bytes (q * image.geometry.page) held reach new → IsRecordReach image q reach →
-      IsRecordReach image (q + 1) new
-  reach_page h Lost is reach new same so_far =
-      subst (λ (n : ℕ). IsRecordReach image (q + 1) n) (sym same) (reach_kept so_far (lost_none is))
-  reach_page {bytes} h (Record kind generation rank stray) is reach new (c, begins, at) so_far =
-      let same : c ≡ is.0 =
-      one_record_lem image.geometry (drop (q * image.geometry.page) bytes) c is.0 begins (front_at h is.1) in
-      reach_more so_far {new = new}
-      {f = record { kind = kind_of is.0; generation = is.0.generation; to = q * image.geometry.page + length (record_bytes image.geometry is.0) }}
-      (at ∙ ap (λ (d : Contents). max reach (q * image.geometry.page + length (record_bytes image.geometry d))) same)
-      (is.0, is.1, record { kind = refl; generation = refl; to = refl })
-  reach_page h (Damaged kind) is reach new same so_far =
-      subst (λ (n : ℕ). IsRecordReach image (q + 1) n) (sym same) (reach_kept so_far is.1.no_record)
-  reach_page h Stray is reach new same so_far =
-      subst (λ (n : ℕ). IsRecordReach image (q + 1) n) (sym same) (reach_kept so_far is.1.no_record)
-  reach_page h Held is reach new same so_far =
-      subst (λ (n : ℕ). IsRecordReach image (q + 1) n) (sym same) (reach_kept so_far is.1.no_record)
+  pub reach_page : (held : SuperblockPage) → IsSuperblockPage image q held → {reach : ℕ} → IsRecordReach image q reach →
+      IsRecordReach image (q + 1) (reach_with reach held)
+  reach_page Lost is so_far = reach_kept so_far (lost_none is)
+  reach_page (Record kind generation to rank stray) is {reach} so_far =
+      reach_more so_far {new = max reach to} {f = record { kind = kind; generation = generation; to = to }} refl
+      (is.0, is.1, record { kind = is.2; generation = is.3; to = is.4 })
+  reach_page (Damaged kind) is so_far = reach_kept so_far is.1.no_record
+  reach_page Stray is so_far = reach_kept so_far is.1.no_record
+  reach_page Held is so_far = reach_kept so_far is.1.no_record
 
 -- ---- the first byte of a page
 

@@ -53,11 +53,11 @@ pub record HasNoLine (resets : List ℕ) (c : Compared) : Type 0 where
   pub new : ℕ
   pub count : generations_in c ≡ Some (old, new)
   pub doubts : doubts_of_both c ≡ []
-  pub generation : generation_line old new ≡ []
-  pub first : written_line 0 c.first ≡ []
   pub extents : extent_lines resets c.before c.after c.firsts ≡ []
   pub named : named_lines resets c.after.checked ≡ []
-  pub manifest : manifest_changes c.before c.after_resets c.loose.frames c.loose_now.frames c.ids ≡ []
+  pub retired : retired_change c.before.plan.retired c.after_resets.plan.retired ≡ []
+  pub runs : runs_change (lost_run_count c.before) (hidden_runs c.before) (lost_run_count c.after_resets) (hidden_runs c.after_resets) ≡ []
+  pub shards : shard_changes (row_in c.before c.loose.frames) (row_in c.after_resets c.loose_now.frames) (of_shards c.before.checked) (of_shards c.after_resets.checked) c.ids ≡ []
 
 -- If the verdict is safe, both superblocks count, and there is no line of any kind.
 pub no_line : (resets : List ℕ) (c : Compared) → is_safe resets c ≡ true → HasNoLine resets c
@@ -71,16 +71,20 @@ no_line resets c safe = by (generations_in c) refl safe
         let lines = both_nil (written_line 0 c.first ++ extent_lines resets c.before c.after c.firsts ++ named_lines resets c.after.checked) (manifest_changes c.before c.after_resets c.loose.frames c.loose_now.frames c.ids) all.1 in
         let more = both_nil (written_line 0 c.first ++ extent_lines resets c.before c.after c.firsts) (named_lines resets c.after.checked) lines.0 in
         let first = both_nil (written_line 0 c.first) (extent_lines resets c.before c.after c.firsts) more.0 in
+        let retired = retired_change c.before.plan.retired c.after_resets.plan.retired in
+        let runs = runs_change (lost_run_count c.before) (hidden_runs c.before) (lost_run_count c.after_resets) (hidden_runs c.after_resets) in
+        let manifest = both_nil (retired ++ runs) (shard_changes (row_in c.before c.loose.frames) (row_in c.after_resets c.loose_now.frames) (of_shards c.before.checked) (of_shards c.after_resets.checked) c.ids) lines.1 in
+        let plan = both_nil retired runs manifest.0 in
         record {
           old = both.0;
           new = both.1;
           count = is;
           doubts = front.0;
-          generation = front.1;
-          first = first.0;
           extents = first.1;
           named = more.1;
-          manifest = lines.1;
+          retired = plan.0;
+          runs = plan.1;
+          shards = manifest.1;
         }
 
 -- ---- retired extents
@@ -89,14 +93,7 @@ no_line resets c safe = by (generations_in c) refl safe
 pub same_retired : (resets : List ℕ) (c : Compared) → HasNoLine resets c → c.after_resets.plan.retired ≡ c.before.plan.retired
 same_retired resets c none =
     sym ((bytes_eq-Decides c.before.plan.retired c.after_resets.plan.retired).0
-    (passed (bytes_eq c.before.plan.retired c.after_resets.plan.retired) (lost_line (retired_line c.before.plan.retired)) (new_line (retired_line c.after_resets.plan.retired)) (omega arith) first.0))
-  where
-    front : (retired_change c.before.plan.retired c.after_resets.plan.retired ++ runs_change (lost_run_count c.before) (hidden_runs c.before) (lost_run_count c.after_resets) (hidden_runs c.after_resets) ≡ [])
-        × (shard_changes (row_in c.before c.loose.frames) (row_in c.after_resets c.loose_now.frames) (of_shards c.before.checked) (of_shards c.after_resets.checked) c.ids ≡ [])
-    front = both_nil (retired_change c.before.plan.retired c.after_resets.plan.retired ++ runs_change (lost_run_count c.before) (hidden_runs c.before) (lost_run_count c.after_resets) (hidden_runs c.after_resets)) (shard_changes (row_in c.before c.loose.frames) (row_in c.after_resets c.loose_now.frames) (of_shards c.before.checked) (of_shards c.after_resets.checked) c.ids) none.manifest
-
-    first : (retired_change c.before.plan.retired c.after_resets.plan.retired ≡ []) × (runs_change (lost_run_count c.before) (hidden_runs c.before) (lost_run_count c.after_resets) (hidden_runs c.after_resets) ≡ [])
-    first = both_nil (retired_change c.before.plan.retired c.after_resets.plan.retired) (runs_change (lost_run_count c.before) (hidden_runs c.before) (lost_run_count c.after_resets) (hidden_runs c.after_resets)) front.0
+    (passed (bytes_eq c.before.plan.retired c.after_resets.plan.retired) (lost_line (retired_line c.before.plan.retired)) (new_line (retired_line c.after_resets.plan.retired)) (omega arith) none.retired))
 
 -- ---- named locators
 
@@ -106,8 +103,8 @@ unnamed resets c none there =
     let out : is_reset resets c.locator.extent ≡ false =
     not_there (is_reset resets c.locator.extent) (codes "named ") (locator_line c) (omega arith) none in
     elim (among_cases resets c.locator.extent) [
-      | inl among ↦ false≢true (sym out ∙ among)
-      | inr (other, apart) ↦ apart there
+      | inl among ↦ false≢true (sym out ∙ among.0)
+      | inr other ↦ other.1 there
     ]
 
 -- If the verdict is safe, no locator that the later image names points into the resets.

@@ -1,56 +1,38 @@
 -- Two lines of shards' locators that begin alike are of locators with one length and one digest.
-use Rattle.std.proofs.Common.{◌≡◌, ◌<◌, ◌^◌, ◌++◌, ◌∷◌, ℕ, List, append_assoc, sym, ◌∙◌, ap}
-use Rattle.std.specs.Fmt.{decimal}
+use Rattle.std.proofs.Common.{◌≡◌, ◌<◌, ◌^◌, ◌++◌, ◌∷◌, [], ℕ, List, get_or, sym, ◌∙◌, ap}
 use Rattle.std.proofs.lemmas.Fmt.{decimal_injective}
-use Rattle.std.proofs.lemmas.List.{append_cancel_left}
 use Rattle.hex.specs.Hex.{encode_lower}
-use Rattle.list_facts.proofs.Elements.{same_behind_first}
 use Rattle.sha2.specs.Sha256.{sha256}
-use Rattle.scrub_scan.specs.Line.{spaced}
+use Rattle.scrub_scan.specs.Scanned.{Scanned}
 use Rattle.scrub_check.specs.declared.statuses.checked.Checked.{Checked}
-use Rattle.scrub_found.specs.Texts.{owner_text, status_text}
-use Rattle.scrub_listings.specs.Manifest.{numbered_text, two_digits}
-use Rattle.scrub_listings.proofs.WordLines.{decimal_word, hex_word, not_space, split_at_first_injective}
+use Rattle.scrub_check.specs.Checked.{is_sound}
+use Rattle.scrub_check.specs.ChunkForms.{form_at}
+use Rattle.scrub_listings.specs.Manifest.{numbered_text}
+use Rattle.scrub_listings.proofs.ManifestTexts.{kind_word, numbered_are_words, numbered_is, place_is, place_words, places_are_words, words_behind}
+use Rattle.scrub_listings.proofs.Words.{words_back, words_of}
+use Rattle.scrub_compare.specs.Compare.{place_or_form}
 use Rattle.scrub_compare.proofs.Digests.{same_digest}
 
--- the words of a line, one by one
-grouped : (a l h s p : List ℕ) → (a ++ (32 ∷ l)) ++ (32 ∷ h) ++ (32 ∷ s) ++ p ≡ a ++ (32 ∷ (l ++ (32 ∷ (h ++ (32 ∷ (s ++ p))))))
-grouped a l h s p =
-    append_assoc ((a ++ (32 ∷ l)) ++ (32 ∷ h)) (32 ∷ s) p
-    ∙ append_assoc (a ++ (32 ∷ l)) (32 ∷ h) (32 ∷ (s ++ p))
-    ∙ append_assoc a (32 ∷ l) (32 ∷ (h ++ (32 ∷ (s ++ p))))
+module _ (n : ℕ) (c d : Checked) where
+  abbrev words_by : List Scanned → Checked → List (List ℕ)
+  words_by all e = place_words (is_sound e.status) (form_at all e.locator) e.locator
 
-module _ (n : ℕ) (c d : Checked) (p q : List ℕ) where
-  -- what comes in front of a line's length
-  abbrev front : List ℕ
-  front = owner_text c.owner ++ spaced (two_digits n)
+  words_are : (all : List Scanned) (e : Checked) → words_of (numbered_text n e ++ place_or_form all e) ≡ kind_word e.owner ∷ words_behind n e (words_by all e)
+  words_are all e =
+      ap (λ (u : List ℕ). words_of (numbered_text n e ++ u)) (place_is (is_sound e.status) (form_at all e.locator) e.locator)
+      ∙ ap words_of (numbered_is n e (words_by all e))
+      ∙ words_back (kind_word e.owner) (words_behind n e (words_by all e))
+      (numbered_are_words n e (words_by all e) (places_are_words (is_sound e.status) (form_at all e.locator) e.locator))
 
-  -- and what comes from there on
-  abbrev behind : Checked → List ℕ → List ℕ
-  behind e r = decimal e.locator.length ++ (32 ∷ (encode_lower e.locator.digest ++ (32 ∷ (status_text e.status ++ r))))
-
-  -- Lines of one shard and one number that are the same have one length, and one text of a digest.
-  pub same_words : owner_text c.owner ≡ owner_text d.owner → c.locator.length < 2 ^ 64 → d.locator.length < 2 ^ 64 →
-      numbered_text n c ++ p ≡ numbered_text n d ++ q →
+  -- Lines of one number that are the same up to the last word have one length, and one text of a digest.
+  pub same_words : (all others : List Scanned) → c.locator.length < 2 ^ 64 → d.locator.length < 2 ^ 64 →
+      numbered_text n c ++ place_or_form all c ≡ numbered_text n d ++ place_or_form others d →
       (c.locator.length ≡ d.locator.length) × (encode_lower c.locator.digest ≡ encode_lower d.locator.digest)
-  same_words owners small other e =
-      let rest : 32 ∷ behind c p ≡ 32 ∷ behind d q =
-      append_cancel_left front (32 ∷ behind c p) (32 ∷ behind d q)
-      (sym (grouped front (decimal c.locator.length) (encode_lower c.locator.digest) (status_text c.status) p)
-      ∙ e
-      ∙ grouped (owner_text d.owner ++ spaced (two_digits n)) (decimal d.locator.length) (encode_lower d.locator.digest) (status_text d.status) q
-      ∙ ap (λ (o : List ℕ). (o ++ spaced (two_digits n)) ++ (32 ∷ behind d q)) (sym owners)) in
-      let one =
-      split_at_first_injective 32 (decimal c.locator.length) (decimal d.locator.length)
-      (encode_lower c.locator.digest ++ (32 ∷ (status_text c.status ++ p))) (encode_lower d.locator.digest ++ (32 ∷ (status_text d.status ++ q)))
-      (not_space (decimal c.locator.length) (decimal_word c.locator.length small))
-      (not_space (decimal d.locator.length) (decimal_word d.locator.length other))
-      (same_behind_first 32 32 (behind c p) (behind d q) rest) in
-      let two =
-      split_at_first_injective 32 (encode_lower c.locator.digest) (encode_lower d.locator.digest) (status_text c.status ++ p) (status_text d.status ++ q)
-      (not_space (encode_lower c.locator.digest) (hex_word c.locator.digest))
-      (not_space (encode_lower d.locator.digest) (hex_word d.locator.digest)) one.1 in
-      (decimal_injective c.locator.length d.locator.length small other one.0, two.0)
+  same_words all others small other e =
+      let words = sym (words_are all c) ∙ ap words_of e ∙ words_are others d in (
+        decimal_injective c.locator.length d.locator.length small other (ap (λ (ws : List (List ℕ)). get_or ws 3 []) words),
+        ap (λ (ws : List (List ℕ)). get_or ws 4 []) words,
+      )
 
   -- If their digests are those of some payloads, they are the same.
   pub same_digests : (a b : List ℕ) → c.locator.digest ≡ sha256 a → d.locator.digest ≡ sha256 b →

@@ -1,6 +1,6 @@
 -- What had a loose copy before a safe step has a copy after it, as a frame of the later image.
-use Rattle.std.proofs.Common.{◌≡◌, ◌⊎◌, ◌<◌, ◌≤◌, ◌==◌, ◌&&◌, ◌++◌, ◌∷◌, [], ℕ, Bool, true, false, List, Some, None, length, get_or, nat_lt, codes, arith, refl, sym, ◌∙◌, ap, subst, inl, inr, if◌then◌else◌}
-use Rattle.std.specs.List.{All, Contains, filter, slice_get}
+use Rattle.std.proofs.Common.{◌≡◌, ◌<◌, ◌≤◌, ◌==◌, ◌&&◌, [], ℕ, Bool, true, false, List, Some, None, length, get_or, nat_lt, arith, sym, ◌∙◌, subst, inl, inr, if◌then◌else◌}
+use Rattle.std.specs.List.{Contains, filter, slice_get}
 use Rattle.std.specs.Str.{bytes_eq}
 use Rattle.std.proofs.lemmas.Bool.{and_parts, false≢true}
 use Rattle.std.proofs.lemmas.List.Elements.{All-contains, filter_passes}
@@ -8,32 +8,29 @@ use Rattle.std.proofs.lemmas.Option.{slice_get-get_or, slice_get_within}
 use Rattle.std.proofs.lemmas.Slice.Eq.{bytes_eq-Decides}
 use Rattle.hex.specs.Hex.{encode_lower}
 use Rattle.sha2.specs.Sha256.{sha256}
+use Rattle.list_facts.proofs.Elements.{Contains-from_filter}
 use Rattle.scrub_disk.specs.Image.{Image}
 use Rattle.scrub_frame.specs.declared.locator.Locator.{Locator}
 use Rattle.scrub_run.specs.declared.shard_id.ShardId.{ShardId}
 use Rattle.scrub_scan.specs.declared.standing.Standing.{Standing}
 use Rattle.scrub_scan.specs.Standing.{Stands}
-use Rattle.scrub_check.specs.declared.named.Owner.{Owner}
-use Rattle.scrub_check.specs.declared.named.Owner.TheVariants.{Run, Shard}
 use Rattle.scrub_check.specs.declared.statuses.checked.Checked.{Checked}
 use Rattle.scrub_check.specs.Checked.{is_dangling, is_owned_by}
 use Rattle.scrub_check.specs.Spares.{asks_for_spares, frames, is_copy_of, spares_by, spares_of}
 use Rattle.scrub_loose.specs.declared.copies.BestCopy.{BestCopy}
-use Rattle.scrub_loose.specs.Loose.{AreLoose, IsLooseFrame, LooseValue, best_among, best_of, is_gone, loose_of}
+use Rattle.scrub_loose.specs.Loose.{AreLoose, IsLooseFrame, LooseValue, best_of, is_gone, loose_of}
 use Rattle.scrub_found.specs.Resets.{IsScrubbedBut}
 use Rattle.scrub_found.specs.Scrubbed.{Scrubbed}
-use Rattle.scrub_found.specs.Texts.{owner_text}
 use Rattle.scrub_found.proofs.ResetPlans.{whole_but}
 use Rattle.scrub_listings.specs.Manifest.{of_shards}
 use Rattle.scrub_listings.proofs.ManifestTexts.{HasSmallNumbers, small}
-use Rattle.scrub_listings.proofs.ShardLines.{shards_part}
 use Rattle.scrub_reclaim.specs.Copy.{rank}
 use Rattle.scrub_reclaim.proofs.BestCopies.{loose_among}
 use Rattle.scrub_reclaim.proofs.ResetForms.{spare_among}
-use Rattle.scrub_compare.specs.Compare.{AreCompared, Compared, HasBinding, has_no_less, owned_by, place_or_form, row_in}
+use Rattle.scrub_compare.specs.Compare.{AreCompared, Compared, HasBinding, has_no_less, owned_by, row_in}
 use Rattle.scrub_compare.proofs.ChunksThere.{IsThereIn, chunks_there}
 use Rattle.scrub_compare.proofs.KeptManifest.{AreKept, kept, some_bound}
-use Rattle.scrub_compare.proofs.KeptNames.{among_filter, owned_there}
+use Rattle.scrub_compare.proofs.KeptNames.{owned_there}
 use Rattle.scrub_compare.proofs.LastWords.{no_lower, some_copy, some_rank}
 use Rattle.scrub_compare.proofs.Safe.{HasNoLine}
 use Rattle.scrub_compare.proofs.SameContent.{same_digests, same_words}
@@ -83,26 +80,14 @@ asked_digest image l s stands copies =
     (bytes_eq-Decides s.digest l.digest).0 (and_parts (bytes_eq s.digest l.digest) (s.length == l.length) copies).0 in
     (stands.payload, sym same ∙ stands.has.frame.digest)
 
--- ---- whose locators these are
-
--- the owner's text of a locator that a shard names
-owner_is : (id : ShardId) (o : Owner) → is_owned_by id o ≡ true → owner_text o ≡ codes "shard " ++ encode_lower id.0
-owner_is id (Shard other) is = ap (λ (u : List ℕ). codes "shard " ++ encode_lower u) ((bytes_eq-Decides other.0 id.0).0 is)
-owner_is id (Run k) is = absurd (false≢true is)
+-- ---- the numbers of a shard's locator
 
 module _ (resets : List ℕ) (image : Image) (s : Scrubbed) (x : IsScrubbedBut resets image s) (id : ShardId) (n : ℕ) (c : Checked)
     (at : slice_get (owned_by id (of_shards s.checked)) n ≡ Some c) where
-  own_text : owner_text c.owner ≡ codes "shard " ++ encode_lower id.0
-  own_text =
-      owner_is id c.owner
-      (All-contains (λ (d : Checked). is_owned_by id d.owner ≡ true) (owned_by id (of_shards s.checked)) c
-      (filter_passes (λ (d : Checked). is_owned_by id d.owner) (of_shards s.checked)) (owned_there s id n c at))
-
   own_numbers : HasSmallNumbers c.locator
   own_numbers =
       All-contains (λ (d : Checked). HasSmallNumbers d.locator) (of_shards s.checked) c
-      (subst (λ (cs : List Checked). All (λ (d : Checked). HasSmallNumbers d.locator) cs) (sym (shards_part s.plan.runs s.bindings s.checked x.checked.same)) (small resets image s x))
-      (among_filter (λ d. is_owned_by id d.owner) (of_shards s.checked) c (owned_there s id n c at))
+      (small resets image s x) (Contains-from_filter (λ (d : Checked). is_owned_by id d.owner) (of_shards s.checked) c (owned_there s id n c at)).0
 
 -- ---- what is safe
 
@@ -162,8 +147,7 @@ module _ (resets : List ℕ) (before after : Image) (c : Compared) (are : AreCom
 
     words : (e.locator.length ≡ d.locator.length) × (encode_lower e.locator.digest ≡ encode_lower d.locator.digest)
     words =
-        same_words n e d (place_or_form c.before.all e) (place_or_form c.after_resets.all d)
-        (own_text [] before c.before are.scrubbed_before id n e was ∙ sym (own_text resets after c.after_resets are.scrubbed_after_resets id n d at))
+        same_words n e d c.before.all c.after_resets.all
         (own_numbers [] before c.before are.scrubbed_before id n e was).length (own_numbers resets after c.after_resets are.scrubbed_after_resets id n d at).length
         ((bytes_eq-Decides (row_in c.before c.loose.frames n e).stem (row_in c.after_resets c.loose_now.frames n d).stem).0 parts.0)
 
@@ -171,7 +155,7 @@ module _ (resets : List ℕ) (before after : Image) (c : Compared) (are : AreCom
     digests =
         let one = asked_digest before e.locator s ((are.loose.frames s).0 is.2).stands is.1 in
         let other = asked_digest after d.locator found_there.0 found_there.1.there.stands found_there.1.copies in
-        same_digests n e d (place_or_form c.before.all e) (place_or_form c.after_resets.all d) one.0 other.0 one.1 other.1 words.1
+        same_digests n e d one.0 other.0 one.1 other.1 words.1
 
     -- The locator of the earlier image has a copy among the frames of the later one.
     pub still_there : (t : Standing) × IsCopyThere after c.after_resets.plan.planned e.locator t

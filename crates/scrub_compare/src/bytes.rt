@@ -184,7 +184,8 @@ fn first_refused<D: PageSource, E: PageSource>(
     requires sizes { (E.image after.now).geometry ≡ (D.image before.now).geometry }
     requires extent { extent < (D.image before.now).geometry.extents }
     ensures { IfOk result (IsLeastWithin 0 (extent_bytes (D.image before.now).geometry)
-        (λ p. is_refused_in (D.image before.now) (E.image after.now) allowed.room allowed.to extent p ≡ true)) }
+        (λ p. is_refused_in (D.image before.now) (E.image after.now) allowed.room allowed.to extent p ≡
+        true)) }
 {
     let old = read_extent(alloc, before, extent)?;
     let new = read_extent(alloc, after, extent)?;

@@ -223,16 +223,16 @@ fn listing_by(
 ///   `resets`, or at or past the place where the extent had room; and `written EXTENT OFFSET` with the first
 ///   byte that changed where nothing may change;
 /// - `named LINE` for each named locator, as `list_locators` has it, whose extent is one of `resets`;
-/// - `lost LINE`, `new LINE`, `spare LINE` and `loose LINE` for each line of the manifest that would be another
-///   one if `resets` were reset, but nothing if only its last word rises (`none`, `loose`, `spare`). In a line
-///   `spare` or `loose` only the last word falls, and LINE is the earlier one.
+/// - `lost LINE`, `new LINE`, `spare LINE` and `loose LINE` for each line of the manifest that would be
+///   another one if `resets` were reset, but nothing if only its last word rises (`none`, `loose`, `spare`).
+///   In a line `spare` or `loose` only the last word falls, and LINE is the earlier one.
 ///
 /// The last line is `safe OLD NEW` with the generations if none is there, or else `unsafe`. Offsets and
 /// pointers are in bytes.
 ///
 /// It scans each image as `scrub` does, with this many workers (0 to 64) beside the caller, and the later one
-/// once more if there are resets. Each extent is read whole from both images, one after another, and once more
-/// if a payload is gone. The only fault is `OutOfMemory`, returned once every started worker has ended.
+/// once more if there are resets. Each extent is read whole from both images, one after another, and once
+/// more if a payload is gone. The only fault is `OutOfMemory`, returned once every started worker has ended.
 pub fn compare<D: PageSource, E: PageSource, G: Gate, R: Threads + Wait + Sync>(
     rt: &R,
     alloc: Global,

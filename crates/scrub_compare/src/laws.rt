@@ -12,8 +12,8 @@ ghost use Rattle.scrub_compare.specs.Laws.{NoneIsCrowded, NonePointsInto};
 /// A law: if what was written between two images is safe, nothing that is named is lost. Take an image that
 /// differs from the later one only in this: the extents to be reset have the write pointer 0 and any bytes,
 /// and the generation and the bytes of extent 0 may be others. All its index runs are read. Its manifest is
-/// that of the earlier image, except that fewer runs may be hidden, and last words may have risen (from `none`
-/// over `loose` to `spare`): a locator that dangles may have got a better copy, and has lost none.
+/// that of the earlier image, except that fewer runs may be hidden, and last words may have risen (from
+/// `none` over `loose` to `spare`): a locator that dangles may have got a better copy, and has lost none.
 pub fn nothing_is_lost()
     ensures { (resets : List ℕ) (before after other : Image) (a b : List ℕ) (v w : Bool) →
         IsSafe resets before after → IsForeseen resets after other → IsManifest before a v →
@@ -53,8 +53,8 @@ pub fn nothing_points_into_resets()
 /// A law: if what was written between two images is safe, it can be undone. Take an image with the bytes of
 /// the later one in all extents but extent 0, where a superblock counts that names the index runs, the
 /// retired extents and the write pointers of the earlier one. If no extent in use of the later image is
-/// crowded, its manifest is that of the earlier image, except that last words may have risen (from `none` over
-/// `loose` to `spare`): what was copied is past a write pointer then.
+/// crowded, its manifest is that of the earlier image, except that last words may have risen (from `none`
+/// over `loose` to `spare`): what was copied is past a write pointer then.
 pub fn it_can_be_undone()
     ensures { (resets : List ℕ) (before after undone : Image) (a b : List ℕ) (v w : Bool) →
         IsSafe resets before after → NoneIsCrowded after → IsUndone before after undone →

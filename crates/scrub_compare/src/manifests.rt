@@ -178,8 +178,8 @@ fn append_changes_by<D: PageSource, E: PageSource>(
     append_shard_changes(alloc, text, old, new, copies, copies_now, &ids)
 }
 
-/// Appends the lines of what became of a manifest but its last line. The extents of `resets` are taken as reset
-/// in the later image.
+/// Appends the lines of what became of a manifest but its last line. The extents of `resets` are taken as
+/// reset in the later image.
 pub(crate) fn append_manifest_changes<D: PageSource, E: PageSource, R: Threads + Sync>(
     rt: &R,
     alloc: Global,

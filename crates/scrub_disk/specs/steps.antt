@@ -1,6 +1,5 @@
--- Steps of the code: marks while an image is loaded, and the search for the next unreadable page.
+-- Steps of the code: of loading an image, and of filling a block.
 pub mod Marked
-pub mod NextUnreadable
 pub mod Ahead
 pub mod Added
 -- Lemmas that types need: pages are whole.

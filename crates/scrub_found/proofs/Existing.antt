@@ -6,24 +6,24 @@ use Rattle.std.proofs.lemmas.List.Elements.{All-cons, All-replicate}
 use Rattle.std.proofs.lemmas.List.Sorted.{IsPermutation-refl}
 use Rattle.scrub_disk.specs.Image.{Image}
 use Rattle.scrub_frame.specs.declared.locator.Locator.{Locator}
-use Rattle.scrub_super.specs.Plan.{IsPlan}
+use Rattle.scrub_super.specs.Plan.{IsPlan, plan_of}
 use Rattle.scrub_super.specs.steps.Limits.{AreRunLocators}
 use Rattle.scrub_super.proofs.PlansFit.{plan_fits}
-use Rattle.scrub_super.proofs.RecordsThere.{some_choice, some_plan}
+use Rattle.scrub_super.proofs.RecordsThere.{some_choice}
 use Rattle.scrub_scan.specs.AllFindings.{extent_numbers}
 use Rattle.scrub_scan.proofs.Existing.{some_all_findings}
 use Rattle.scrub_merge.proofs.MapsThere.{some_shard_map}
 use Rattle.scrub_check.specs.Named.{named_locators}
-use Rattle.scrub_check.proofs.ListsThere.{some_broken, some_candidates, some_shared}
-use Rattle.scrub_check.proofs.StatusThere.{some_checked, some_read_runs}
+use Rattle.scrub_check.proofs.CheckedLists.{the_checked}
+use Rattle.scrub_check.proofs.OneList.{some_candidates, the_broken, the_shared}
+use Rattle.scrub_check.proofs.IndexRuns.{read_runs_are_runs, the_read_runs}
 use Rattle.scrub_pool.specs.Passes.{one_list}
 use Rattle.scrub_pool.specs.Takings.{TakingsValue}
 use Rattle.scrub_found.specs.Takings.{ArePlannedExtents, AreTakingsBy}
 use Rattle.scrub_found.specs.Resets.{IsScrubbedBut}
 use Rattle.scrub_found.specs.GivenRuns.{IsScrubbedFrom}
 use Rattle.scrub_found.specs.Scrubbed.{Scrubbed, is_in_doubt}
-use Rattle.scrub_found.proofs.GivenPlans.{plan_from_fits, some_plan_from}
-use Rattle.scrub_found.proofs.OneIndex.{read_runs_are_runs}
+use Rattle.scrub_found.proofs.GivenPlans.{plan_from_fits, the_plan_from}
 
 -- ---- all that is found
 
@@ -33,36 +33,36 @@ pub some_scrub_from : (given : Option (List Locator)) (resets : List ℕ) (image
     (s : Scrubbed) × IsScrubbedFrom given resets image s
 some_scrub_from given resets image can =
     let choice = some_choice image in
-    let plan = some_plan_from given resets choice.0 in
-    let fits : IsPlan plan.0 = plan_from_fits given resets image choice.0 plan.0 can choice.1 plan.1 in
-    let all = some_all_findings image plan.0 fits in
+    let plan = the_plan_from given resets choice.0 in
+    let fits : IsPlan plan.answer = plan_from_fits given resets image choice.0 plan.answer can choice.1 plan.meets in
+    let all = some_all_findings image plan.answer fits in
     let rising : IsStrictlyIncreasing (extent_numbers all.0) = rw all.1.extents fits.extents.rising in
-    let read = some_read_runs image plan.0 in
-    let bindings = some_shard_map read.0.runs (read_runs_are_runs image plan.0 read.0 read.1) in
-    let checked = some_checked image plan.0 (named_locators plan.0.runs bindings.0) in
-    let shared = some_shared checked.0 in
-    let broken = some_broken checked.0 in
-    let candidates = some_candidates plan.0 all.0 checked.0 (is_in_doubt choice.0 read.0) rising in (
+    let read = the_read_runs image plan.answer in
+    let bindings = some_shard_map read.answer.runs (read_runs_are_runs image plan.answer read.answer read.meets) in
+    let checked = the_checked image plan.answer (named_locators plan.answer.runs bindings.0) in
+    let shared = the_shared checked.answer in
+    let broken = the_broken checked.answer in
+    let candidates = some_candidates plan.answer all.0 checked.answer (is_in_doubt choice.0 read.answer) rising in (
       record {
         choice = choice.0;
-        plan = plan.0;
+        plan = plan.answer;
         all = all.0;
-        read = read.0;
+        read = read.answer;
         bindings = bindings.0;
-        checked = checked.0;
-        shared = shared.0;
-        broken = broken.0;
+        checked = checked.answer;
+        shared = shared.answer;
+        broken = broken.answer;
         candidates = candidates.0;
       },
       record {
         choice = choice.1;
-        plan = plan.1;
+        plan = plan.meets;
         all = all.1;
-        read = read.1;
+        read = read.meets;
         bindings = bindings.1;
-        checked = checked.1;
-        shared = shared.1;
-        broken = broken.1;
+        checked = checked.meets;
+        shared = shared.meets;
+        broken = broken.meets;
         candidates = candidates.1;
       },
     )
@@ -75,8 +75,7 @@ some_scrub resets image = some_scrub_from None resets image tt
 pub some_planned_extents : (image : Image) → (planned : List ℕ) × ArePlannedExtents image planned
 some_planned_extents image =
     let choice = some_choice image in
-    let plan = some_plan choice.0 in
-    (plan.0.planned, record { choice = choice.0; plan = plan.0; chosen = choice.1; follows = plan.1; are = refl })
+    ((plan_of choice.0).planned, record { choice = choice.0; chosen = choice.1; are = refl })
 
 -- ---- takings
 
@@ -96,14 +95,13 @@ nothing_in (suc n) = nothing_in n
 pub some_takings : (image : Image) (workers : ℕ) → (takings : TakingsValue) × AreTakingsBy image workers takings
 some_takings image workers =
     let choice = some_choice image in
-    let plan = some_plan choice.0 in
-    let fits : IsPlan plan.0 = plan_fits image choice.0 plan.0 choice.1 plan.1 in
-    let all : List ℕ = plan.0.planned in
+    let fits : IsPlan (plan_of choice.0) = plan_fits image choice.0 (plan_of choice.0) choice.1 refl in
+    let all : List ℕ = (plan_of choice.0).planned in
     let whole : all ++ one_list (none_taken workers) ≡ all = ap (λ (rest : List ℕ). all ++ rest) (nothing_in workers) ∙ append-nil all in (
       record { lists = all ∷ none_taken workers; counted = length all },
       record {
         planned = all;
-        are_planned = record { choice = choice.0; plan = plan.0; chosen = choice.1; follows = plan.1; are = refl };
+        are_planned = record { choice = choice.0; chosen = choice.1; are = refl };
         members = omega (arith, length-none_taken workers);
         partition = record {
           rising =

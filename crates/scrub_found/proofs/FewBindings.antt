@@ -27,8 +27,9 @@ use Rattle.scrub_super.specs.Record.{AreContents}
 use Rattle.scrub_super.proofs.NewestRecords.{superblock_fits}
 use Rattle.scrub_frame.specs.declared.locator.Locator.{Locator}
 use Rattle.scrub_frame.specs.Locator.{locator_bytes}
-use Rattle.scrub_run.specs.Entry.{EntryValue, entry_bytes, IsBelow, IsEntry}
-use Rattle.scrub_run.specs.Run.{IsRun, run_body, run_bytes, run_magic}
+use Rattle.scrub_run.specs.Entry.{EntryValue, IsBelow}
+use Rattle.scrub_run.specs.Run.{IsRun, run_bytes, run_magic}
+use Rattle.scrub_run.specs.steps.Parts.{entry_bytes, IsEntry, run_body}
 use Rattle.scrub_merge.specs.Binding.{BindingValue, Runs, IsNewestBinding}
 use Rattle.scrub_merge.specs.ShardMap.{IsShardMap}
 use Rattle.scrub_check.specs.Runs.{AreReadRuns, ReadRunsValue}
@@ -36,7 +37,7 @@ use Rattle.scrub_check.specs.Status.{NamesChunk}
 use Rattle.scrub_check.proofs.Listed.{as_many}
 use Rattle.scrub_found.specs.Resets.{IsPlanBut, IsScrubbedBut}
 use Rattle.scrub_found.specs.Scrubbed.{Scrubbed}
-use Rattle.scrub_found.proofs.OneIndex.{read_of, read_runs_are_runs}
+use Rattle.scrub_check.proofs.IndexRuns.{read_of, read_runs_are_runs}
 use Rattle.scrub_found.proofs.ResetPlans.{plan_before}
 
 -- a binding as an entry, as the index has it
@@ -179,7 +180,7 @@ module _ (resets : List ℕ) (image : Image) (choice : Choice) (plan : PlanValue
   -- The shard map of the runs that were read has fewer than `2 ^ 32` bindings.
   pub countable_map : length bindings < 2 ^ 32
   countable_map =
-      let ids = length-le_from_is_member same_bytes_laws (bound_ids bindings) (ids_of_runs read.runs) (distinct bindings map_is.bindings_of_map.rising)
+      let ids = length-le_from_is_member same_bytes_laws (bound_ids bindings) (ids_of_runs read.runs) (distinct bindings map_is.rising)
       (λ q h. bound_among (same_bytes q) read.runs bindings map_is.newest h) in
       let all =
       sum_by-le (λ (r : Option (List EntryValue)). length (ids_of_run r)) (2 ^ 26) read.runs
@@ -204,7 +205,7 @@ module _ (resets : List ℕ) (image : Image) (choice : Choice) (plan : PlanValue
 
   -- each has at most as many locators as an entry can have
   pub locators_fit : All (λ b. length b.locators ≤ 64) bindings
-  locators_fit k d hk = (entries_of_map k d hk).few
+  locators_fit k d hk = (entries_of_map k d hk).1
 
 -- What is found on an image has fewer than `2 ^ 32` bindings, whichever extents are reset.
 pub countable : (resets : List ℕ) (image : Image) (s : Scrubbed) → IsScrubbedBut resets image s → length s.bindings < 2 ^ 32

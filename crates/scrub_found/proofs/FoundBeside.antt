@@ -10,7 +10,7 @@ use Rattle.scrub_check.specs.declared.lists.place.SharedPlace.{SharedPlace}
 use Rattle.scrub_check.specs.Candidates.{AreCandidates, CandidateValue}
 use Rattle.scrub_check.specs.Checked.{AreBrokenShards}
 use Rattle.scrub_check.specs.Shared.{AreShared}
-use Rattle.scrub_check.proofs.ListsThere.{some_broken, some_candidates, some_shared}
+use Rattle.scrub_check.proofs.OneList.{some_candidates, the_broken, the_shared}
 use Rattle.scrub_check.specs.declared.statuses.checked.Checked.{Checked}
 use Rattle.scrub_found.specs.declared.judging.DrawnScan.{DrawnScan}
 use Rattle.scrub_found.specs.declared.judging.Judged.{Judged}
@@ -59,14 +59,14 @@ module _ {D : Type 0} (given : Option (List Locator)) (resets : List ℕ) (image
 
   -- with some lists, they are what is found
   abbrev pub all_beside_from : Beside
-  all_beside_from = beside_from (some_shared j.checked.items).0 (some_broken j.checked.items).0 some_candidates_from.0
+  all_beside_from = beside_from (the_shared j.checked.items).answer (the_broken j.checked.items).answer some_candidates_from.0
 
   -- With the lists of `all_beside_from`, the judged locators are what is found in the image.
   pub found_beside_from : IsFoundFrom given resets image j all_beside_from
   found_beside_from =
-      let shared = some_shared j.checked.items in
-      let broken = some_broken j.checked.items in
-      with_lists_from shared.0 broken.0 some_candidates_from.0 shared.1 broken.1 some_candidates_from.1
+      let shared = the_shared j.checked.items in
+      let broken = the_broken j.checked.items in
+      with_lists_from shared.answer broken.answer some_candidates_from.0 shared.meets broken.meets some_candidates_from.1
 
 -- ---- by the choice
 

@@ -1,6 +1,7 @@
 -- A plan by given index runs, or by the choice as if extents had been reset: its sizes, what it plans, and that there is one.
-use Rattle.std.proofs.Common.{◌≡◌, ◌+◌, ◌∷◌, [], ℕ, List, Option, None, Some, IfSome, length, refl, sym, ◌∙◌, ap, subst}
+use Rattle.std.proofs.Common.{◌≡◌, ◌+◌, ◌∷◌, [], ℕ, List, Option, None, Some, IfSome, length, sym, ◌∙◌, ap, subst}
 use Rattle.std.specs.List.Sorted.{IsStrictlyIncreasing}
+use Rattle.list_facts.proofs.OneAnswers.{HasOneAnswer, is_that}
 use Rattle.scrub_disk.specs.declared.geometry.Geometry.{Geometry}
 use Rattle.scrub_disk.specs.Image.{Image}
 use Rattle.scrub_frame.specs.declared.locator.Locator.{Locator}
@@ -8,13 +9,11 @@ use Rattle.scrub_super.specs.Chosen.{Choice, IsChoice}
 use Rattle.scrub_super.specs.GivenRuns.{plan_listing}
 use Rattle.scrub_super.specs.Plan.{IsPlan, PlanValue}
 use Rattle.scrub_super.specs.Planned.{extents_in_use}
-use Rattle.scrub_super.specs.Reset.{pointers_reset}
 use Rattle.scrub_super.specs.steps.Limits.{AreRunLocators}
 use Rattle.scrub_super.proofs.GivenRuns.{listing_fits}
 use Rattle.scrub_super.proofs.PlanParts.{plan_parts}
 use Rattle.scrub_super.proofs.Plans.{in_use_planned}
 use Rattle.scrub_super.proofs.PlansFit.{plan_fits, reset_fits}
-use Rattle.scrub_super.proofs.RecordsThere.{some_plan}
 use Rattle.scrub_scan.specs.AllFindings.{AreAllFindings}
 use Rattle.scrub_scan.specs.Scanned.{Scanned}
 use Rattle.scrub_check.specs.WholeScan.{IsWholeScan}
@@ -22,7 +21,7 @@ use Rattle.scrub_pool.specs.Takings.{IsPartition, TakingsValue}
 use Rattle.scrub_found.specs.GivenRuns.{AreTakingsFrom}
 use Rattle.scrub_found.specs.Resets.{IsPlanBut}
 use Rattle.scrub_found.specs.GivenRuns.{FollowsFrom}
-use Rattle.scrub_found.proofs.ResetPlans.{one_plan_but, planned_but, whole_but}
+use Rattle.scrub_found.proofs.ResetPlans.{planned_but, the_plan_but, whole_but}
 
 -- ---- by the choice, as if extents had been reset
 
@@ -32,21 +31,6 @@ pub plan_but_fits : (resets : List ℕ) (image : Image) (choice : Choice) (plan 
 plan_but_fits [] image choice plan chosen is = plan_fits image choice plan chosen is
 plan_but_fits (e ∷ es) image choice plan chosen is =
     reset_fits is.0 plan (e ∷ es) is.2 (plan_fits image choice is.0 chosen is.1)
-
-some_plan_but : (resets : List ℕ) (choice : Choice) → (plan : PlanValue) × IsPlanBut resets choice plan
-some_plan_but [] choice = some_plan choice
-some_plan_but (e ∷ es) choice =
-    let old = some_plan choice in (
-      record {
-        geometry = old.0.geometry;
-        planned = old.0.planned;
-        retired = old.0.retired;
-        pointers = pointers_reset (e ∷ es) old.0.pointers;
-        runs = old.0.runs;
-        has_superblock = old.0.has_superblock;
-      },
-      (old.0, old.1, record { planned = refl; geometry = refl; retired = refl; pointers = refl; runs = refl; has = refl }),
-    )
 
 geometry_but : (resets : List ℕ) (image : Image) (choice : Choice) (plan : PlanValue) → IsChoice image choice →
     IsPlanBut resets choice plan → plan.geometry ≡ image.geometry
@@ -108,13 +92,6 @@ takings_from (Some runs) resets choice plan image workers takings chosen follows
     }
 
 -- There is one plan.
-pub one_plan_from : (given : Option (List Locator)) (resets : List ℕ) (choice : Choice) (p q : PlanValue) →
-    FollowsFrom given resets choice p → FollowsFrom given resets choice q → p ≡ q
-one_plan_from None resets choice p q x y = one_plan_but resets choice p q x y
-one_plan_from (Some runs) resets choice p q x y = x ∙ sym y
-
--- There is a plan.
-pub some_plan_from : (given : Option (List Locator)) (resets : List ℕ) (choice : Choice) →
-    (plan : PlanValue) × FollowsFrom given resets choice plan
-some_plan_from None resets choice = some_plan_but resets choice
-some_plan_from (Some runs) resets choice = (plan_listing choice.geometry runs, refl)
+pub the_plan_from : (given : Option (List Locator)) (resets : List ℕ) (choice : Choice) → HasOneAnswer (FollowsFrom given resets choice)
+the_plan_from None resets choice = the_plan_but resets choice
+the_plan_from (Some runs) resets choice = is_that (plan_listing choice.geometry runs)

@@ -4,8 +4,7 @@
 pub mod OneReader
 pub mod ResetPlans
 pub mod GivenPlans
--- one list of runs, and one record of all that is found
-pub mod OneIndex
+-- one record of all that is found
 pub mod OneScrub
 -- each image has all that is found
 pub mod Existing

@@ -1,6 +1,7 @@
 -- A plan as if extents had been reset: what it plans, and that there is one.
-use Rattle.std.proofs.Common.{◌≡◌, ◌==◌, ◌∷◌, [], ℕ, true, false, List, length, arith, refl, sym, ◌∙◌, ap}
+use Rattle.std.proofs.Common.{◌≡◌, ◌==◌, ◌∷◌, [], ℕ, true, false, List, length, arith, refl, sym, ◌∙◌, ap, subst}
 use Rattle.std.proofs.lemmas.Bool.{eqb-true, false≢true}
+use Rattle.list_facts.proofs.OneAnswers.{HasOneAnswer, is_that}
 use Rattle.scrub_disk.specs.declared.geometry.Geometry.{Geometry}
 use Rattle.scrub_disk.specs.Image.{Image}
 use Rattle.scrub_super.specs.Chosen.{Choice, IsChoice}
@@ -14,7 +15,6 @@ use Rattle.scrub_scan.specs.Scanned.{Scanned}
 use Rattle.scrub_check.specs.WholeScan.{IsWholeScan}
 use Rattle.scrub_found.specs.Takings.{ArePlannedExtents}
 use Rattle.scrub_found.specs.Resets.{IsPlanBut}
-use Rattle.scrub_found.proofs.OneReader.{one_plan, same_plan}
 
 -- Without resets the plan of a choice meets `IsPlanBut`.
 pub none_reset : (resets : List ℕ) (choice : Choice) (plan : PlanValue) → (length resets == 0) ≡ true → plan ≡ plan_of choice →
@@ -55,23 +55,37 @@ whole_but (e ∷ es) choice plan image all chosen is found =
 -- the same extents are planned as without resets
 pub planned_but : (resets : List ℕ) (choice : Choice) (plan : PlanValue) (image : Image) → IsChoice image choice →
     IsPlanBut resets choice plan → ArePlannedExtents image plan.planned
-planned_but [] choice plan image chosen is = record { choice = choice; plan = plan; chosen = chosen; follows = is; are = refl }
+planned_but [] choice plan image chosen is =
+    record { choice = choice; chosen = chosen; are = ap (λ (p : PlanValue). p.planned) is }
 planned_but (e ∷ es) choice plan image chosen is =
-    record { choice = choice; plan = is.0; chosen = chosen; follows = is.1; are = is.2.planned }
+    record { choice = choice; chosen = chosen; are = is.2.planned ∙ ap (λ (p : PlanValue). p.planned) is.1 }
 
 -- there is one plan
-pub one_plan_but : (resets : List ℕ) (choice : Choice) (p q : PlanValue) → IsPlanBut resets choice p → IsPlanBut resets choice q → p ≡ q
-one_plan_but [] choice p q x y = one_plan choice p q x y
-one_plan_but (e ∷ es) choice p q x y =
-    let r : IsReset x.0 (e ∷ es) p = x.2 in
-    let s : IsReset y.0 (e ∷ es) q = y.2 in
-    let same : x.0 ≡ y.0 = one_plan choice x.0 y.0 x.1 y.1 in
-    same_plan p q (r.geometry ∙ ap (λ (o : PlanValue). o.geometry) same ∙ sym s.geometry)
-    (r.planned ∙ ap (λ (o : PlanValue). o.planned) same ∙ sym s.planned)
-    (r.retired ∙ ap (λ (o : PlanValue). o.retired) same ∙ sym s.retired)
-    (r.pointers ∙ ap (λ (o : PlanValue). pointers_reset (e ∷ es) o.pointers) same ∙ sym s.pointers)
-    (r.runs ∙ ap (λ (o : PlanValue). o.runs) same ∙ sym s.runs)
-    (r.has ∙ ap (λ (o : PlanValue). o.has_superblock) same ∙ sym s.has)
+pub the_plan_but : (resets : List ℕ) (choice : Choice) → HasOneAnswer (IsPlanBut resets choice)
+the_plan_but [] choice = is_that (plan_of choice)
+the_plan_but (e ∷ es) choice =
+    let old = plan_of choice in
+    record {
+      answer = record {
+        geometry = old.geometry;
+        planned = old.planned;
+        retired = old.retired;
+        pointers = pointers_reset (e ∷ es) old.pointers;
+        runs = old.runs;
+        has_superblock = old.has_superblock;
+      };
+      meets = (old, refl, record { planned = refl; geometry = refl; retired = refl; pointers = refl; runs = refl; has = refl });
+      only = λ plan is.
+          let reset : IsReset old (e ∷ es) plan = subst (λ (o : PlanValue). IsReset o (e ∷ es) plan) is.1 is.2 in
+          λ i. record {
+            geometry = reset.geometry i;
+            planned = reset.planned i;
+            retired = reset.retired i;
+            pointers = reset.pointers i;
+            runs = reset.runs i;
+            has_superblock = reset.has i;
+          };
+    }
 
 -- what a plan has that isn't a write pointer is that of the plan without resets
 pub plan_before : (resets : List ℕ) (choice : Choice) (plan : PlanValue) → IsPlanBut resets choice plan →

@@ -1,5 +1,5 @@
 -- What the code keeps of a disk until it is written.
-use Rattle.std.specs.Prelude.{◌≡◌, ◌==◌, ◌&&◌, ℕ, Bool, List, [], Option, None, is_some, length, map}
+use Rattle.std.specs.Prelude.{◌≡◌, ◌==◌, ◌&&◌, ℕ, Bool, List, [], Option, None, is_some, length, map, not, option_map}
 use Rattle.std.specs.List.{list_all}
 use Rattle.scrub_disk.specs.Image.{Image}
 use Rattle.scrub_frame.specs.declared.locator.Locator.{Locator}
@@ -28,7 +28,7 @@ use Rattle.scrub_found.specs.declared.judging.Judged.{Judged}
 use Rattle.scrub_found.specs.declared.runs.RunRow.{RunRow}
 use Rattle.scrub_found.specs.declared.scanning.Scan.{Scan}
 use Rattle.scrub_found.specs.GivenRuns.{FollowsFrom, IsScrubbedFrom}
-use Rattle.scrub_found.specs.Scrubbed.{Scrubbed, entry_counts, is_clean_choice, is_clean_extent, is_in_doubt}
+use Rattle.scrub_found.specs.Scrubbed.{Scrubbed, is_clean_extent, is_in_doubt}
 
 module _ {D : Type 0} where
   -- what was chosen, planned and scanned is as it is in the image, with the plan by these index runs, if they are given, or else
@@ -55,7 +55,7 @@ run_states rows = map (λ r. r.state) rows
 -- became of it
 pub record AreRowsOf (locators : List Locator) (read : ReadRunsValue) (rows : List RunRow) : Type 0 where
   pub locators_are : map (λ r. r.locator) rows ≡ locators
-  pub entries_are : map (λ r. r.entries) rows ≡ entry_counts read.runs
+  pub entries_are : map (λ r. r.entries) rows ≡ map (option_map length) read.runs
   pub states_are : run_states rows ≡ read.states
 
 -- what follows from which chunks are live
@@ -141,5 +141,5 @@ module _ {D : Type 0} where
   -- whether a scan is clean, by the rows of its runs, whether each named locator is sound, and the shared places
   abbrev pub is_clean_by : Scan D → List RunRow → Bool → List SharedPlace → Bool
   is_clean_by s rows sound shared =
-      is_clean_choice s.chosen && list_all is_clean_extent s.all.extents && list_all (λ r. is_some r.entries) rows && sound
-      && length shared == 0
+      is_some s.chosen.superblock && not s.chosen.tie && length s.chosen.bad_pages == 0
+      && list_all is_clean_extent s.all.extents && list_all (λ r. is_some r.entries) rows && sound && length shared == 0

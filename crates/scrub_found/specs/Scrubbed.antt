@@ -1,5 +1,5 @@
 -- What is found on a whole disk, each part as it is in the image, and whether it is clean.
-use Rattle.std.specs.Prelude.{◌≡◌, ◌==◌, ◌&&◌, ◌||◌, ℕ, Bool, true, false, not, List, Option, length, is_none, is_some, map, option_map}
+use Rattle.std.specs.Prelude.{◌≡◌, ◌==◌, ◌&&◌, ◌||◌, Bool, true, false, not, List, length, is_none, is_some}
 use Rattle.std.specs.List.{list_all, list_any}
 use Rattle.scrub_disk.specs.Image.{Image}
 use Rattle.scrub_super.specs.Chosen.{Choice, IsChoice}
@@ -9,13 +9,13 @@ use Rattle.scrub_scan.specs.declared.item.Item.TheVariants.{Chunk, Pad}
 use Rattle.scrub_scan.specs.Scanned.{Scanned}
 use Rattle.scrub_scan.specs.AllFindings.{AreAllFindings}
 use Rattle.scrub_run.specs.declared.shard_id.ShardId.{ShardId}
-use Rattle.scrub_merge.specs.Binding.{BindingValue, Runs}
+use Rattle.scrub_merge.specs.Binding.{BindingValue}
 use Rattle.scrub_merge.specs.ShardMap.{IsShardMap}
 use Rattle.scrub_check.specs.declared.statuses.checked.Checked.{Checked}
 use Rattle.scrub_check.specs.declared.lists.place.SharedPlace.{SharedPlace}
 use Rattle.scrub_check.specs.Runs.{ReadRunsValue, AreReadRuns}
 use Rattle.scrub_check.specs.Named.{named_locators}
-use Rattle.scrub_check.specs.Checked.{AreChecked, AreBrokenShards, dangling, hidden}
+use Rattle.scrub_check.specs.Checked.{AreChecked, AreBrokenShards, is_sound}
 use Rattle.scrub_check.specs.Shared.{AreShared}
 use Rattle.scrub_check.specs.Candidates.{CandidateValue, AreCandidates}
 
@@ -31,10 +31,6 @@ pub record Scrubbed : Type 0 where
   pub shared : List SharedPlace
   pub broken : List ShardId
   pub candidates : List CandidateValue
-
--- how many entries each run has, None if it is lost
-abbrev pub entry_counts : Runs → List (Option ℕ)
-entry_counts runs = map (option_map length) runs
 
 -- a newer superblock or a newer binding may have been lost, or it is open which is the newer one: there is a tie, an
 -- unreadable page of extent 0, or a lost run
@@ -67,15 +63,10 @@ is_clean_item _ = false
 abbrev pub is_clean_extent : Scanned → Bool
 is_clean_extent f = length f.findings.bad_pages == 0 && list_all is_clean_item f.findings.items
 
--- a superblock counts, there is no tie, and each page of extent 0 can be read
-abbrev pub is_clean_choice : Choice → Bool
-is_clean_choice choice = is_some choice.superblock && not choice.tie && length choice.bad_pages == 0
-
--- no locator dangles or is hidden, and no place is shared
-abbrev pub is_clean_list : List Checked → List SharedPlace → Bool
-is_clean_list checked shared = length (dangling checked) == 0 && length (hidden checked) == 0 && length shared == 0
-
--- the choice, all scanned extents and the lists are clean, and no run is lost; orphans, twins, tails and candidates
--- don't count against it
+-- a superblock counts, there is no tie, each page of extent 0 can be read, all scanned extents are clean, no run is lost,
+-- each named locator is sound, and no place is shared; orphans, twins, tails and candidates don't count against it
 abbrev pub is_clean_disk : Scrubbed → Bool
-is_clean_disk s = is_clean_choice s.choice && list_all is_clean_extent s.all && list_all is_some s.read.runs && is_clean_list s.checked s.shared
+is_clean_disk s =
+    is_some s.choice.superblock && not s.choice.tie && length s.choice.bad_pages == 0
+    && list_all is_clean_extent s.all && list_all is_some s.read.runs
+    && list_all (λ c. is_sound c.status) s.checked && length s.shared == 0

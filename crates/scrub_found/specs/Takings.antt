@@ -2,16 +2,14 @@
 use Rattle.std.specs.Prelude.{◌≡◌, ◌+◌, ℕ, List, length}
 use Rattle.scrub_disk.specs.Image.{Image}
 use Rattle.scrub_super.specs.Chosen.{Choice, IsChoice}
-use Rattle.scrub_super.specs.Plan.{PlanValue, plan_of}
+use Rattle.scrub_super.specs.Plan.{plan_of}
 use Rattle.scrub_pool.specs.Takings.{IsPartition, TakingsValue}
 
 -- the extents that a scrub scans, ascending: the planned extents of the plan that follows from the choice
 pub record ArePlannedExtents (image : Image) (planned : List ℕ) : Type 0 where
   pub choice : Choice
-  pub plan : PlanValue
   pub chosen : IsChoice image choice
-  pub follows : plan ≡ plan_of choice
-  pub are : planned ≡ plan.planned
+  pub are : planned ≡ (plan_of choice).planned
 
 -- what a scan of the image by this many workers beside the caller took: a list for each of them and one for the caller,
 -- which may be empty; each planned extent is in one of them, once; and how many planned extents were counted, which is all

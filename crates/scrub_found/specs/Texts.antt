@@ -1,9 +1,8 @@
--- The texts of the report for shards, UUIDs, owners and statuses of locators, and what became of a run.
+-- The texts for UUIDs, for owners and statuses of locators, and for what became of a run.
 use Rattle.std.specs.Prelude.{ℕ, List, ◌++◌, codes}
 use Rattle.std.specs.Fmt.{decimal}
 use Rattle.hex.specs.Hex.{encode_lower}
 use Rattle.uuid.specs.Text.{hyphenated_text, lower}
-use Rattle.scrub_run.specs.declared.shard_id.ShardId.{ShardId}
 use Rattle.scrub_check.specs.declared.named.Owner.{Owner}
 use Rattle.scrub_check.specs.declared.named.Owner.TheVariants.{Run, Shard}
 use Rattle.scrub_check.specs.declared.statuses.status.Status.{Status}
@@ -11,18 +10,15 @@ use Rattle.scrub_check.specs.declared.statuses.status.Status.TheVariants.{OutOfR
 use Rattle.scrub_check.specs.declared.runs.RunState.{RunState}
 use Rattle.scrub_check.specs.declared.runs.RunState.TheVariants.{Read, BadChunk, NotARun}
 
--- a shard's identifier as 32 hexadecimal digits in lower case
-abbrev pub id_text : ShardId → List ℕ
-id_text id = encode_lower id.0
-
 -- a UUID as RFC 9562 writes it, with hyphens, in lower case
 abbrev pub uuid_text : List ℕ → List ℕ
 uuid_text uuid = hyphenated_text lower uuid
 
--- the owner of a locator: `run` with the run's number, or `shard` with the text of its identifier
+-- the owner of a locator: `run` with the run's number, or `shard` with its identifier as 32 hexadecimal digits in lower
+-- case
 abbrev pub owner_text : Owner → List ℕ
 owner_text (Run number) = codes "run " ++ decimal number
-owner_text (Shard id) = codes "shard " ++ id_text id
+owner_text (Shard id) = codes "shard " ++ encode_lower id.0
 
 -- the word for a locator's status, as `no_frame`; only the first eight are ever a reason
 abbrev pub status_text : Status → List ℕ

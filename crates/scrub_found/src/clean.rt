@@ -4,14 +4,13 @@ ghost use Rattle.std.specs.Prelude.{◌≡◌, is_some};
 ghost use Rattle.std.specs.List.{list_all};
 ghost use Rattle.scrub_scan.specs.Scanned.{scanned};
 ghost use Rattle.scrub_found.specs.Judged.{is_clean_by};
-ghost use Rattle.scrub_found.specs.Scrubbed.{is_clean_choice, is_clean_extent, is_clean_item};
+ghost use Rattle.scrub_found.specs.Scrubbed.{is_clean_extent, is_clean_item};
 
 use crate::runs::RunRow;
 use crate::scanning::Scan;
 use scrub_check::SharedPlace;
 use scrub_disk::PageSource;
 use scrub_scan::{AllFindings, ExtentResult, Item};
-use scrub_super::Chosen;
 
 /// Whether an item is neither torn nor noise nor lost.
 fn is_clean_item(item: &Item) -> bool
@@ -42,13 +41,6 @@ fn are_clean_extents<D: PageSource>(all: &AllFindings<'_, D>) -> bool
     all.results().all(|found| is_clean_extent(found))
 }
 
-/// Whether a superblock counts, none ties with it, and every page of extent 0 can be read.
-fn is_clean_choice(chosen: &Chosen) -> bool
-    ensures { result ≡ is_clean_choice chosen.now }
-{
-    chosen.superblock().is_some() && !chosen.tie() && chosen.bad_pages().is_empty()
-}
-
 /// Whether each index run is read.
 fn are_read(runs: &[RunRow]) -> bool
     ensures { result ≡ list_all (λ r. is_some r.entries) runs.now }
@@ -66,7 +58,9 @@ pub fn is_clean<D: PageSource>(
 ) -> bool
     ensures { result ≡ is_clean_by scan.now runs.now are_sound shared.now }
 {
-    is_clean_choice(&scan.chosen)
+    scan.chosen.superblock().is_some()
+        && !scan.chosen.tie()
+        && scan.chosen.bad_pages().is_empty()
         && are_clean_extents(&scan.all)
         && are_read(runs)
         && are_sound

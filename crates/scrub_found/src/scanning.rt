@@ -120,8 +120,8 @@ fn scan_planned<'d, D: PageSource, G: Gate, R: Threads + Wait + Sync>(
     Ok((scan, takings))
 }
 
-/// Does what `scan_by` does where it is known which superblock counts, as if these extents, which are ascending,
-/// had been reset.
+/// Does what `scan_by` does where it is known which superblock counts, as if these extents, which are
+/// ascending, had been reset.
 pub fn scan_chosen<'d, D: PageSource, G: Gate, R: Threads + Wait + Sync>(
     rt: &R,
     alloc: Global,

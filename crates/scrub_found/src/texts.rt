@@ -1,7 +1,8 @@
 //! Texts of the report and of lines: identifiers, owners and statuses of locators, and what became of a run.
 
 ghost use Rattle.std.specs.Prelude.{◌≡◌, IfOk, string_bytes};
-ghost use Rattle.scrub_found.specs.Texts.{id_text, owner_text, state_text, status_text};
+ghost use Rattle.hex.specs.Hex.{encode_lower};
+ghost use Rattle.scrub_found.specs.Texts.{owner_text, state_text, status_text};
 
 use scrub_check::{Owner, RunState, Status};
 use scrub_disk::OutOfMemory;
@@ -10,7 +11,7 @@ use std::alloc::Global;
 
 /// A shard's identifier, as 32 lower-case hexadecimal digits.
 pub fn id_text(alloc: Global, id: ShardId) -> Result<String, OutOfMemory>
-    ensures { IfOk result (λ text. string_bytes text ≡ id_text id) }
+    ensures { IfOk result (λ text. string_bytes text ≡ encode_lower id.0) }
 {
     hex::encode(alloc, id.0)
 }

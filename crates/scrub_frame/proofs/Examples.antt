@@ -3,7 +3,7 @@ use Rattle.std.proofs.Common.{◌≡◌, ℕ, List, [], ◌∷◌, ◌++◌, rep
 use Rattle.scrub_frame.specs.declared.locator.Locator.{Locator}
 use Rattle.scrub_frame.specs.declared.form.Form.TheVariants.{Plain, Sealed}
 use Rattle.sha2.proofs.Facts256.{digest_of_abc_256}
-use Rattle.scrub_frame.specs.Frame.{head, mark, frame_of}
+use Rattle.scrub_frame.specs.Frame.{head, frame_of}
 use Rattle.scrub_frame.specs.Locator.{locator_bytes}
 
 -- the UUID of sixteen bytes 11
@@ -37,7 +37,7 @@ sealed_frame_of_abc : frame_of Sealed ones abc ≡ 0xC5 ∷ 0x5F ∷
     0x11 ∷ 0x11 ∷ 0x11 ∷ 0x11 ∷ 0x11 ∷ 0x11 ∷ 0x11 ∷ 0x11 ∷ 0x11 ∷ 0x11 ∷ 0x11 ∷ 0x11 ∷ 0x11 ∷ 0x11 ∷ 0x11 ∷ 0x11 ∷
     0x3A ∷ 0xA3 ∷ []
 unfolding ones abc
-sealed_frame_of_abc = ap (λ d. head Sealed ones 3 ++ (d ++ (abc ++ (ones ++ mark Sealed)))) digest_of_abc_256
+sealed_frame_of_abc = ap (λ d. head Sealed ones 3 ++ d ++ abc ++ ones ++ 0x3A ∷ 0xA3 ∷ []) digest_of_abc_256
 
 -- the locator of that frame at extent 1, offset 0
 locator : Locator

@@ -9,7 +9,7 @@ use Rattle.sha2.proofs.Facts256.{length-sha256}
 use Rattle.list_facts.proofs.Slices.{part-rest, part_at}
 use Rattle.scrub_frame.specs.declared.form.Form.{Form}
 use Rattle.scrub_frame.specs.declared.form.Form.TheVariants.{Plain, Sealed}
-use Rattle.scrub_frame.specs.Frame.{magic, head, head_size, seal, seal_size, mark, payload_start, close_size, frame_overhead, frame_of, HasFrame, BeginsWithFrame, digest_size}
+use Rattle.scrub_frame.specs.Frame.{magic, head, head_size, seal, seal_size, mark, payload_start, close_size, frame_overhead, frame_of, HasFrame, BeginsWithFrame, BeginsWithNoFrame, digest_size}
 use Rattle.scrub_frame.specs.Matching.{form_in}
 use Rattle.scrub_frame.proofs.Bytes.{bytes-number_at, bytes-injective}
 
@@ -97,13 +97,27 @@ pub overhead : (f : Form) → frame_overhead f ≡ payload_start f + close_size 
 overhead Plain = refl
 overhead Sealed = refl
 
+-- A frame is its head, its seal, its payload and what closes it.
+pub frame_in_parts : (f : Form) (u b : List ℕ) → frame_of f u b ≡ head f u (length b) ++ (seal f b ++ (b ++ (u ++ mark f)))
+frame_in_parts Plain u b =
+    let closed : magic Plain ++ u ++ big_bytes 4 (length b) ++ b ++ u ≡ head Plain u (length b) ++ (b ++ u) = simp append_assoc in
+    closed ∙ ap (λ t. head Plain u (length b) ++ (b ++ t)) (sym (append-nil u))
+frame_in_parts Sealed u b = simp append_assoc
+
+-- What the parts of a frame are appended to ends with the frame.
+pub appended_in_parts : (t : List ℕ) (f : Form) (u b : List ℕ) →
+    t ++ magic f ++ u ++ big_bytes 4 (length b) ++ seal f b ++ b ++ (u ++ mark f) ≡ t ++ frame_of f u b
+appended_in_parts t f u b =
+    let parts : t ++ magic f ++ u ++ big_bytes 4 (length b) ++ seal f b ++ b ++ (u ++ mark f) ≡ t ++ (head f u (length b) ++ (seal f b ++ (b ++ (u ++ mark f)))) = simp append_assoc in
+    parts ∙ ap (λ v. t ++ v) (sym (frame_in_parts f u b))
+
 -- the length of a frame
 pub length-frame : (f : Form) (u b : List ℕ) → length u ≡ 16 → length (frame_of f u b) ≡ frame_overhead f + length b
 length-frame f u b lu =
     let whole = length-append (head f u (length b)) (seal f b ++ (b ++ (u ++ mark f))) in
     let behind_head = length-append (seal f b) (b ++ (u ++ mark f)) in
     let behind_seal = length-append b (u ++ mark f) in
-    omega (arith, overhead f, whole, behind_head, behind_seal, length-head f u (length b), length-seal f b, length-close f u lu, lu)
+    omega (arith, overhead f, ap length (frame_in_parts f u b), whole, behind_head, behind_seal, length-head f u (length b), length-seal f b, length-close f u lu, lu)
 
 -- the parts of bytes that begin with the frame of this form, this UUID and this payload
 pub record Stands (x : List ℕ) (f : Form) (u b : List ℕ) : Type 0 where
@@ -153,13 +167,18 @@ stands x f u b h = record {
     lhs = omega (arith, length-append (head f u (length b)) (seal f b), lh, ls)
 
     behind_head : x ≡ head f u (length b) ++ (seal f b ++ (b ++ ((u ++ mark f) ++ h.rest)))
-    behind_head = h.spelled ∙ simp append_assoc
+    behind_head = h.spelled ∙ ap (λ t. t ++ h.rest) (frame_in_parts f u b) ∙ simp append_assoc
 
     behind_seal : x ≡ (head f u (length b) ++ seal f b) ++ (b ++ ((u ++ mark f) ++ h.rest))
     behind_seal = behind_head ∙ sym (append_assoc (head f u (length b)) (seal f b) (b ++ ((u ++ mark f) ++ h.rest)))
 
     behind_payload : x ≡ ((head f u (length b) ++ seal f b) ++ b) ++ ((u ++ mark f) ++ h.rest)
     behind_payload = behind_seal ∙ sym (append_assoc (head f u (length b) ++ seal f b) b ((u ++ mark f) ++ h.rest))
+
+-- Where the first two bytes are no magic, no frame begins.
+pub other_magic : (y x : List ℕ) → IsFirstChunk x y head_size → ((f : Form) → ¬ (take 2 y ≡ magic f)) → BeginsWithNoFrame x
+other_magic y x chunk none f u b h =
+    none f (ap (take 2) (chunk.same ∙ (stands x f u b h).head_is) ∙ magic-first f (u ++ big_bytes 4 (length b)))
 
 -- bytes that have a frame's parts in their places begin with it
 pub frame_of_parts : (x : List ℕ) (f : Form) (u : List ℕ) (n : ℕ) → length u ≡ 16 → n < 2 ^ 32 →
@@ -172,8 +191,7 @@ frame_of_parts x f u n lu short enough first sealed close = record {
   rest = behind;
   spelled =
       sym (take-append-drop head_size x) ∙ ap (λ t. t ++ drop head_size x) (first ∙ ap (head f u) (sym lb))
-      ∙ ap (λ t. head f u (length b) ++ t) behind_head
-      ∙ simp append_assoc;
+      ∙ ap (λ t. head f u (length b) ++ t) behind_head ∙ parted ∙ ap (λ t. t ++ behind) (sym (frame_in_parts f u b));
 }
   where
     b : List ℕ
@@ -181,6 +199,9 @@ frame_of_parts x f u n lu short enough first sealed close = record {
 
     behind : List ℕ
     behind = drop (payload_start f + n + close_size f) x
+
+    parted : head f u (length b) ++ (seal f b ++ (b ++ ((u ++ mark f) ++ behind))) ≡ (head f u (length b) ++ (seal f b ++ (b ++ (u ++ mark f)))) ++ behind
+    parted = simp append_assoc
 
     lb : length (take n (drop (payload_start f) x)) ≡ n
     lb = length-take-le n (drop (payload_start f) x) (omega (arith, overhead f, length-drop (payload_start f) x, enough))

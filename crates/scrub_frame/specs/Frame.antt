@@ -51,11 +51,12 @@ abbrev pub frame_overhead : Form → ℕ
 frame_overhead Plain = 38
 frame_overhead Sealed = 72
 
--- the frame of a UUID and a payload: the magic, the UUID and the payload's length in four bytes, then the seal, the
--- payload, the UUID again, and the mark
+-- the frame of a UUID and a payload: the magic, the UUID, the payload's length in four bytes, the payload, and the UUID again; in
+-- a sealed one the payload's digest is before the payload, and the closing mark 3A A3 comes last
 abbrev pub frame_of : Form → List ℕ → List ℕ → List ℕ
-frame_of form uuid payload =
-    (magic form ++ (uuid ++ big_bytes 4 (length payload))) ++ (seal form payload ++ (payload ++ (uuid ++ mark form)))
+frame_of Plain uuid payload = magic Plain ++ uuid ++ big_bytes 4 (length payload) ++ payload ++ uuid
+frame_of Sealed uuid payload =
+    magic Sealed ++ uuid ++ big_bytes 4 (length payload) ++ sha256 payload ++ payload ++ uuid ++ 0x3A ∷ 0xA3 ∷ []
 
 -- these have a frame: a UUID of sixteen bytes, and a payload whose length fits four bytes
 pub record HasFrame (uuid payload : List ℕ) : Type 0 where

@@ -3,7 +3,8 @@
 ghost use Rattle.std.specs.Prelude.{◌≡◌, ◌+◌, ◌≤◌, ◌++◌, ◌↔◌, List, [], ℕ, length, take, slice_range, IfSome};
 ghost use Rattle.std.specs.Prelude.{IfNone, IsTrue};
 ghost use Rattle.scrub_frame.specs.declared.form.Form.{Form};
-ghost use Rattle.scrub_frame.specs.Frame.{magic, head, seal, seal_size, payload_start, frame_overhead, frame_of};
+ghost use Rattle.scrub_frame.specs.Frame.{magic, head, seal, seal_size, payload_start, frame_overhead};
+ghost use Rattle.scrub_frame.specs.Frame.{frame_of};
 ghost use Rattle.scrub_frame.specs.Frame.{HasFrame, BeginsWithFrame, BeginsWithNoFrame};
 
 use crate::digest::digest_of;

@@ -1,7 +1,6 @@
 -- Lemmas on the listings, the manifest and the summary.
 
 -- lists element by element, and runs by their rows
-pub mod AllPass
 pub mod FlatLists
 pub mod ReadRows
 -- the listing of locators
@@ -9,8 +8,7 @@ pub mod SpareLines
 -- the manifest: its lines, its text, and what it says in images of bytes
 pub mod ShardLines
 pub mod AfterStatus
-pub mod WordLines
-pub mod ManifestLines
+pub mod Words
 pub mod ManifestTexts
 pub mod ManifestBytes
 -- the listing of sizes
@@ -21,4 +19,3 @@ pub mod SummaryLines
 pub mod SummaryChunks
 -- that an image has each text, and only one
 pub mod OneListing
-pub mod Existing

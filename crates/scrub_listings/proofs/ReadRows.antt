@@ -12,12 +12,11 @@ use Rattle.scrub_check.specs.declared.named.Owner.TheVariants.{Run, Shard}
 use Rattle.scrub_check.specs.Runs.{ReadRunsValue}
 use Rattle.scrub_found.specs.declared.runs.RunRow.{RunRow}
 use Rattle.scrub_found.specs.Judged.{AreRowsOf}
-use Rattle.scrub_found.specs.Scrubbed.{entry_counts}
 use Rattle.scrub_listings.specs.Manifest.{is_of_read_run}
 use Rattle.scrub_listings.specs.steps.Manifest.{is_of_read_row}
 
 -- a run is lost if it has no number of entries
-none_counted : (runs : Runs) → count_by is_none (entry_counts runs) ≡ count_by is_none runs
+none_counted : (runs : Runs) → count_by is_none (map (option_map length) runs) ≡ count_by is_none runs
 none_counted runs =
     count_map is_none (option_map (λ (es : List EntryValue). length es)) runs
     ∙ ap (λ (p : Option (List EntryValue) → Bool). count_by p runs) (fun_ext same)
@@ -28,7 +27,7 @@ none_counted runs =
 
 -- of one number, a run and its row are read or aren't
 read_number : (runs : Runs) (k : ℕ) →
-    option_map_or is_some (slice_get (entry_counts runs) k) false ≡ option_map_or is_some (slice_get runs k) false
+    option_map_or is_some (slice_get (map (option_map length) runs) k) false ≡ option_map_or is_some (slice_get runs k) false
 read_number [] k = refl
 read_number (None ∷ rs) zero = refl
 read_number (Some es ∷ rs) zero = refl

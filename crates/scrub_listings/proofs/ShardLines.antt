@@ -1,11 +1,12 @@
 -- The lines of a manifest, one shard after another, are those of each shard's locators among all named ones.
 use Rattle.std.proofs.Common.{◌≡◌, ◌<◌, ◌≤◌, ◌+◌, ◌&&◌, ◌++◌, ◌∷◌, [], ℕ, zero, suc, Bool, true, false, List, length, map, take, drop, get_or, AllPairs, arith, refl, sym, ◌∙◌, ap, subst, append-nil, append_assoc}
-use Rattle.std.specs.List.{All, count_by, enumerate_from, filter, flat_map, take-map}
+use Rattle.std.proofs.Math.Bool.{and-false}
+use Rattle.std.proofs.Math.Path.{ap₂}
+use Rattle.std.specs.List.{All, count_by, filter, flat_map, take-map}
 use Rattle.std.proofs.Math.ListN.{drop_of_length-le}
 use Rattle.std.proofs.Math.Seq.{drop-append_seam, drop-cons, take-append_seam}
 use Rattle.std.proofs.lemmas.List.{drop-map, length-append, length-map, length-take-le, take-append-drop}
-use Rattle.std.proofs.lemmas.List.Elements.{All-append, All-cons, All-head, All-tail, filter-append}
-use Rattle.std.proofs.lemmas.List.FromFn.{get_or-enumerate_from, length-enumerate_from}
+use Rattle.std.proofs.lemmas.List.Elements.{All-append, All-cons, All-head, All-map, All-nil, All-tail, All-weaker, filter-append}
 use Rattle.std.proofs.lemmas.List.Sums.{count_by-le-length, length-filter}
 use Rattle.list_facts.proofs.Filters.{filter_all, filter_none}
 use Rattle.scrub_frame.specs.declared.locator.Locator.{Locator}
@@ -21,15 +22,12 @@ use Rattle.scrub_check.specs.Checked.{is_owned_by, named_of}
 use Rattle.scrub_check.specs.Named.{named_locators, named_by_runs, named_by_shard}
 use Rattle.scrub_check.proofs.Owners.{All-named_by_shard, All-named_by_shards, not_owned_by_above, not_owned_by_below, owned_by_itself}
 use Rattle.scrub_listings.specs.Manifest.{is_of_shard, numbered_line, numbered_lines, shard_lines}
-use Rattle.scrub_listings.proofs.FlatLists.{flat_all, flat_more}
+use Rattle.scrub_listings.proofs.SpareLines.{flat_same}
 
 -- ---- which shard owns which locators
 
-abbrev IsOwned : ShardId → Bool → Checked → Type 0
-IsOwned id b c = is_owned_by id c.owner ≡ b
-
 -- what holds of what is made of each element holds of the elements
-pub All-map-back : {X Y : Type 0} (P : Y → Type 0) (f : X → Y) (xs : List X) → All P (map f xs) → All (λ (x : X). P (f x)) xs
+All-map-back : {X Y : Type 0} (P : Y → Type 0) (f : X → Y) (xs : List X) → All P (map f xs) → All (λ (x : X). P (f x)) xs
 All-map-back P f [] all = λ i d below. absurd (omega (arith, below))
 All-map-back {X} P f (x ∷ xs) all =
     All-cons (λ (y : X). P (f y)) x xs (All-head P (f x) (map f xs) all)
@@ -108,71 +106,47 @@ along_fits b bs cs same =
       length_named b,
     )
 
--- no locator of the front is one of these shards'
-abbrev AreApart : List Checked → List BindingValue → Type 0
-AreApart front bs = All (λ (b : BindingValue). All (IsOwned b.id false) front) bs
+-- the locators that pass a test, if none of those behind the front does
+in_front : (p : Checked → Bool) (n : ℕ) (cs : List Checked) → All (λ c. p c ≡ false) (drop n cs) → filter p cs ≡ filter p (take n cs)
+in_front p n cs none =
+    ap (filter p) (sym (take-append-drop n cs)) ∙ filter-append p (take n cs) (drop n cs)
+    ∙ ap (λ (us : List Checked). filter p (take n cs) ++ us) (filter_none p (drop n cs) none) ∙ append-nil (filter p (take n cs))
 
--- the locators of the first shard, among all
-own_of : (front : List Checked) (b : BindingValue) (bs : List BindingValue) (cs : List Checked) → Rising (b ∷ bs) →
-    AreAlong (b ∷ bs) cs → All (IsOwned b.id false) front →
-    filter (λ c. is_owned_by b.id c.owner) (front ++ cs) ≡ take (length b.locators) cs
-own_of front b bs cs rising same none =
-    filter-append p front cs
-    ∙ ap (λ (us : List Checked). us ++ filter p cs) (filter_none p front none)
-    ∙ ap (filter p) (sym (take-append-drop n cs))
-    ∙ filter-append p (take n cs) (drop n cs)
-    ∙ ap (λ (us : List Checked). us ++ filter p (drop n cs)) (filter_all p (take n cs) mine)
-    ∙ ap (λ (us : List Checked). take n cs ++ us) (filter_none p (drop n cs) others)
-    ∙ append-nil (take n cs)
-  where
-    p : Checked → Bool
-    p c = is_owned_by b.id c.owner
-
-    n : ℕ
-    n = length b.locators
-
-    mine : All (IsOwned b.id true) (take n cs)
-    mine =
-        of_names (λ o. is_owned_by b.id o ≡ true) (take n cs) (named_by_shard b) (own_first b bs cs same)
-        (All-named_by_shard (λ o. is_owned_by b.id o ≡ true) b (owned_by_itself b.id))
-
-    others : All (IsOwned b.id false) (drop n cs)
-    others =
-        of_names (λ o. is_owned_by b.id o ≡ false) (drop n cs) (flat_map named_by_shard bs) (along_behind b bs cs same)
-        (All-named_by_shards (λ o. is_owned_by b.id o ≡ false) bs
-        (λ k d below. not_owned_by_below b.id (get_or bs k d).id (rising zero (suc k) d (omega arith) (omega (arith, below)))))
-
--- the front and the first shard's locators are apart from the shards after
-apart_behind : (front : List Checked) (b : BindingValue) (bs : List BindingValue) (cs : List Checked) → Rising (b ∷ bs) →
-    AreAlong (b ∷ bs) cs → AreApart front (b ∷ bs) → AreApart (front ++ take (length b.locators) cs) bs
-apart_behind front b bs cs rising same apart k d below =
-    let v : BindingValue = get_or bs k d in
-    All-append (IsOwned v.id false) front (take (length b.locators) cs)
-    (apart (suc k) d (omega (arith, below)))
-    (of_names (λ o. is_owned_by v.id o ≡ false) (take (length b.locators) cs) (named_by_shard b) (own_first b bs cs same)
-    (All-named_by_shard (λ o. is_owned_by v.id o ≡ false) b
-    (not_owned_by_above b.id v.id (rising zero (suc k) d (omega arith) (omega (arith, below))))))
-
-lines_of_all : (after : Checked → List ℕ) (front : List Checked) (bs : List BindingValue) (cs : List Checked) → Rising bs → AreAlong bs cs →
-    AreApart front bs → lines_along after bs cs ≡ flat_map (λ b. shard_lines after (front ++ cs) b.id) bs
-lines_of_all after front [] cs rising same apart = refl
-lines_of_all after front (b ∷ bs) cs rising same apart =
-    let n = length b.locators in
-    let rest : lines_along after bs (drop n cs) ≡ flat_map (λ v. shard_lines after ((front ++ take n cs) ++ drop n cs) v.id) bs =
-    lines_of_all after (front ++ take n cs) bs (drop n cs)
-    (λ i j d order here. rising (suc i) (suc j) d (omega (arith, order)) (omega (arith, here)))
-    (along_behind b bs cs same) (apart_behind front b bs cs rising same apart) in
-    let whole : (front ++ take n cs) ++ drop n cs ≡ front ++ cs =
-    append_assoc front (take n cs) (drop n cs) ∙ ap (λ (us : List Checked). front ++ us) (take-append-drop n cs) in
-    ap (λ (us : List Checked). numbered_lines after us ++ lines_along after bs (drop n cs))
-    (sym (own_of front b bs cs rising same (All-head (λ (v : BindingValue). All (IsOwned v.id false) front) b bs apart)))
-    ∙ ap (λ (u : List ℕ). shard_lines after (front ++ cs) b.id ++ u)
-    (rest ∙ ap (λ (us : List Checked). flat_map (λ v. shard_lines after us v.id) bs) whole)
+-- and if none of the front does
+behind_front : (p : Checked → Bool) (n : ℕ) (cs : List Checked) → All (λ c. p c ≡ false) (take n cs) → filter p cs ≡ filter p (drop n cs)
+behind_front p n cs none =
+    ap (filter p) (sym (take-append-drop n cs)) ∙ filter-append p (take n cs) (drop n cs)
+    ∙ ap (λ (us : List Checked). us ++ filter p (drop n cs)) (filter_none p (take n cs) none)
 
 -- The lines of shards one after another are, for each, those of its locators among all.
 pub lines_are : (after : Checked → List ℕ) (bs : List BindingValue) (cs : List Checked) → Rising bs → AreAlong bs cs →
     lines_along after bs cs ≡ flat_map (λ b. shard_lines after cs b.id) bs
-lines_are after bs cs rising same = lines_of_all after [] bs cs rising same (λ k d below i e none. absurd (omega (arith, none)))
+lines_are after [] cs rising same = refl
+lines_are after (b ∷ bs) cs rising same =
+    let n = length b.locators in
+    ap₂ (λ (u v : List ℕ). u ++ v)
+    (ap (numbered_lines after) (sym (in_front (λ c. is_owned_by b.id c.owner) n cs others ∙ filter_all (λ c. is_owned_by b.id c.owner) (take n cs) mine)))
+    (lines_are after bs (drop n cs) (λ i j d order here. rising (suc i) (suc j) d (omega (arith, order)) (omega (arith, here))) (along_behind b bs cs same)
+    ∙ flat_same (λ v. shard_lines after (drop n cs) v.id) (λ v. shard_lines after cs v.id) bs
+    (λ k d below. ap (numbered_lines after) (sym (behind_front (λ c. is_owned_by (get_or bs k d).id c.owner) n cs (not_of (get_or bs k d) (above k d below))))))
+  where
+    above : (k : ℕ) (d : BindingValue) → k < length bs → IsBelow b.id (get_or bs k d).id
+    above k d below = rising zero (suc k) d (omega arith) (omega (arith, below))
+
+    mine : All (λ c. is_owned_by b.id c.owner ≡ true) (take (length b.locators) cs)
+    mine =
+        of_names (λ o. is_owned_by b.id o ≡ true) (take (length b.locators) cs) (named_by_shard b) (own_first b bs cs same)
+        (All-named_by_shard (λ o. is_owned_by b.id o ≡ true) b (owned_by_itself b.id))
+
+    others : All (λ c. is_owned_by b.id c.owner ≡ false) (drop (length b.locators) cs)
+    others =
+        of_names (λ o. is_owned_by b.id o ≡ false) (drop (length b.locators) cs) (flat_map named_by_shard bs) (along_behind b bs cs same)
+        (All-named_by_shards (λ o. is_owned_by b.id o ≡ false) bs (λ k d below. not_owned_by_below b.id (get_or bs k d).id (above k d below)))
+
+    not_of : (v : BindingValue) → IsBelow b.id v.id → All (λ c. is_owned_by v.id c.owner ≡ false) (take (length b.locators) cs)
+    not_of v over =
+        of_names (λ o. is_owned_by v.id o ≡ false) (take (length b.locators) cs) (named_by_shard b) (own_first b bs cs same)
+        (All-named_by_shard (λ o. is_owned_by v.id o ≡ false) b (not_owned_by_above b.id v.id over))
 
 -- ---- after the locators of the runs
 
@@ -197,20 +171,13 @@ module _ (runs : List Locator) (bs : List BindingValue) (checked : List Checked)
         length_runs 0 runs,
       )
 
--- the locators of shards, among all
-of_shard_owner : (K : Owner → Type 0) (bs : List BindingValue) → ((id : ShardId) → K (Shard id)) →
-    All (λ (n : Named). K n.owner) (flat_map named_by_shard bs)
-of_shard_owner K bs shard = All-named_by_shards K bs (λ k d below. shard (get_or bs k d).id)
-
 -- The locators that shards name are all those after the locators of the runs.
 pub shards_part : (runs : List Locator) (bs : List BindingValue) (checked : List Checked) → map named_of checked ≡ named_locators runs bs →
     filter (λ c. is_of_shard c.owner) checked ≡ drop (length runs) checked
 shards_part runs bs checked same =
-    ap (filter p) (sym (take-append-drop n checked))
-    ∙ filter-append p (take n checked) (drop n checked)
-    ∙ ap (λ (us : List Checked). us ++ filter p (drop n checked))
-    (filter_none p (take n checked) (of_names (λ o. is_of_shard o ≡ false) (take n checked) (named_by_runs 0 runs) (named_front (named_by_runs 0 runs) (flat_map named_by_shard bs) checked n (length_runs 0 runs) same) (of_runs (λ o. is_of_shard o ≡ false) (λ k. refl) 0 runs)))
-    ∙ filter_all p (drop n checked) (of_names (λ o. is_of_shard o ≡ true) (drop n checked) (flat_map named_by_shard bs) (along_runs runs bs checked same) (of_shard_owner (λ o. is_of_shard o ≡ true) bs (λ id. refl)))
+    behind_front p n checked
+    (of_names (λ o. is_of_shard o ≡ false) (take n checked) (named_by_runs 0 runs) (named_front (named_by_runs 0 runs) (flat_map named_by_shard bs) checked n (length_runs 0 runs) same) (of_runs (λ o. is_of_shard o ≡ false) (λ k. refl) 0 runs))
+    ∙ filter_all p (drop n checked) (of_names (λ o. is_of_shard o ≡ true) (drop n checked) (flat_map named_by_shard bs) (along_runs runs bs checked same) (All-named_by_shards (λ o. is_of_shard o ≡ true) bs (λ k d below. refl)))
   where
     p : Checked → Bool
     p c = is_of_shard c.owner
@@ -218,28 +185,26 @@ shards_part runs bs checked same =
     n : ℕ
     n = length runs
 
+all_named : (P : Named → Type 0) (bs : List BindingValue) → All (λ b. All (λ l. P (record { owner = Shard b.id; locator = l })) b.locators) bs →
+    All P (flat_map named_by_shard bs)
+all_named P [] each = All-nil P
+all_named P (b ∷ bs) each =
+    All-append P (named_by_shard b) (flat_map named_by_shard bs)
+    (All-map P (λ (l : Locator). record { owner = Shard b.id; locator = l }) b.locators (All-head (λ v. All (λ l. P (record { owner = Shard v.id; locator = l })) v.locators) b bs each))
+    (all_named P bs (All-tail (λ v. All (λ l. P (record { owner = Shard v.id; locator = l })) v.locators) b bs each))
+
+-- What holds of each locator of each shard by its name holds of all locators that shards name.
+pub of_each_shard : (P : Named → Type 0) (runs : List Locator) (bs : List BindingValue) (checked : List Checked) →
+    map named_of checked ≡ named_locators runs bs → All (λ b. All (λ l. P (record { owner = Shard b.id; locator = l })) b.locators) bs →
+    All (λ c. P (named_of c)) (filter (λ c. is_of_shard c.owner) checked)
+of_each_shard P runs bs checked same each =
+    subst (λ (cs : List Checked). All (λ c. P (named_of c)) cs) (sym (shards_part runs bs checked same))
+    (All-map-back P named_of (drop (length runs) checked) (subst (All P) (sym (along_runs runs bs checked same)) (all_named P bs each)))
+
 -- ---- what the code has written
 
 abbrev pub line_of : (Checked → List ℕ) → ℕ × Checked → List ℕ
 line_of after p = numbered_line after p.0 p.1
-
--- one more locator of a shard
-pub number_more : (after : Checked → List ℕ) (own : List Checked) (i : ℕ) (d : Checked) (old mid new : List ℕ) → i < length own →
-    mid ≡ old ++ flat_map (line_of after) (take i (enumerate_from 0 own)) →
-    new ≡ mid ++ numbered_line after i (get_or own i d) →
-    new ≡ old ++ flat_map (line_of after) (take (i + 1) (enumerate_from 0 own))
-number_more after own i d old mid new below so_far grown =
-    flat_more (line_of after) old mid new (enumerate_from 0 own) i (0, d) (numbered_line after i (get_or own i d))
-    (omega (arith, below, length-enumerate_from 0 own))
-    (ap (λ n. numbered_line after n (get_or own i d)) (let e : i ≡ 0 + i = omega arith in e)
-    ∙ ap (line_of after) (sym (get_or-enumerate_from 0 own i (0, d) below)))
-    so_far grown
-
--- all locators of a shard
-pub number_all : (after : Checked → List ℕ) (own : List Checked) (i : ℕ) (old mid : List ℕ) → length own ≤ i →
-    mid ≡ old ++ flat_map (line_of after) (take i (enumerate_from 0 own)) → mid ≡ old ++ numbered_lines after own
-number_all after own i old mid end so_far =
-    flat_all (line_of after) old mid (enumerate_from 0 own) i (omega (arith, end, length-enumerate_from 0 own)) so_far
 
 module _ (bindings : List BindingValue) (i : ℕ) (b : BindingValue) (below : i < length bindings) (is : b ≡ get_or bindings i b) where
   -- the shards that are left, by the next one
@@ -293,10 +258,7 @@ hidden_few runs bs checked p q same none =
     let n = length runs in
     let r : Checked → Bool = λ c. p c.status && q c.owner in
     let part : length (filter r checked) ≡ length (filter r (take n checked)) =
-    ap (λ (us : List Checked). length (filter r us)) (sym (take-append-drop n checked))
-    ∙ ap (λ (us : List Checked). length us) (filter-append r (take n checked) (drop n checked)
-    ∙ ap (λ (us : List Checked). filter r (take n checked) ++ us) (filter_none r (drop n checked) (λ k d below. and_false (p (get_or (drop n checked) k d).status) (q (get_or (drop n checked) k d).owner) (of_names (λ o. q o ≡ false) (drop n checked) (flat_map named_by_shard bs) (along_runs runs bs checked same) (of_shard_owner (λ o. q o ≡ false) bs none) k d below)))
-    ∙ append-nil (filter r (take n checked))) in
+    ap (λ (us : List Checked). length us) (in_front r n checked (All-weaker (λ c. q c.owner ≡ false) (λ c. r c ≡ false) (λ c h. ap (λ b. p c.status && b) h ∙ and-false (p c.status)) (drop n checked) (of_names (λ o. q o ≡ false) (drop n checked) (flat_map named_by_shard bs) (along_runs runs bs checked same) (All-named_by_shards (λ o. q o ≡ false) bs (λ k d below. none (get_or bs k d).id))))) in
     omega (
       arith,
       part,
@@ -305,7 +267,3 @@ hidden_few runs bs checked p q same none =
       count_by-le-length r (take n checked),
       length-take-le n checked (runs_fit runs bs checked same),
     )
-  where
-    and_false : (a b : Bool) → b ≡ false → (a && b) ≡ false
-    and_false true b e = e
-    and_false false b e = refl

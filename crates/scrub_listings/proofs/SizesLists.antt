@@ -1,9 +1,10 @@
 -- Records and lost ranges in one list by ascending start, and the lines of raw bytes that it gives.
-use Rattle.std.proofs.Common.{◌≡◌, ◌≢◌, ◌<◌, ◌≤◌, ◌+◌, ◌-◌, ◌*◌, ◌/◌, ◌++◌, ℕ, zero, suc, Bool, true, false, List, [], ◌∷◌, length, slice_get, take, get_or, arith, refl, sym, ◌∙◌, ap, subst, inl, inr, Option, Some}
+use Rattle.std.proofs.Common.{◌≡◌, ◌≢◌, ◌<◌, ◌≤◌, ◌+◌, ◌-◌, ◌*◌, ◌/◌, ◌++◌, ℕ, Bool, false, not, List, [], ◌∷◌, length, slice_get, take, drop, get_or, arith, refl, sym, ◌∙◌, ap, subst, inl, inr, Option, Some}
 use Rattle.std.specs.Prelude.{◌↔◌, IsTrue}
-use Rattle.std.specs.List.{All, AllPairs, Contains}
-use Rattle.std.proofs.lemmas.Bool.{cases_lt, false≢true}
-use Rattle.std.proofs.lemmas.List.{take_all, take_more, get_or_default}
+use Rattle.std.specs.List.{All, AllPairs, Contains, position_or_len}
+use Rattle.std.proofs.lemmas.Bool.{cases_lt, false≢true, not-false, not-true}
+use Rattle.std.proofs.lemmas.List.{take_all, take_more, get_or_default, get_or-drop, length-drop}
+use Rattle.std.proofs.lemmas.List.Sums.{fails_before_first, passes_at_first}
 use Rattle.std.proofs.lemmas.List.Elements.{All-contains_itself, Contains-push, Contains-push_cases, Contains-append_left}
 use Rattle.list_facts.proofs.Rising.{one_rising_by, rises_more}
 use Rattle.scrub_disk.specs.declared.geometry.Geometry.{Geometry}
@@ -23,16 +24,20 @@ use Rattle.scrub_listings.specs.steps.Sizes.{CanMerge, AreInOrder, AreSizesIn, I
 
 -- ---- the merge
 
--- the first records and the first ranges are in the list, and all in it begins before the others
-pub record AreMerged (records : List FoundRecord) (ranges : List LostBytes) (r l : ℕ)
+-- the first elements of two lists are in the list of lines, and all in it begins before the others
+pub record AreMergedBy {X Y : Type 0} (f : X → SizesLine) (g : Y → SizesLine) (xs : List X) (ys : List Y) (n m : ℕ)
     (lines : List SizesLine) : Type 0 where
   pub rising : AllPairs (λ a b. line_start a < line_start b) lines
-  pub records_are : (x : FoundRecord) → Contains lines (Record x) ↔ Contains (take r records) x
-  pub ranges_are : (x : LostBytes) → Contains lines (Lost x) ↔ Contains (take l ranges) x
-  pub below_records : (line : SizesLine) → Contains lines line → (k : ℕ) (d : FoundRecord) → r ≤ k →
-      k < length records → line_start line < (get_or records k d).offset
-  pub below_ranges : (line : SizesLine) → Contains lines line → (k : ℕ) (d : LostBytes) → l ≤ k → k < length ranges →
-      line_start line < (get_or ranges k d).from
+  pub firsts_are : (x : X) → Contains lines (f x) ↔ Contains (take n xs) x
+  pub seconds_are : (y : Y) → Contains lines (g y) ↔ Contains (take m ys) y
+  pub below_firsts : (line : SizesLine) → Contains lines line → (k : ℕ) (d : X) → n ≤ k → k < length xs →
+      line_start line < line_start (f (get_or xs k d))
+  pub below_seconds : (line : SizesLine) → Contains lines line → (k : ℕ) (d : Y) → m ≤ k → k < length ys →
+      line_start line < line_start (g (get_or ys k d))
+
+-- the first records and the first ranges are in the list, and all in it begins before the others
+abbrev pub AreMerged : List FoundRecord → List LostBytes → ℕ → ℕ → List SizesLine → Type 0
+AreMerged records ranges r l lines = AreMergedBy Record Lost records ranges r l lines
 
 none_in : {X : Type 0} (x : X) → Contains [] x → ⊥
 none_in x c = omega (arith, c.1)
@@ -41,16 +46,11 @@ none_in x c = omega (arith, c.1)
 pub none_merged : (records : List FoundRecord) (ranges : List LostBytes) → AreMerged records ranges 0 0 []
 none_merged records ranges = record {
   rising = λ i j d hi hj. absurd (omega (arith, hj));
-  records_are = λ x. ((λ c. absurd (none_in (Record x) c)), (λ c. absurd (none_in x c)));
-  ranges_are = λ x. ((λ c. absurd (none_in (Lost x) c)), (λ c. absurd (none_in x c)));
-  below_records = λ line c. absurd (none_in line c);
-  below_ranges = λ line c. absurd (none_in line c);
+  firsts_are = λ x. ((λ c. absurd (none_in (Record x) c)), (λ c. absurd (none_in x c)));
+  seconds_are = λ x. ((λ c. absurd (none_in (Lost x) c)), (λ c. absurd (none_in x c)));
+  below_firsts = λ line c. absurd (none_in line c);
+  below_seconds = λ line c. absurd (none_in line c);
 }
-
--- one more element of a list
-taken_more : {X : Type 0} (xs : List X) (n : ℕ) (x : X) → n < length xs → x ≡ get_or xs n x →
-    take (n + 1) xs ≡ take n xs ++ x ∷ []
-taken_more xs n x h is = take_more xs n x h ∙ ap (λ y. take n xs ++ y ∷ []) (sym is)
 
 -- the default doesn't matter
 at_any : {X : Type 0} (xs : List X) (n : ℕ) (x d : X) → n < length xs → x ≡ get_or xs n x → get_or xs n d ≡ x
@@ -63,6 +63,64 @@ from_here key xs n k start d up le lt low = elim (cases_lt n k) [
   | inl later ↦ omega (arith, low, up n k d later lt)
   | inr here ↦ let e : k ≡ n = omega (arith, le, here) in subst (λ (m : ℕ). start < key (get_or xs m d)) (sym e) low
 ]
+
+-- the other list as the first
+swapped : {X Y : Type 0} {f : X → SizesLine} {g : Y → SizesLine} {xs : List X} {ys : List Y} {n m : ℕ} {lines : List SizesLine} →
+    AreMergedBy f g xs ys n m lines → AreMergedBy g f ys xs m n lines
+swapped h = record {
+  rising = h.rising;
+  firsts_are = h.seconds_are;
+  seconds_are = h.firsts_are;
+  below_firsts = h.below_seconds;
+  below_seconds = h.below_firsts;
+}
+
+module _ {X Y : Type 0} (f : X → SizesLine) (g : Y → SizesLine) (one : (x y : X) → f x ≡ f y → x ≡ y) (apart : (x : X) (y : Y) → f x ≡ g y → ⊥) where
+  one_more : (xs : List X) (ys : List Y) (n m : ℕ) (lines : List SizesLine) (x : X) →
+      AllPairs (λ a b. line_start (f a) < line_start (f b)) xs → AllPairs (λ a b. line_start (g a) < line_start (g b)) ys →
+      AreMergedBy f g xs ys n m lines → n < length xs → x ≡ get_or xs n x →
+      ((d : Y) → m < length ys → line_start (f x) < line_start (g (get_or ys m d))) →
+      AreMergedBy f g xs ys (n + 1) m (lines ++ f x ∷ [])
+  one_more xs ys n m lines x rise others old here is first = record {
+    rising = rises_more line_start lines (f x) old.rising (λ line c.
+        let low = old.below_firsts line c n x (omega arith) here in
+        let at : line_start (f (get_or xs n x)) ≡ line_start (f x) = ap (λ y. line_start (f y)) (sym is) in omega (arith, low, at));
+    firsts_are = λ y. (
+      (λ c. rw grown (elim (Contains-push_cases lines (f x) (f y) c) [
+        | inl was ↦ Contains-append_left (take n xs) (x ∷ []) y ((old.firsts_are y).0 was)
+        | inr same ↦ subst (λ (z : X). Contains (take n xs ++ x ∷ []) z) (one x y same) (Contains-push (take n xs) x)
+      ])),
+      (λ c. elim (Contains-push_cases (take n xs) x y (rw grown at c)) [
+        | inl was ↦ Contains-append_left lines (f x ∷ []) (f y) ((old.firsts_are y).1 was)
+        | inr same ↦ subst (λ (z : X). Contains (lines ++ f x ∷ []) (f z)) same (Contains-push lines (f x))
+      ]),
+    );
+    seconds_are = λ y. (
+      (λ c. elim (Contains-push_cases lines (f x) (g y) c) [
+        | inl was ↦ (old.seconds_are y).0 was
+        | inr same ↦ absurd (apart x y same)
+      ]),
+      (λ c. Contains-append_left lines (f x ∷ []) (g y) ((old.seconds_are y).1 c)),
+    );
+    below_firsts = λ line c k d le lt. elim (Contains-push_cases lines (f x) line c) [
+      | inl was ↦ old.below_firsts line was k d (omega (arith, le)) lt
+      | inr same ↦
+          let up = rise n k d (omega (arith, le)) lt in
+          let at : line_start (f (get_or xs n d)) ≡ line_start (f x) = ap (λ y. line_start (f y)) (at_any xs n x d here is) in
+          let start : line_start (f x) ≡ line_start line = ap line_start same in
+          omega (arith, up, at, start)
+    ];
+    below_seconds = λ line c k d le lt. elim (Contains-push_cases lines (f x) line c) [
+      | inl was ↦ old.below_seconds line was k d le lt
+      | inr same ↦
+          let up = from_here (λ y. line_start (g y)) ys m k (line_start (f x)) d others le lt (first d (omega (arith, le, lt))) in
+          let start : line_start (f x) ≡ line_start line = ap line_start same in
+          omega (arith, up, start)
+    ];
+  }
+    where
+      grown : take (n + 1) xs ≡ take n xs ++ x ∷ []
+      grown = take_more xs n x here ∙ ap (λ y. take n xs ++ y ∷ []) (sym is)
 
 not_lost : (x : FoundRecord) (y : LostBytes) → Record x ≡ Lost y → ⊥
 not_lost x y e = cc
@@ -78,105 +136,19 @@ record_more : (records : List FoundRecord) (ranges : List LostBytes) (r l : ℕ)
     r < length records → x ≡ get_or records r x →
     ((d : LostBytes) → l < length ranges → x.offset < (get_or ranges l d).from) →
     AreMerged records ranges (r + 1) l (lines ++ Record x ∷ [])
-record_more records ranges r l lines x can old here is first = record {
-  rising = rises_more line_start lines (Record x) old.rising (λ line c.
-      let low = old.below_records line c r x (omega arith) here in
-      let at : (get_or records r x).offset ≡ x.offset = ap (λ y. y.offset) (sym is) in omega (arith, low, at));
-  records_are = λ y. (
-    (λ c. rw grown (elim (Contains-push_cases lines (Record x) (Record y) c) [
-      | inl was ↦ Contains-append_left (take r records) (x ∷ []) y ((old.records_are y).0 was)
-      | inr same ↦
-          subst (λ (z : FoundRecord). Contains (take r records ++ x ∷ []) z) (same_record_in x y same)
-          (Contains-push (take r records) x)
-    ])),
-    (λ c. elim (Contains-push_cases (take r records) x y (rw grown at c)) [
-      | inl was ↦ Contains-append_left lines (Record x ∷ []) (Record y) ((old.records_are y).1 was)
-      | inr same ↦
-          subst (λ (z : FoundRecord). Contains (lines ++ Record x ∷ []) (Record z)) same
-          (Contains-push lines (Record x))
-    ]),
-  );
-  ranges_are = λ y. (
-    (λ c. elim (Contains-push_cases lines (Record x) (Lost y) c) [
-      | inl was ↦ (old.ranges_are y).0 was
-      | inr same ↦ absurd (not_lost x y same)
-    ]),
-    (λ c. Contains-append_left lines (Record x ∷ []) (Lost y) ((old.ranges_are y).1 c)),
-  );
-  below_records = λ line c k d le lt. elim (Contains-push_cases lines (Record x) line c) [
-    | inl was ↦ old.below_records line was k d (omega (arith, le)) lt
-    | inr same ↦
-        let up : (get_or records r d).offset < (get_or records k d).offset =
-        can.records_rise r k d (omega (arith, le)) lt in
-        let at : (get_or records r d).offset ≡ x.offset = ap (λ y. y.offset) (at_any records r x d here is) in
-        let start : x.offset ≡ line_start line = ap line_start same in
-        omega (arith, up, at, start)
-  ];
-  below_ranges = λ line c k d le lt. elim (Contains-push_cases lines (Record x) line c) [
-    | inl was ↦ old.below_ranges line was k d le lt
-    | inr same ↦
-        let up =
-        from_here (λ y. y.from) ranges l k x.offset d can.ranges_rise le lt (first d (omega (arith, le, lt))) in
-        let start : x.offset ≡ line_start line = ap line_start same in
-        omega (arith, up, start)
-  ];
-}
-  where
-    grown : take (r + 1) records ≡ take r records ++ x ∷ []
-    grown = taken_more records r x here is
+record_more records ranges r l lines x can = one_more Record Lost same_record_in not_lost records ranges r l lines x can.records_rise can.ranges_rise
 
 range_more : (records : List FoundRecord) (ranges : List LostBytes) (r l : ℕ) (lines : List SizesLine) (x : LostBytes) →
     CanMerge records ranges → AreMerged records ranges r l lines →
     l < length ranges → x ≡ get_or ranges l x →
     ((d : FoundRecord) → r < length records → x.from ≤ (get_or records r d).offset) →
     AreMerged records ranges r (l + 1) (lines ++ Lost x ∷ [])
-range_more records ranges r l lines x can old here is first = record {
-  rising = rises_more line_start lines (Lost x) old.rising (λ line c.
-      let low = old.below_ranges line c l x (omega arith) here in
-      let at : (get_or ranges l x).from ≡ x.from = ap (λ y. y.from) (sym is) in omega (arith, low, at));
-  records_are = λ y. (
-    (λ c. elim (Contains-push_cases lines (Lost x) (Record y) c) [
-      | inl was ↦ (old.records_are y).0 was
-      | inr same ↦ absurd (not_lost y x (sym same))
-    ]),
-    (λ c. Contains-append_left lines (Lost x ∷ []) (Record y) ((old.records_are y).1 c)),
-  );
-  ranges_are = λ y. (
-    (λ c. rw grown (elim (Contains-push_cases lines (Lost x) (Lost y) c) [
-      | inl was ↦ Contains-append_left (take l ranges) (x ∷ []) y ((old.ranges_are y).0 was)
-      | inr same ↦
-          subst (λ (z : LostBytes). Contains (take l ranges ++ x ∷ []) z) (same_range_in x y same)
-          (Contains-push (take l ranges) x)
-    ])),
-    (λ c. elim (Contains-push_cases (take l ranges) x y (rw grown at c)) [
-      | inl was ↦ Contains-append_left lines (Lost x ∷ []) (Lost y) ((old.ranges_are y).1 was)
-      | inr same ↦
-          subst (λ (z : LostBytes). Contains (lines ++ Lost x ∷ []) (Lost z)) same (Contains-push lines (Lost x))
-    ]),
-  );
-  below_records = λ line c k d le lt. elim (Contains-push_cases lines (Lost x) line c) [
-    | inl was ↦ old.below_records line was k d le lt
-    | inr same ↦
-        let more : r < length records = omega (arith, le, lt) in
-        let ne : (get_or records r d).offset ≢ x.from =
-        can.apart (get_or records r d) x (All-contains_itself records r d more) (l, here, sym is) in
-        let low : x.from < (get_or records r d).offset = omega (arith, first d more, ne) in
-        let up = from_here (λ y. y.offset) records r k x.from d can.records_rise le lt low in
-        let start : x.from ≡ line_start line = ap line_start same in
-        omega (arith, up, start)
-  ];
-  below_ranges = λ line c k d le lt. elim (Contains-push_cases lines (Lost x) line c) [
-    | inl was ↦ old.below_ranges line was k d (omega (arith, le)) lt
-    | inr same ↦
-        let up : (get_or ranges l d).from < (get_or ranges k d).from = can.ranges_rise l k d (omega (arith, le)) lt in
-        let at : (get_or ranges l d).from ≡ x.from = ap (λ y. y.from) (at_any ranges l x d here is) in
-        let start : x.from ≡ line_start line = ap line_start same in
-        omega (arith, up, at, start)
-  ];
-}
-  where
-    grown : take (l + 1) ranges ≡ take l ranges ++ x ∷ []
-    grown = taken_more ranges l x here is
+range_more records ranges r l lines x can old here is first =
+    swapped
+    (one_more Lost Record same_range_in (λ y z e. not_lost z y (sym e)) ranges records l r lines x can.ranges_rise can.records_rise (swapped old) here is
+    (λ d more.
+    let ne : (get_or records r d).offset ≢ x.from = can.apart (get_or records r d) x (All-contains_itself records r d more) (l, here, sym is) in
+    omega (arith, first d more, ne)))
 
 -- one more line, with the records and the ranges that are before the next
 pub line_more : (records : List FoundRecord) (ranges : List LostBytes) (r n : ℕ) (lines more : List SizesLine) (line : SizesLine) (count : ℕ) →
@@ -214,8 +186,8 @@ pub all_merged : (records : List FoundRecord) (ranges : List LostBytes) (r l : �
     length records ≤ r → length ranges ≤ l → AreMerged records ranges r l lines → AreInOrder records ranges lines
 all_merged records ranges r l lines hr hl h = record {
   rising = h.rising;
-  records_are = rw (take_all r records hr) at h.records_are;
-  ranges_are = rw (take_all l ranges hl) at h.ranges_are;
+  records_are = rw (take_all r records hr) at h.firsts_are;
+  ranges_are = rw (take_all l ranges hl) at h.seconds_are;
 }
 
 -- ---- what was found
@@ -252,83 +224,46 @@ in_order bytes lost records ranges lines h o = record {
 
 -- ---- a lost block is in a run of lost blocks
 
-abbrev HasFirst : List Bool → ℕ → Type 0
-HasFirst lost n =
-    (f : ℕ) × (f ≤ n) × ((k : ℕ) → f ≤ k → k ≤ n → IsMarked lost k) × ((k : ℕ) → k + 1 ≡ f → IsMarked lost k → ⊥)
-
-first_before : (lost : List Bool) (n : ℕ) → IsMarked lost (suc n) → (IsMarked lost n → HasFirst lost n) →
-    HasFirst lost (suc n)
-first_before lost n m before = by (get_or lost n false) refl
-  where
-    this : (k : ℕ) → suc n ≤ k → k ≤ suc n → IsMarked lost k
-    this k low high = let e : k ≡ suc n = omega (arith, low, high) in ap (λ j. get_or lost j false) e ∙ m
-
-    by : (b : Bool) → get_or lost n false ≡ b → HasFirst lost (suc n)
-    by false e = (
-      suc n,
-      omega arith,
-      this,
-      (λ k at marked. let here : k ≡ n = omega (arith, at) in false≢true (sym e ∙ ap (λ j. get_or lost j false) (sym here) ∙ marked)),
-    )
-    by true e =
-        let r : HasFirst lost n = before e in (
-          r.0,
-          omega (arith, r.1),
-          (λ k low high. elim (cases_lt n k) [ inl last ↦ this k (omega (arith, last)) high | inr earlier ↦ r.2 k low earlier ]),
-          r.3,
-        )
-
-first_of_run : (lost : List Bool) (n : ℕ) → IsMarked lost n → HasFirst lost n
-first_of_run lost zero m = (
-  0,
-  omega arith,
-  (λ k low high. let e : k ≡ 0 = omega (arith, high) in ap (λ j. get_or lost j false) e ∙ m),
-  (λ k e. absurd (omega (arith, e))),
+-- if a block is lost, the first lost blocks are a run
+some_run : (lost : List Bool) (n : ℕ) → IsMarked lost n → (first stop : ℕ) × IsLostRun lost first stop
+some_run lost n m = (
+  first,
+  first + more,
+  record {
+    some = some;
+    all = λ k low high.
+        let e : k ≡ first + (k - first) = omega (arith, low) in
+        ap (λ j. get_or lost j false) e ∙ sym (get_or-drop first lost (k - first) false)
+        ∙ not-false (get_or rest (k - first) false) (fails_before_first not rest (k - first) false (omega (arith, low, high)));
+    not_before = λ k e marked. false≢true (sym (fails_before_first (λ b. b) lost k false (omega (arith, e))) ∙ marked);
+    not_behind = ended;
+  },
 )
-first_of_run lost (suc n) m = first_before lost n m (λ e. first_of_run lost n e)
-
-abbrev HasStop : List Bool → ℕ → Type 0
-HasStop lost n = (s : ℕ) × (n < s) × ((k : ℕ) → n ≤ k → k < s → IsMarked lost k) × (IsMarked lost s → ⊥)
-
-stop_behind : (lost : List Bool) (n : ℕ) → IsMarked lost n → (IsMarked lost (n + 1) → HasStop lost (n + 1)) →
-    HasStop lost n
-stop_behind lost n m behind = by (get_or lost (n + 1) false) refl
   where
-    this : (k : ℕ) → k ≡ n → IsMarked lost k
-    this k e = ap (λ j. get_or lost j false) e ∙ m
+    first : ℕ
+    first = position_or_len (λ b. b) lost
 
-    by : (b : Bool) → get_or lost (n + 1) false ≡ b → HasStop lost n
-    by false e =
-        (n + 1, omega arith, (λ k low high. this k (omega (arith, low, high))), (λ marked. false≢true (sym e ∙ marked)))
-    by true e =
-        let r : HasStop lost (n + 1) = behind e in (
-          r.0,
-          omega (arith, r.1),
-          (λ k low high. elim (cases_lt n k) [ inl later ↦ r.2 k (omega (arith, later)) high | inr here ↦ this k (omega (arith, low, here)) ]),
-          r.3,
-        )
+    rest : List Bool
+    rest = drop first lost
 
-stop_of_run : (lost : List Bool) (more n : ℕ) → length lost ≤ n + more → IsMarked lost n → HasStop lost n
-stop_of_run lost zero n enough m = absurd (omega (arith, mark_within lost n m, enough))
-stop_of_run lost (suc more) n enough m =
-    stop_behind lost n m (λ e. stop_of_run lost more (n + 1) (omega (arith, enough)) e)
+    more : ℕ
+    more = position_or_len not rest
 
-run_of : (lost : List Bool) (n : ℕ) → IsMarked lost n → (first stop : ℕ) × IsLostRun lost first stop
-run_of lost n m =
-    let f = first_of_run lost n m in
-    let s = stop_of_run lost (length lost) n (omega arith) m in (
-      f.0,
-      s.0,
-      record {
-        some = omega (arith, f.1, s.1);
-        all = λ k low high. elim (cases_lt n k) [
-          | inl later ↦ s.2 k (omega (arith, later)) high
-          | inr before ↦ f.2 k low before
-        ];
-        not_before = f.3;
-        not_behind = s.3;
-      },
-    )
+    ended : IsMarked lost (first + more) → ⊥
+    ended marked =
+        let inside : more < length rest = omega (arith, mark_within lost (first + more) marked, length-drop first lost) in
+        false≢true (sym (not-true (get_or rest more false) (passes_at_first not rest false inside)) ∙ get_or-drop first lost more false ∙ marked)
+
+    some : first < first + more
+    some = elim (cases_lt n first) [
+      | inl before ↦ absurd (false≢true (sym (fails_before_first (λ b. b) lost n false before) ∙ m))
+      | inr behind ↦ elim (cases_lt first (first + more)) [
+        | inl over ↦ over
+        | inr none ↦
+            let here : first + more ≡ first = omega (arith, none) in
+            absurd (ended (ap (λ j. get_or lost j false) here ∙ passes_at_first (λ b. b) lost false (omega (arith, behind, mark_within lost n m))))
+      ]
+    ]
 
 -- ---- whether it is clean
 
@@ -349,7 +284,7 @@ clean_front bytes lost records ranges h = (
     some = let x = an_element records c.some in (x.0, (h.records_are.exact x.0).0 x.1);
     same_sizes = λ r s f g. c.same_sizes r s ((h.records_are.exact r).1 f) ((h.records_are.exact s).1 g);
     nothing_lost = λ n m.
-        let run = run_of lost n m in
+        let run = some_run lost n m in
         let l : LostBytes = record { from = run.0 * 512; to = run.1 * 512 } in
         none_in l (rw c.nothing_lost at ((h.ranges_are.exact l).1 (run.0, run.1, run.2, refl, refl)));
   }),
@@ -377,7 +312,7 @@ uncertain_front bytes lost records ranges h = (
   (λ u. record {
     some = let there = (h.records_are.exact u.some.0).1 u.some.1 in omega (arith, there.1);
     something_lost =
-        let run = run_of lost u.something_lost.0 u.something_lost.1 in
+        let run = some_run lost u.something_lost.0 u.something_lost.1 in
         let l : LostBytes = record { from = run.0 * 512; to = run.1 * 512 } in
         let there = (h.ranges_are.exact l).1 (run.0, run.1, run.2, refl, refl) in
         omega (arith, there.1);

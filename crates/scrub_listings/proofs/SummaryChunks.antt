@@ -1,6 +1,7 @@
 -- How many chunks there are, and how many bytes they take, together and parted into live ones and orphans.
-use Rattle.std.proofs.Common.{◌≡◌, ◌+◌, ◌-◌, ◌&&◌, ◌∷◌, [], ℕ, Bool, true, false, not, cond, List, length, arith, refl, sym, ◌∙◌}
+use Rattle.std.proofs.Common.{◌≡◌, ◌+◌, ◌-◌, ◌&&◌, ◌∷◌, [], ℕ, Bool, true, false, not, cond, List, length, arith, refl, sym, ap, ◌∙◌}
 use Rattle.std.specs.List.{count_by, filter, filter_map, sum_by}
+use Rattle.std.proofs.Math.Path.{fun_ext}
 use Rattle.std.proofs.lemmas.List.Concat.{length-flat_map}
 use Rattle.std.proofs.lemmas.List.Sums.{sum_by-cons}
 use Rattle.scrub_scan.specs.Item.{start_of}
@@ -25,16 +26,6 @@ places_of e (i ∷ is) = by i (places_of e is)
     by (Noise start stop) h = let s = sum_by-cons (λ y. one_if (is_chunk y)) (Noise start stop) is in omega (arith, s, h)
     by (Lost start stop) h = let s = sum_by-cons (λ y. one_if (is_chunk y)) (Lost start stop) is in omega (arith, s, h)
 
--- sums of the same numbers
-sum_same : {X : Type 0} (f g : X → ℕ) (xs : List X) → ((x : X) → f x ≡ g x) → sum_by f xs ≡ sum_by g xs
-sum_same f g [] same = refl
-sum_same f g (x ∷ xs) same =
-    let a = sum_by-cons f x xs in
-    let b = sum_by-cons g x xs in
-    let here = same x in
-    let later = sum_same f g xs same in
-    omega (arith, a, b, here, later)
-
 -- a sum of sums
 sum_both : {X : Type 0} (f g h : X → ℕ) (xs : List X) → ((x : X) → f x ≡ g x + h x) → sum_by f xs ≡ sum_by g xs + sum_by h xs
 sum_both f g h [] both = refl
@@ -53,7 +44,8 @@ chunks_in f = filter_map (place_of f.extent) f.findings.items
 -- The scanned extents have as many chunks among their items as there are places of chunks.
 pub chunks_counted : (all : List Scanned) → sum_by (items_of is_chunk) all ≡ length (chunks all)
 chunks_counted all =
-    sum_same (items_of is_chunk) (λ f. length (chunks_in f)) all (λ f. sym (places_of f.extent f.findings.items))
+    let each : (f : Scanned) → items_of is_chunk f ≡ length (chunks_in f) = λ f. sym (places_of f.extent f.findings.items) in
+    ap (λ (count : Scanned → ℕ). sum_by count all) (fun_ext each)
     ∙ sym (length-flat_map chunks_in all)
 
 -- those that pass and those that don't are all

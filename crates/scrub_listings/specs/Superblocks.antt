@@ -30,7 +30,7 @@ stray_line q false = []
 -- the lines of page q, each with its line feed: one if it is lost, damaged or stray, one or two if it is a record, or else none
 abbrev pub superblock_line : ℕ → SuperblockPage → List ℕ
 superblock_line q Lost = codes "lost" ++ spaced (decimal q) ++ 10 ∷ []
-superblock_line q (Record kind generation rank stray) = record_line q kind generation rank ++ stray_line q stray
+superblock_line q (Record kind generation to rank stray) = record_line q kind generation rank ++ stray_line q stray
 superblock_line q (Damaged kind) = codes "damaged" ++ spaced (decimal q) ++ spaced (magic_of kind) ++ 10 ∷ []
 superblock_line q Stray = stray_line q true
 superblock_line q Held = []
@@ -41,14 +41,14 @@ superblock_lines pages = flat_map (λ x. superblock_line x.0 x.1) (enumerate_fro
 
 -- the page has the record that counts, and no other record has its generation
 abbrev pub is_counting_page : SuperblockPage → Bool
-is_counting_page (Record kind generation Counts stray) = true
+is_counting_page (Record kind generation to Counts stray) = true
 is_counting_page _ = false
 
 -- the page has no line, or only the line of a record that ties with none
 abbrev pub is_orderly_page : SuperblockPage → Bool
-is_orderly_page (Record kind generation Tie stray) = false
-is_orderly_page (Record kind generation Counts stray) = not stray
-is_orderly_page (Record kind generation Older stray) = not stray
+is_orderly_page (Record kind generation to Tie stray) = false
+is_orderly_page (Record kind generation to Counts stray) = not stray
+is_orderly_page (Record kind generation to Older stray) = not stray
 is_orderly_page Held = true
 is_orderly_page Lost = false
 is_orderly_page (Damaged kind) = false

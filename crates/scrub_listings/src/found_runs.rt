@@ -80,14 +80,14 @@ fn runs_text(alloc: Global, listed: &[ListedRun]) -> Result<Vec<u8>, OutOfMemory
     Ok(text.into_bytes())
 }
 
-/// Lists the index runs that lie in the extents of a disk but extent 0. It is clean if each page of the disk can
-/// be read.
+/// Lists the index runs that lie in the extents of a disk but extent 0. It is clean if each page of the disk
+/// can be read.
 ///
-/// There is a line for each run, by extent and offset: `run EXTENT OFFSET LENGTH UUID SHARDS [AT]..`. A run is a
-/// frame, none of its bytes unreadable, whose payload is an index run; frames are looked for from the extent's
-/// first byte to its end, not at pages, and not within a frame. SHARDS is how many entries it has. Each AT is an
-/// offset of extent 0 at which the bytes of its locator are, ascending. Offset and length are in bytes. The last
-/// line is `total N`.
+/// There is a line for each run, by extent and offset: `run EXTENT OFFSET LENGTH UUID SHARDS [AT]..`. A run
+/// is a frame, none of its bytes unreadable, whose payload is an index run; frames are looked for from the
+/// extent's first byte to its end, not at pages, and not within a frame. SHARDS is how many entries it has.
+/// Each AT is an offset of extent 0 at which the bytes of its locator are, ascending. Offset and length are
+/// in bytes. The last line is `total N`.
 ///
 /// No superblock is looked at, and no write pointer or retired extent. Each extent is read once, by the
 /// caller and at most this many threads beside it. The only fault is `OutOfMemory`.
@@ -107,10 +107,11 @@ pub fn list_runs<R: Threads + Sync, D: PageSource>(
     })
 }
 
-/// A law: an image has at most one text of the lines of its runs, and one verdict whether its pages can be read.
+/// A law: an image has at most one text of the lines of its runs, and one verdict whether its pages can be
+/// read.
 pub fn one_runs_listing()
-    ensures { (image : Image) (a b : List ℕ) (v w : Bool) → IsRunsListing image a v → IsRunsListing image b w →
-        (a ≡ b) × (v ≡ w) }
+    ensures { (image : Image) (a b : List ℕ) (v w : Bool) →
+        IsRunsListing image a v → IsRunsListing image b w → (a ≡ b) × (v ≡ w) }
 {}
 
 /// A law: each image has such a text and a verdict. With `one_runs_listing`, it has exactly one of each.
@@ -118,8 +119,8 @@ pub fn each_image_has_a_runs_listing()
     ensures { (image : Image) → (text : List ℕ) × (clean : Bool) × IsRunsListing image text clean }
 {}
 
-/// A law: at the place on the line of a run is one, which `run_at` takes, with the locator of that frame; and it
-/// takes no other there.
+/// A law: at the place on the line of a run is one, which `run_at` takes, with the locator of that frame; and
+/// it takes no other there.
 pub fn a_listed_run_can_be_given()
     ensures there { (image : Image) (text : List ℕ) (clean : Bool) (l : IsRunsListing image text clean) →
         All (λ (v : ListedValue). IsRunThere image v.run.frame.extent v.run.frame.offset

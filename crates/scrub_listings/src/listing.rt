@@ -217,8 +217,8 @@ pub fn one_locator_listing()
         IsLocatorListing image b w → (a ≡ b) × (v ≡ w) }
 {}
 
-/// A law: each image has a text of the lines of its named locators, and a verdict. With `one_locator_listing`,
-/// it has exactly one of each.
+/// A law: each image has a text of the lines of its named locators, and a verdict. With
+/// `one_locator_listing`, it has exactly one of each.
 pub fn each_image_has_a_locator_listing()
     ensures { (image : Image) → (text : List ℕ) × (clean : Bool) × IsLocatorListing image text clean }
 {}

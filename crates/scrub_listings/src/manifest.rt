@@ -420,13 +420,14 @@ pub fn list_manifest_by_runs<D: PageSource, G: Gate, R: Threads + Wait + Sync>(
     Ok((manifest, takings))
 }
 
-/// A law: an image has at most one manifest and one verdict, for each list of extents to be reset, and for each
-/// list of index runs that are given; and with the first one list of remarks.
+/// A law: an image has at most one manifest and one verdict, for each list of extents to be reset, and for
+/// each list of index runs that are given; and with the first one list of remarks.
 pub fn one_manifest()
     ensures text { (resets : List ℕ) (image : Image) (a b : List ℕ) (v w : Bool) →
         IsManifestBut resets image a v → IsManifestBut resets image b w → (a ≡ b) × (v ≡ w) }
     ensures by_runs { (runs : List Locator) (image : Image) (a b : List ℕ) (v w : Bool) →
-        IsManifestFrom (Some runs) [] image a v → IsManifestFrom (Some runs) [] image b w → (a ≡ b) × (v ≡ w) }
+        IsManifestFrom (Some runs) [] image a v → IsManifestFrom (Some runs) [] image b w →
+        (a ≡ b) × (v ≡ w) }
     ensures remarked { (resets : List ℕ) (image : Image) (a b : List ℕ) (r s : List SuperblockRemark)
         (v w : Bool) → IsRemarkedManifest resets image a r v → IsRemarkedManifest resets image b s w →
         (a ≡ b) × (r ≡ s) × (v ≡ w) }
@@ -459,5 +460,6 @@ pub fn each_image_has_a_manifest()
     ensures by_runs { (runs : List Locator) (image : Image) → length runs < 2 ^ 32 → All IsLocator runs →
         (text : List ℕ) × (whole : Bool) × IsManifestFrom (Some runs) [] image text whole }
     ensures remarked { (resets : List ℕ) (image : Image) → (text : List ℕ) ×
-        (remarks : List SuperblockRemark) × (clean : Bool) × IsRemarkedManifest resets image text remarks clean }
+        (remarks : List SuperblockRemark) × (clean : Bool) ×
+        IsRemarkedManifest resets image text remarks clean }
 {}

@@ -1,6 +1,7 @@
 //! The summary of a disk: a verdict, and numbers by their names, for a person and for monitoring.
 
-ghost use Rattle.std.specs.Prelude.{◌≡◌, ◌+◌, ◌++◌, ◌||◌, ◌^◌, ◌<◌, ◌≤◌, Bool, List, ℕ, IfOk, OnOk, Option, []};
+ghost use Rattle.std.specs.Prelude.{◌≡◌, ◌+◌, ◌++◌, ◌||◌, ◌^◌, ◌<◌, ◌≤◌, Bool, List, ℕ, IfOk, OnOk};
+ghost use Rattle.std.specs.Prelude.{Option, []};
 ghost use Rattle.std.specs.Prelude.{is_none};
 ghost use Rattle.std.specs.Prelude.{length, map, string_bytes, sum};
 ghost use Rattle.std.specs.List.{count_by, filter, list_any, sum_by};

@@ -73,6 +73,7 @@ fn append_line(text: &mut String, page: usize, held: SuperblockPage) -> Result<(
             generation,
             rank,
             is_stray,
+            ..
         } => {
             append_record(text, page, kind, generation, rank)?;
             append_stray(text, page, is_stray)

@@ -10,7 +10,7 @@ use Rattle.scrub_frame.specs.Frame.{close_size, frame_overhead, head, head_size,
 use Rattle.scrub_frame.proofs.Frames.{BeginsWithHead, head-injective, length-close, length-seal, overhead}
 use Rattle.scrub_scan.specs.Extent.{Extent, FrameAt, HasGap, NoFrameAt}
 use Rattle.scrub_scan.proofs.Claims.{claimed_frame, only_frame}
-use Rattle.scrub_scan.proofs.FrameBytes.{bytes_front, from_payload, length-head_of}
+use Rattle.scrub_scan.proofs.FrameBytes.{bytes_front, from_payload, length-head_of, parts_stand}
 use Rattle.scrub_loose.specs.Anywhere.{IsReadableClaim}
 use Rattle.scrub_loose.specs.steps.Held.{BeginsWithClaim, extent_by}
 use Rattle.scrub_loose.proofs.BytesInMemory.{byte_some, bytes_held, held_bytes}
@@ -187,4 +187,4 @@ module _ (P : ℕ) (bytes : List ℕ) (readable : List Bool) (p : ℕ) (h : Head
           ∙ bytes_held P bytes readable (p + head_size) (seal f b)
           (bytes_front x.byte (p + head_size) (seal f b) (b ++ (u ++ mark f))
           (bytes_behind x.byte p (p + head_size) (head f u (length b)) (seal f b ++ (b ++ (u ++ mark f)))
-          (omega (arith, length-head_of f u (length b) k.has_frame.sixteen)) k.stands))
+          (omega (arith, length-head_of f u (length b) k.has_frame.sixteen)) (parts_stand k)))

@@ -12,7 +12,7 @@ use Rattle.scrub_frame.proofs.Frames.{head-injective}
 use Rattle.scrub_super.proofs.BytesHere.{bytes_here, decided_bytes_at, exactly, length-bytes_here}
 use Rattle.scrub_scan.specs.Extent.{Extent, FrameAt, HasGap}
 use Rattle.scrub_scan.specs.Standing.{IsClaimedAt}
-use Rattle.scrub_scan.proofs.FrameBytes.{bytes_front, close_stands, length-head_of, no_gap, same_bytes}
+use Rattle.scrub_scan.proofs.FrameBytes.{bytes_front, close_stands, length-head_of, no_gap, same_bytes, parts_stand}
 use Rattle.scrub_loose.specs.Anywhere.{IsClaimedLength, IsReadableClaim}
 
 -- two claims at a place are one
@@ -42,7 +42,7 @@ claim_of_frame x p f u b k = record {
   claimed = record {
     sixteen = k.has_frame.sixteen;
     short = k.has_frame.short;
-    head_stands = bytes_front x.byte p (head f u (length b)) (seal f b ++ (b ++ (u ++ mark f))) k.stands;
+    head_stands = bytes_front x.byte p (head f u (length b)) (seal f b ++ (b ++ (u ++ mark f))) (parts_stand k);
     fits = k.fits;
     close_stands = close_stands x p (p + length b + payload_start f) f u b k refl;
   };

@@ -15,7 +15,7 @@ use Rattle.sha2.specs.Sha256.{sha256}
 use Rattle.scrub_disk.specs.Image.{Image, extent_bytes}
 use Rattle.scrub_run.specs.Entry.{EntryValue}
 use Rattle.scrub_run.specs.Run.{IsRun}
-use Rattle.scrub_run.proofs.Runs.{one_run_lem}
+use Rattle.scrub_run.proofs.RunsThere.{one_run_lem}
 use Rattle.scrub_scan.specs.declared.standing.Standing.{Standing}
 use Rattle.scrub_scan.specs.Extent.{Extent, FrameAt, NoFrameAt}
 use Rattle.scrub_scan.specs.steps.OneFrame.{one_frame_at}

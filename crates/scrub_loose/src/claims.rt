@@ -1,7 +1,8 @@
 //! Claims in an extent in memory: a head, and what closes the frame that it claims, where that would end. The
 //! frame is there, but for the digest that a seal may have.
 
-ghost use Rattle.std.specs.Prelude.{◌≡◌, ◌≤◌, ◌<◌, ◌*◌, ◌^◌, ℕ, List, IfSome, IfNone, IsTrue, length, sum, ◌↔◌};
+ghost use Rattle.std.specs.Prelude.{◌≡◌, ◌≤◌, ◌<◌, ◌*◌, ◌^◌, ℕ, List, IfSome, IfNone, IsTrue, length};
+ghost use Rattle.std.specs.Prelude.{sum, ◌↔◌};
 ghost use Rattle.sha2.specs.Sha256.{sha256};
 ghost use Rattle.scrub_frame.specs.declared.frame.Head.{Head};
 ghost use Rattle.scrub_frame.specs.Frame.{seal, seal_size};
@@ -110,8 +111,8 @@ fn is_sealed(form: Form, sealed: &[u8], digest: &[u8; DIGEST_BYTES]) -> bool
     }
 }
 
-/// The frame that is claimed at a place, unless it is sealed with another digest than its payload's. The payload
-/// is hashed.
+/// The frame that is claimed at a place, unless it is sealed with another digest than its payload's. The
+/// payload is hashed.
 pub(crate) fn frame_of_claim(
     inside: &HeldExtent,
     extent: u32,

@@ -130,7 +130,8 @@ impl Copies {
         }
     }
 
-    /// The copies of a named locator: its spares, or its loose copies if it has none; by extent and then offset.
+    /// The copies of a named locator: its spares, or its loose copies if it has none; by extent and then
+    /// offset.
     pub fn of_one(&self, one: &Checked) -> &[Standing]
         ensures { result.now ≡ copies_by self.now one.now }
     {

@@ -70,7 +70,8 @@ impl HeldExtent {
         self.readable.iter().all(|mark| *mark)
     }
 
-    /// Whether each of the `count` bytes from `place` on can be read. They are in the extent, and there is one.
+    /// Whether each of the `count` bytes from `place` on can be read. They are in the extent, and there is
+    /// one.
     pub(crate) fn is_readable(&self, place: usize, count: usize) -> bool
         requires held { IsHeld self.now }
         requires some { 1 ≤ count }

@@ -1,5 +1,6 @@
 //! Loose copies: what is left of a lost payload where no item begins, at any byte of an extent. Beside the
-//! spares of `scrub_check`, which are chunks among the items. And the index runs of a disk, wherever they lie.
+//! spares of `scrub_check`, which are chunks among the items. And the index runs of a disk, wherever they
+//! lie.
 #![tactic(auto)]
 
 mod asked;

@@ -1,7 +1,8 @@
 //! Where in extent 0 the locators of found runs are, as in the superblocks that list them. The superblocks
 //! may be damaged, older, or of other sizes: only the sixty bytes of a locator are looked for.
 
-ghost use Rattle.std.specs.Prelude.{◌≡◌, ◌<◌, ◌++◌, ◌∷◌, ◌↔◌, [], ℕ, All, HoldsAt, IsTrue, List, IfOk, IfNone};
+ghost use Rattle.std.specs.Prelude.{◌≡◌, ◌<◌, ◌++◌, ◌∷◌, ◌↔◌, [], ℕ, All, HoldsAt, IsTrue, List, IfOk};
+ghost use Rattle.std.specs.Prelude.{IfNone};
 ghost use Rattle.std.specs.Prelude.{IfSome, OnOk, length, map};
 ghost use Rattle.scrub_disk.specs.Image.{AreBytesAt, Image};
 ghost use Rattle.scrub_frame.specs.declared.locator.Locator.{Locator};
@@ -146,9 +147,9 @@ pub struct DiskRuns {
     pub is_readable: bool,
 }
 
-/// Finds the index runs of a disk in all extents but extent 0: the frames at any byte that begin within no other
-/// such frame, and whose payload is a run. No superblock, no write pointer and no retired extent is looked at.
-/// Beside each run are the places in extent 0 at which its locator is.
+/// Finds the index runs of a disk in all extents but extent 0: the frames at any byte that begin within no
+/// other such frame, and whose payload is a run. No superblock, no write pointer and no retired extent is
+/// looked at. Beside each run are the places in extent 0 at which its locator is.
 ///
 /// Each extent is read once, by the caller and at most this many threads beside it. Each of them holds one
 /// extent at a time.

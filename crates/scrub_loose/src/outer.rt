@@ -1,5 +1,5 @@
-//! Outer frames of extents, found without their write pointers, and the index runs among them. A run that only
-//! bytes within another frame spell isn't found: whoever stores a shard could put it there.
+//! Outer frames of extents, found without their write pointers, and the index runs among them. A run that
+//! only bytes within another frame spell isn't found: whoever stores a shard could put it there.
 
 ghost use Rattle.std.specs.Prelude.{◌≡◌, ◌≤◌, ◌<◌, ◌∷◌, ◌++◌, [], ℕ, Bool, false, All, List, IfOk, IfNone};
 ghost use Rattle.std.specs.Prelude.{IfSome, OnOk, length, take};
@@ -75,7 +75,8 @@ fn begins_like_run(payload: &[u8]) -> bool
     payload.starts_with(&RUN_MAGIC)
 }
 
-/// How many entries the index run has that fills a payload, if the payload is one. Few that aren't are hashed.
+/// How many entries the index run has that fills a payload, if the payload is one. Few that aren't are
+/// hashed.
 fn entries_in(alloc: Global, payload: &[u8]) -> Result<Option<usize>, OutOfMemory>
     ensures found { IfOk result (λ found. IfSome found (λ n. (entries : List EntryValue) ×
         IsRun payload.now entries × (n ≡ length entries))) }
@@ -257,8 +258,8 @@ pub(crate) fn are_readable(each: &[Walked]) -> bool
     each.iter().all(|walked| walked.is_readable)
 }
 
-/// What is found in each extent of a disk but extent 0, ascending. Each is read once, by the caller and at most
-/// this many threads beside it, each of which holds one at a time.
+/// What is found in each extent of a disk but extent 0, ascending. Each is read once, by the caller and at
+/// most this many threads beside it, each of which holds one at a time.
 pub(crate) fn walk_disk<R: Threads + Sync, D: PageSource>(
     rt: &R,
     alloc: Global,

@@ -41,8 +41,8 @@ impl Model for Found {
     ghost view = { λ f. record { frames = f.frames.items; crowded = f.crowded.items } };
 }
 
-/// The frame that is claimed at a place, if it is there and its payload is asked for. It is hashed only if its
-/// length is asked for.
+/// The frame that is claimed at a place, if it is there and its payload is asked for. It is hashed only if
+/// its length is asked for.
 fn frame_if_asked(
     inside: &HeldExtent,
     extent: u32,

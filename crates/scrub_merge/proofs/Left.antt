@@ -9,8 +9,8 @@ use Rattle.std.proofs.lemmas.Option.{same_Some}
 use Rattle.scrub_run.specs.declared.shard_id.ShardId.{ShardId}
 use Rattle.scrub_run.specs.Entry.{EntryValue}
 use Rattle.scrub_run.specs.Run.{RisesById}
-use Rattle.scrub_merge.specs.Binding.{Runs, IsEntryOf, LostBefore}
-use Rattle.scrub_merge.specs.steps.Cursors.{id_cmp, entry_at, has_id, ahead, place_past, places_past, first_of, AreRising}
+use Rattle.scrub_merge.specs.Binding.{Runs, IsEntryOf}
+use Rattle.scrub_merge.specs.steps.Cursors.{LostBefore, id_cmp, entry_at, has_id, ahead, place_past, places_past, first_of, AreRising}
 use Rattle.scrub_merge.proofs.Identifiers.{itself}
 
 -- ---- what is left ahead of cursors

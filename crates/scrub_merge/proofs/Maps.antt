@@ -1,15 +1,14 @@
 -- An identifier has one newest binding, and runs have one shard map.
-use Rattle.std.proofs.Common.{◌≡◌, ◌<◌, ◌+◌, ℕ, zero, suc, List, [], ◌∷◌, length, get_or, AllPairs, Contains, ◌↔◌, arith, refl, sym, ◌∙◌, ap, inl, inr}
+use Rattle.std.proofs.Common.{◌≡◌, ◌<◌, ◌+◌, ℕ, List, length, get_or, Contains, arith, sym, ◌∙◌, ap, inl, inr}
 use Rattle.std.proofs.lemmas.Bool.{cases_lt, false≢true}
 use Rattle.std.proofs.lemmas.Bool.Decides.{same_from_decides}
-use Rattle.std.proofs.lemmas.List.{get_or_default}
 use Rattle.std.proofs.lemmas.List.Elements.{All-contains}
 use Rattle.std.proofs.lemmas.List.Sorted.{searchable_from_sorted}
 use Rattle.std.specs.List.Sorted.{IsNonDecreasingBy, IsPartitionPoint, IsSortedBy}
 use Rattle.std.specs.Ordering.{is_eq, is_lt, ordering_index, ordering_reverse}
 use Rattle.std.specs.declared.cmp.Ordering.{Ordering}
 use Rattle.std.specs.declared.cmp.Ordering.TheVariants.{Less, Greater}
-use Rattle.list_facts.proofs.Elements.{Contains-behind, Contains-cases}
+use Rattle.list_facts.proofs.Sorted.{same_if_ordered}
 use Rattle.scrub_run.specs.declared.shard_id.ShardId.{ShardId}
 use Rattle.scrub_run.specs.Entry.{EntryValue, IsBelow}
 use Rattle.scrub_merge.specs.Binding.{BindingValue, Runs, IsNewestBinding}
@@ -48,6 +47,10 @@ one_newest {runs} {b} {c} rise hb hc same =
     doubt : b.doubtful ≡ c.doubtful
     doubt = same_from_decides _ _ (rw run at hb.doubt) hc.doubt
 
+-- The bindings of a shard map rise, and each has a locator.
+pub bindings_of : {runs : Runs} {bindings : List BindingValue} → IsShardMap runs bindings → AreBindings bindings
+bindings_of map = record { rising = map.rising; bound = map.bound }
+
 -- a search that ends between the lesser and the greater identifiers finds none
 pub none_found : (bindings : List BindingValue) (id : ShardId) (i : ℕ) (b : BindingValue) → AreBindings bindings →
     (IsNonDecreasingBy (λ y. ordering_index (id_cmp y.id id)) bindings → IsPartitionPoint (λ y. id_cmp y.id id ≡ Less) (λ y. id_cmp y.id id ≡ Greater) bindings i) →
@@ -71,59 +74,17 @@ none_found bindings id i b are search_ends (k, here, is) same = elim (cases_lt k
 
 -- ---- one map
 
--- The identifiers of the bindings are in ascending order.
-abbrev pub Rise : List BindingValue → Type 0
-Rise xs = AllPairs (λ v w. IsBelow v.id w.id) xs
-
--- what comes after a binding in ascending order is above it
-above : (x : BindingValue) (xs : List BindingValue) (b : BindingValue) → Rise (x ∷ xs) → Contains xs b →
-    IsBelow x.id b.id
-above x xs b rising (k, here, is) =
-    rw (get_or_default xs k x b here, is) at (rising zero (suc k) x (omega arith) (omega (arith, here)))
-
--- What follows the first binding in ascending order is in ascending order.
-pub tail_rises : (x : BindingValue) (xs : List BindingValue) → Rise (x ∷ xs) → Rise xs
-tail_rises x xs rising i j d order here = rising (suc i) (suc j) d (omega (arith, order)) (omega (arith, here))
-
--- two ascending lists with the same bindings are equal
-same_bindings : (xs ys : List BindingValue) → Rise xs → Rise ys → ((b : BindingValue) → Contains xs b ↔ Contains ys b) →
-    xs ≡ ys
-same_bindings [] [] hx hy both = refl
-same_bindings [] (y ∷ ys) hx hy both = absurd (omega (arith, ((both y).1 (zero, omega arith, refl)).1))
-same_bindings (x ∷ xs) [] hx hy both = absurd (omega (arith, ((both x).0 (zero, omega arith, refl)).1))
-same_bindings (x ∷ xs) (y ∷ ys) hx hy both =
-    let rest : xs ≡ ys = same_bindings xs ys (tail_rises x xs hx) (tail_rises y ys hy) (λ b. (
-      (λ c. elim (Contains-cases y ys b ((both b).0 (Contains-behind x xs b c))) [
-        | inl is ↦ absurd (not_below_itself b.id (rw (first ∙ is) at (above x xs b hx c)))
-        | inr later ↦ later
-      ]),
-      (λ c. elim (Contains-cases x xs b ((both b).1 (Contains-behind y ys b c))) [
-        | inl is ↦ absurd (not_below_itself b.id (rw (sym first ∙ is) at (above y ys b hy c)))
-        | inr later ↦ later
-      ]),
-    )) in
-    λ i. first i ∷ rest i
-  where
-    first : x ≡ y
-    first = elim (Contains-cases y ys x ((both x).0 (zero, omega arith, refl))) [
-      | inl is ↦ sym is
-      | inr c ↦ elim (Contains-cases x xs y ((both y).1 (zero, omega arith, refl))) [
-        | inl is ↦ is
-        | inr d ↦
-            absurd (not_below_itself x.id (id_cmp_total.trans x.id y.id x.id (above x xs y hx d) (above y ys x hy c)))
-      ]
-    ]
-
 -- a binding of one shard map is in every other
 in_map : {runs : Runs} (xs ys : List BindingValue) (b : BindingValue) → IsShardMap runs xs → IsShardMap runs ys →
     Contains xs b → Contains ys b
 in_map {runs} xs ys b hx hy c =
     hy.all b (All-contains (IsNewestBinding runs) xs b hx.newest c)
-    (All-contains (λ v. 0 < length v.locators) xs b hx.bindings_of_map.bound c)
+    (All-contains (λ v. 0 < length v.locators) xs b hx.bound c)
 
 -- runs have one shard map
 pub one_shard_map_lem : (runs : Runs) (xs ys : List BindingValue) → AreRuns runs → IsShardMap runs xs →
     IsShardMap runs ys → xs ≡ ys
 one_shard_map_lem runs xs ys rise hx hy =
-    same_bindings xs ys hx.bindings_of_map.rising hy.bindings_of_map.rising
-    (λ b. (in_map xs ys b hx hy, in_map ys xs b hy hx))
+    same_if_ordered (λ v w. IsBelow v.id w.id)
+    (λ v w below above. not_below_itself v.id (id_cmp_total.trans v.id w.id v.id below above)) xs ys
+    hx.rising hy.rising (λ b. in_map xs ys b hx hy) (λ b. in_map ys xs b hy hx)

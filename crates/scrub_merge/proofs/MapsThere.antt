@@ -11,9 +11,9 @@ use Rattle.list_facts.proofs.Elements.{Contains-behind, Contains-cases}
 use Rattle.list_facts.proofs.Sorting.{sorted_once}
 use Rattle.scrub_run.specs.declared.shard_id.ShardId.{ShardId}
 use Rattle.scrub_run.specs.Entry.{EntryValue, IsBelow}
-use Rattle.scrub_merge.specs.Binding.{BindingValue, Runs, IsEntryOf, LostBefore, IsNewestBinding}
+use Rattle.scrub_merge.specs.Binding.{BindingValue, Runs, IsEntryOf, IsNewestBinding}
 use Rattle.scrub_merge.specs.ShardMap.{AreRuns, IsShardMap}
-use Rattle.scrub_merge.specs.steps.Cursors.{id_cmp, AreRising}
+use Rattle.scrub_merge.specs.steps.Cursors.{LostBefore, id_cmp, AreRising}
 use Rattle.scrub_merge.proofs.Identifiers.{id_cmp_total, id_cmp_exact}
 use Rattle.scrub_merge.proofs.Maps.{entry_of, one_newest}
 
@@ -204,7 +204,8 @@ some_shard_map runs are =
     let bs = bind_all runs rise ids.0 up in (
       bs.0,
       record {
-        bindings_of_map = record { rising = bs.1.rising; bound = bs.1.bound };
+        rising = bs.1.rising;
+        bound = bs.1.bound;
         newest = bs.1.newest;
         all = λ b is bound.
             bs.1.all b is bound ((ids.2 b.id).1 (entry_among runs b.run (entry_of b) is.entry));

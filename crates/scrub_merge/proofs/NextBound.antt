@@ -14,9 +14,9 @@ use Rattle.list_facts.proofs.Elements.{Contains-behind, Contains-cases}
 use Rattle.scrub_run.specs.declared.shard_id.ShardId.{ShardId}
 use Rattle.scrub_run.specs.Entry.{EntryValue, IsBelow}
 use Rattle.scrub_run.specs.Run.{RisesById}
-use Rattle.scrub_merge.specs.Binding.{BindingValue, Runs, IsEntryOf, LostBefore, IsNewestBinding}
+use Rattle.scrub_merge.specs.Binding.{BindingValue, Runs, IsEntryOf, IsNewestBinding}
 use Rattle.scrub_merge.specs.ShardMap.{IsShardMap}
-use Rattle.scrub_merge.specs.steps.Cursors.{id_cmp, has_locator, ahead, places_past, first_of, IsLeast, IsFirstWith, AreEmpty, AreRising, IsBound, Continues}
+use Rattle.scrub_merge.specs.steps.Cursors.{LostBefore, id_cmp, has_locator, ahead, places_past, first_of, IsLeast, IsFirstWith, AreEmpty, AreRising, IsBound, Continues}
 use Rattle.scrub_merge.proofs.Identifiers.{id_cmp_total, same_id, itself, not_below_itself, not_less}
 use Rattle.scrub_merge.proofs.Maps.{one_newest}
 use Rattle.scrub_merge.proofs.Left.{without, all_without, first_is, first_entry, rising_left, left_behind}
@@ -191,18 +191,17 @@ module _ {runs : Runs} {id : ShardId} (rising : AreRising runs) (least : IsLeast
 
       by : (t : Bool) → has_locator b ≡ t → IsShardMap runs (cond t (b ∷ []) [] ++ later)
       by true has = record {
-        bindings_of_map = record {
-          rising = AllPairs-cons (λ c d. IsBelow c.id d.id) b later above map.bindings_of_map.rising;
-          bound =
-              All-cons (λ c. 0 < length c.locators) b later (some_length (length b.locators) has)
-              map.bindings_of_map.bound;
-        };
+        rising = AllPairs-cons (λ c d. IsBelow c.id d.id) b later above map.rising;
+        bound =
+            All-cons (λ c. 0 < length c.locators) b later (some_length (length b.locators) has)
+            map.bound;
         newest = All-cons (IsNewestBinding runs) b later newest up;
         all = λ c h some.
             elim (among h some) [ inl is ↦ (zero, omega arith, is) | inr c' ↦ Contains-behind b later c c' ];
       }
       by false hasn't = record {
-        bindings_of_map = map.bindings_of_map;
+        rising = map.rising;
+        bound = map.bound;
         newest = up;
         all = λ c h some.
             elim (among h some)
@@ -212,10 +211,8 @@ module _ {runs : Runs} {id : ShardId} (rising : AreRising runs) (least : IsLeast
 -- if nothing is left, nothing is bound
 pub none_bound : (runs : Runs) → AreEmpty runs → IsShardMap runs []
 none_bound runs empty = record {
-  bindings_of_map = record {
-    rising = λ i j d order here. absurd (omega (arith, here));
-    bound = λ k d here. absurd (omega (arith, here));
-  };
+  rising = λ i j d order here. absurd (omega (arith, here));
+  bound = λ k d here. absurd (omega (arith, here));
   newest = λ k d here. absurd (omega (arith, here));
   all = λ b h has.
       absurd

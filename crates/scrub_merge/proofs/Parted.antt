@@ -1,5 +1,5 @@
 -- The shard maps of the entries before an identifier and of the others, one after the other, are the shard map of all.
-use Rattle.std.proofs.Common.{◌≡◌, ◌<◌, ◌≤◌, ◌+◌, ◌↔◌, ℕ, zero, suc, Bool, true, false, not, cond, Option, Some, None, List, [], ◌∷◌, ◌++◌, length, get_or, take, drop, All, AllPairs, Contains, arith, refl, sym, ◌∙◌, ap}
+use Rattle.std.proofs.Common.{◌≡◌, ◌<◌, ◌≤◌, ◌+◌, ◌↔◌, ℕ, zero, suc, Bool, true, false, not, cond, Option, Some, None, List, [], ◌∷◌, ◌++◌, length, get_or, take, drop, All, Contains, arith, refl, sym, ◌∙◌, ap, AllPairs}
 use Rattle.std.specs.Prelude.{filter, slice_get}
 use Rattle.std.specs.List.Sorted.{IsNonDecreasingBy, IsPartitionPoint, IsPartitionedBy, IsSortedBy}
 use Rattle.std.specs.Option.{option_map}
@@ -14,14 +14,14 @@ use Rattle.std.proofs.lemmas.List.Sorted.{searchable_from_sorted}
 use Rattle.std.proofs.lemmas.Option.{slice_get-map}
 use Rattle.list_facts.proofs.Elements.{Contains-behind, Contains-filter, Contains-from_filter}
 use Rattle.scrub_run.specs.declared.shard_id.ShardId.{ShardId}
-use Rattle.scrub_run.specs.Entry.{EntryValue, IsBelow, IsEntry}
+use Rattle.scrub_run.specs.Entry.{EntryValue, IsBelow}
 use Rattle.scrub_run.specs.Run.{AreEntries, RisesById}
-use Rattle.scrub_merge.specs.Binding.{BindingValue, Runs, IsEntryOf, LostBefore, IsNewestBinding}
+use Rattle.scrub_run.specs.steps.Parts.{IsEntry}
+use Rattle.scrub_merge.specs.Binding.{BindingValue, Runs, IsEntryOf, IsNewestBinding}
 use Rattle.scrub_merge.specs.ShardMap.{IsShardMap}
-use Rattle.scrub_merge.specs.steps.Cursors.{id_cmp}
+use Rattle.scrub_merge.specs.steps.Cursors.{LostBefore, id_cmp}
 use Rattle.scrub_merge.specs.steps.Parts.{is_before, kept}
 use Rattle.scrub_merge.proofs.Identifiers.{id_cmp_total, same_id}
-use Rattle.scrub_merge.proofs.Maps.{Rise, tail_rises}
 
 -- ---- the entries that pass a test
 
@@ -102,6 +102,13 @@ between id a b before not_before = by (id_cmp b id) refl (id_cmp a id) refl
     by Greater h Equal g = absurd (false≢true (rw g at before))
     by Greater h Greater g = absurd (false≢true (rw g at before))
 
+-- The identifiers of the bindings are in ascending order.
+abbrev Rise : List BindingValue → Type 0
+Rise xs = AllPairs (λ v w. IsBelow v.id w.id) xs
+
+tail_rises : (x : BindingValue) (xs : List BindingValue) → Rise (x ∷ xs) → Rise xs
+tail_rises x xs rising i j d order here = rising (suc i) (suc j) d (omega (arith, order)) (omega (arith, here))
+
 joined_rises : (xs ys : List BindingValue) → Rise xs → Rise ys →
     ((b c : BindingValue) → Contains xs b → Contains ys c → IsBelow b.id c.id) → Rise (xs ++ ys)
 joined_rises [] ys hx hy cross = hy
@@ -122,16 +129,14 @@ module _ (runs : Runs) (id : ShardId) where
   pub maps_joined : (low high : List BindingValue) → IsShardMap (kept (is_before id) runs) low →
       IsShardMap (kept (λ x. not (is_before id x)) runs) high → IsShardMap runs (low ++ high)
   maps_joined low high l h = record {
-    bindings_of_map = record {
-      rising =
-          joined_rises low high l.bindings_of_map.rising h.bindings_of_map.rising
-          (λ b c in_low in_high.
-          between id b.id c.id
-          (newest_up (is_before id) runs (All-contains (IsNewestBinding (kept (is_before id) runs)) low b l.newest in_low)).1
-          (newest_up other runs (All-contains (IsNewestBinding (kept other runs)) high c h.newest in_high)).1);
-      bound =
-          All-append (λ b. 0 < length b.locators) low high l.bindings_of_map.bound h.bindings_of_map.bound;
-    };
+    rising =
+        joined_rises low high l.rising h.rising
+        (λ b c in_low in_high.
+        between id b.id c.id
+        (newest_up (is_before id) runs (All-contains (IsNewestBinding (kept (is_before id) runs)) low b l.newest in_low)).1
+        (newest_up other runs (All-contains (IsNewestBinding (kept other runs)) high c h.newest in_high)).1);
+    bound =
+        All-append (λ b. 0 < length b.locators) low high l.bound h.bound;
     newest =
         All-append (IsNewestBinding runs) low high (λ k d here. (newest_up (is_before id) runs (l.newest k d here)).0)
         (λ k d here. (newest_up other runs (h.newest k d here)).0);

@@ -21,13 +21,9 @@ pub record IsEntryOf (runs : Runs) (number : ℕ) (e : EntryValue) : Type 0 wher
   pub is_read : slice_get runs number ≡ Some (Some entries)
   pub among : Contains entries e
 
--- a lost run comes before the run with this number, so it is newer
-abbrev pub LostBefore : Runs → ℕ → Type 0
-LostBefore runs number = (k : ℕ) × (k < number) × (slice_get runs k ≡ Some None)
-
 -- the newest binding of an identifier: its entry in the first run that isn't lost and has it, doubtful exactly if a
--- lost run comes before that run
+-- lost run comes before that run, and so is newer
 pub record IsNewestBinding (runs : Runs) (b : BindingValue) : Type 0 where
   pub entry : IsEntryOf runs b.run (record { id = b.id; locators = b.locators })
   pub first : (k : ℕ) (e : EntryValue) → k < b.run → IsEntryOf runs k e → e.id ≡ b.id → ⊥
-  pub doubt : IsTrue b.doubtful ↔ LostBefore runs b.run
+  pub doubt : IsTrue b.doubtful ↔ ((k : ℕ) × (k < b.run) × (slice_get runs k ≡ Some None))

@@ -12,7 +12,8 @@ pub record AreBindings (bindings : List BindingValue) : Type 0 where
 -- the shard map: the newest bindings of all identifiers whose newest binding has a locator, in strictly ascending order of
 -- identifier; a shard whose newest entry deletes it is in no list, doubtful or not
 pub record IsShardMap (runs : Runs) (bindings : List BindingValue) : Type 0 where
-  pub bindings_of_map : AreBindings bindings
+  pub rising : AllPairs (λ b c. IsBelow b.id c.id) bindings
+  pub bound : All (λ b. 0 < length b.locators) bindings
   pub newest : All (IsNewestBinding runs) bindings
   pub all : (b : BindingValue) → IsNewestBinding runs b → 0 < length b.locators → Contains bindings b
 

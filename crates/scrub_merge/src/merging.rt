@@ -3,8 +3,9 @@
 
 ghost use Rattle.std.specs.Prelude.{◌≡◌, ◌++◌, List, ℕ, Some, None, ◌<◌, ◌≤◌, ◌^◌, ◌↔◌, IsTrue, IfNone, IfOk};
 ghost use Rattle.std.specs.Prelude.{IfSome, OnOk, length, not, slice_get, slice_index, unwrap_or};
-ghost use Rattle.scrub_merge.specs.Binding.{BindingValue, Runs, LostBefore};
-ghost use Rattle.scrub_merge.specs.steps.Cursors.{ahead, entry_at, IsLeast, IsFirstWith, IsBound, AreRising};
+ghost use Rattle.scrub_merge.specs.Binding.{BindingValue, Runs};
+ghost use Rattle.scrub_merge.specs.steps.Cursors.{ahead, entry_at, AreRising, IsBound, IsFirstWith, IsLeast};
+ghost use Rattle.scrub_merge.specs.steps.Cursors.{LostBefore};
 ghost use Rattle.scrub_merge.specs.steps.Parts.{is_before, is_on, kept};
 ghost use Rattle.scrub_merge.specs.ShardMap.{AreBindings, AreRuns, IsShardMap};
 ghost use Rattle.scrub_run.specs.declared.shard_id.ShardId.{ShardId};

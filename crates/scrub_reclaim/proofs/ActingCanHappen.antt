@@ -1,12 +1,11 @@
 -- Small disks that meet the premises of the laws of resets and copies. One has an extent that is listed to be
 -- reclaimed, whatever is accepted, and is reset; the other has room, into which a frame is copied.
-use Rattle.std.proofs.Common.{◌≡◌, ◌≢◌, ◌<◌, ◌≤◌, ◌+◌, ◌-◌, ◌^◌, ◌++◌, ℕ, zero, suc, true, false, cond, List, [], ◌∷◌, replicate, arith, refl, sym, ◌∙◌, ap, subst, Option, Some, None, IfSome, All, Contains, slice_get, get_or}
+use Rattle.std.proofs.Common.{◌≡◌, ◌≢◌, ◌<◌, ◌≤◌, ◌+◌, ◌-◌, ◌^◌, ◌++◌, ℕ, zero, suc, true, false, cond, List, [], ◌∷◌, replicate, arith, refl, sym, ◌∙◌, ap, subst, Option, Some, None, IfSome, All, Contains, slice_get}
 use Rattle.std.specs.List.{list_all}
 use Rattle.std.proofs.lemmas.Bool.{eq-eqb, ne_eqb}
 use Rattle.std.proofs.lemmas.List.{get_or_append_left}
 use Rattle.std.proofs.lemmas.List.Elements.{All-cons, All-nil}
-use Rattle.std.proofs.lemmas.Option.{none-some}
-use Rattle.scrub_disk.specs.Image.{Image, image_byte, extent_bytes}
+use Rattle.scrub_disk.specs.Image.{Image, image_byte}
 use Rattle.scrub_frame.specs.declared.form.Form.TheVariants.{Plain}
 use Rattle.scrub_frame.specs.Frame.{frame_of}
 use Rattle.scrub_super.specs.Plan.{pointer_of}
@@ -23,7 +22,7 @@ use Rattle.scrub_reclaim.specs.Doubts.{Acceptance, doubts, is_accepted}
 use Rattle.scrub_reclaim.specs.Reclaimable.{AcceptsNoLoose, AcceptsNoSpare, accepted_in, is_clear, reclaimed}
 use Rattle.scrub_reclaim.specs.Reset.{AreListedKeepingCopies, IsAfterReset, IsForeseen, IsListedWithoutMoves, IsPlanIn, IsReclaimed}
 use Rattle.scrub_reclaim.proofs.FoundOnSmallDisks.{all_found, all_free, no_bindings, no_candidate, no_runs, none_broken, none_named, none_read, none_shared, one_candidate, plan_under, scanned}
-use Rattle.scrub_reclaim.proofs.SmallDisks.{AreSmall, byte_of, choice_of, chosen, disk, found_nothing, found_pad, nothing, one_pad, pages_are, pages_of, zeros}
+use Rattle.scrub_reclaim.proofs.SmallDisks.{AreSmall, byte_of, choice_of, chosen, disk, found_nothing, found_pad, nothing, one_pad, pages_are, pages_of, whole_pages, zeros}
 
 -- ---- all that is found
 
@@ -235,13 +234,12 @@ had_room = record {
 
 after_copy : IsAfterCopies (empty_room ∷ []) (disk 2 0 zeros) (disk 3 41 copied)
 after_copy = record {
+  whole = whole_pages 2 0 zeros small_empty refl;
   had = one_room (λ r. HasRoomAt (disk 2 0 zeros) r.extent r.place) had_room;
   sizes = refl;
   others = λ x p first low out. absurd (no_other x first low out);
   kept = one_room (λ r. (p : ℕ) → p < r.place → image_byte (disk 3 41 copied) r.extent p ≡ image_byte (disk 2 0 zeros) r.extent p)
       (λ p below. absurd (omega (arith, below)));
-  readable = one_room (λ r. (p : ℕ) → p < extent_bytes (disk 3 41 copied).geometry → image_byte (disk 3 41 copied) r.extent p ≢ None)
-      (λ p low lost. none-some (get_or copied p 0) (sym lost ∙ byte_of 3 41 copied p refl (omega (arith, low))));
   old = plan_under 2 0;
   new = plan_under 3 41;
   was = plan_in 2 0 zeros small_empty;

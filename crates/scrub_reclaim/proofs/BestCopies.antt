@@ -55,22 +55,24 @@ some_are x xs = positive (length xs)
     positive : (n : ℕ) → (suc n == 0) ≡ false
     positive n = grind (arith, common_steps)
 
-is_spare : (t : Standing) (ts ms : List Standing) → best_among (t ∷ ts) ms ≡ Spare
-is_spare t ts ms =
+-- With a spare the best copy is one.
+pub spare_best : (t : Standing) (ts ms : List Standing) → best_among (t ∷ ts) ms ≡ Spare
+spare_best t ts ms =
     ap (λ (b : Bool). if b then (if length ms == 0 then Nowhere else Loose) else Spare) (some_are t ts)
 
-is_loose : (m : Standing) (ms : List Standing) → best_among [] (m ∷ ms) ≡ Loose
-is_loose m ms = ap (λ (b : Bool). if b then Nowhere else Loose) (some_are m ms)
+-- Without one, with a loose copy, it is loose.
+pub loose_best : (m : Standing) (ms : List Standing) → best_among [] (m ∷ ms) ≡ Loose
+loose_best m ms = ap (λ (b : Bool). if b then Nowhere else Loose) (some_are m ms)
 
--- the best copy among some is no better than among others, if there are spares where there were some, and else loose copies where there
--- were some
-among_others : (ss ls ts ms : List Standing) → (ss ≢ [] → ts ≢ []) → (ls ≢ [] → ts ≡ [] → ms ≢ []) →
+-- The best copy among some is no better than among others, if there are spares where there were some, and else loose copies where there
+-- were some.
+pub among_others : (ss ls ts ms : List Standing) → (ss ≢ [] → ts ≢ []) → (ls ≢ [] → ts ≡ [] → ms ≢ []) →
     rank (best_among ss ls) ≤ rank (best_among ts ms)
 among_others ss ls (t ∷ ts) ms spares copies =
-    subst (λ (x : BestCopy). rank (best_among ss ls) ≤ rank x) (sym (is_spare t ts ms)) (at_most_spare (best_among ss ls))
+    subst (λ (x : BestCopy). rank (best_among ss ls) ≤ rank x) (sym (spare_best t ts ms)) (at_most_spare (best_among ss ls))
 among_others (s ∷ ss) ls [] ms spares copies = absurd (spares (λ none. nil_has_no_first s ss (sym none)) refl)
 among_others [] (l ∷ ls) [] (m ∷ ms) spares copies =
-    let e : rank (best_among [] (l ∷ ls)) ≡ rank (best_among [] (m ∷ ms)) = ap rank (is_loose l ls ∙ sym (is_loose m ms)) in
+    let e : rank (best_among [] (l ∷ ls)) ≡ rank (best_among [] (m ∷ ms)) = ap rank (loose_best l ls ∙ sym (loose_best m ms)) in
     omega (arith, e)
 among_others [] (l ∷ ls) [] [] spares copies = absurd (copies (λ none. nil_has_no_first l ls (sym none)) refl refl)
 among_others [] [] [] ms spares copies = omega arith

@@ -4,6 +4,7 @@ use Rattle.std.proofs.Common.{◌≡◌, ℕ, ◌+◌, Option, Some, None, List,
 use Rattle.std.proofs.Math.Path.{ap₂}
 use Rattle.std.specs.List.{All, AllZip, flat_map, zip}
 use Rattle.std.proofs.lemmas.List.Elements.{All-cons, All-map, All-tail}
+use Rattle.list_facts.proofs.OneAnswers.{same_answer}
 use Rattle.list_facts.proofs.Zips.{AllZip-weaker}
 use Rattle.scrub_disk.specs.Image.{Image}
 use Rattle.scrub_frame.specs.declared.locator.Locator.{Locator}
@@ -23,11 +24,11 @@ use Rattle.scrub_check.specs.ChunkForms.{form_at}
 use Rattle.scrub_check.specs.Named.{named_locators, named_by_runs, named_by_shard}
 use Rattle.scrub_check.specs.Runs.{AreReadRuns, HasRunIn, NamesChunkIn}
 use Rattle.scrub_check.specs.Status.{HasStatusIn}
-use Rattle.scrub_check.proofs.OneList.{one_broken, one_shared}
+use Rattle.scrub_check.proofs.OneList.{the_broken, the_shared}
 use Rattle.scrub_found.specs.Resets.{IsScrubbedBut}
 use Rattle.scrub_found.specs.Scrubbed.{Scrubbed}
 use Rattle.scrub_check.proofs.CheckedLists.{one_list_of_checked}
-use Rattle.scrub_found.proofs.OneIndex.{one_list_of_runs, read_runs_are_runs}
+use Rattle.scrub_check.proofs.IndexRuns.{one_list_of_runs, read_runs_are_runs}
 use Rattle.scrub_reclaim.specs.Reset.{NameTheSame}
 
 -- ---- lists
@@ -122,6 +123,6 @@ module _ (resets others : List ℕ) (before after : Image) (found rest : Scrubbe
     bindings = bindings;
     checked = checked;
     forms = forms;
-    shared = one_shared found.checked rest.shared found.shared (rw checked at y.shared) x.shared;
-    broken = one_broken found.checked rest.broken found.broken (rw checked at y.broken) x.broken;
+    shared = same_answer (the_shared found.checked) rest.shared found.shared (rw checked at y.shared) x.shared;
+    broken = same_answer (the_broken found.checked) rest.broken found.broken (rw checked at y.broken) x.broken;
   }

@@ -8,17 +8,14 @@ use Rattle.scrub_disk.specs.declared.geometry.Geometry.{Geometry}
 use Rattle.scrub_disk.specs.Image.{Image}
 use Rattle.scrub_scan.specs.Scanned.{Scanned}
 use Rattle.scrub_super.specs.declared.pages.SuperblockPage.{SuperblockPage}
-use Rattle.scrub_super.specs.Planned.{extents_in_use}
 use Rattle.scrub_super.proofs.PageLaws.{one_list_of_pages}
-use Rattle.scrub_super.proofs.PlanParts.{plan_parts}
 use Rattle.scrub_check.specs.declared.lists.kept_chunk.KeptChunk.{KeptChunk}
 use Rattle.scrub_check.specs.declared.statuses.checked.Checked.{Checked}
 use Rattle.scrub_check.specs.declared.runs.RunState.{RunState}
 use Rattle.scrub_check.specs.Candidates.{CandidateValue}
 use Rattle.scrub_check.specs.SafeCandidates.{IsKept, AreSafe}
-use Rattle.scrub_check.specs.WholeScan.{IsWholeScan}
 use Rattle.scrub_check.proofs.KeptChunks.{candidates_safe}
-use Rattle.scrub_check.proofs.ListsThere.{some_broken, some_shared}
+use Rattle.scrub_check.proofs.OneList.{the_broken, the_shared}
 use Rattle.scrub_loose.specs.Loose.{AreLoose, LooseValue}
 use Rattle.scrub_loose.proofs.OneLoose.{one_loose}
 use Rattle.scrub_found.specs.Judged.{Beside, IsFoundOn, found_in}
@@ -26,6 +23,7 @@ use Rattle.scrub_report.specs.Report.{IsReport, report_text}
 use Rattle.scrub_found.specs.Scrubbed.{Scrubbed, IsScrubbed, is_in_doubt}
 use Rattle.scrub_found.proofs.FoundBeside.{beside, with_lists}
 use Rattle.scrub_found.proofs.OneScrub.{one_scrub}
+use Rattle.scrub_found.proofs.ResetPlans.{whole_but}
 use Rattle.scrub_reclaim.specs.Doubts.{Acceptance, accepted_on}
 use Rattle.scrub_reclaim.specs.declared.doubts.Doubt.{Doubt}
 use Rattle.scrub_reclaim.specs.Doubts.{are_accepted, doubts_in}
@@ -40,14 +38,14 @@ module _ {D : Type 0} (image : Image) (g : ReclaimParts D) (are : AreReclaimPart
   -- what is found beside the parts
   abbrev pub beside_parts : Beside
   beside_parts =
-      beside [] image g.judged are.judged (some_shared g.judged.checked.items).0 (some_broken g.judged.checked.items).0 g.candidates.items
+      beside [] image g.judged are.judged (the_shared g.judged.checked.items).answer (the_broken g.judged.checked.items).answer g.candidates.items
 
   -- The parts, with what is found beside them, are what is found in the image.
   pub found_of_parts : IsFoundOn image g.judged beside_parts
   found_of_parts =
-      let shared = some_shared g.judged.checked.items in
-      let broken = some_broken g.judged.checked.items in
-      with_lists [] image g.judged are.judged shared.0 broken.0 g.candidates.items shared.1 broken.1 are.candidates
+      let shared = the_shared g.judged.checked.items in
+      let broken = the_broken g.judged.checked.items in
+      with_lists [] image g.judged are.judged shared.answer broken.answer g.candidates.items shared.meets broken.meets are.candidates
 
   -- What is found on the disk, by the parts.
   abbrev pub found_by : Scrubbed
@@ -178,13 +176,6 @@ all_moved checked candidates safe i d below j e within same =
     moved checked (get_or candidates i d) (get_or checked j e) (All-contains_itself checked j e within) same
     (safe i d below j e within same)
 
-whole : (image : Image) (found : Scrubbed) → IsScrubbed image found → IsWholeScan image found.plan found.all
-whole image found x = record {
-  geometry = (plan_parts found.choice found.plan x.plan).geometry ∙ x.choice.geometry;
-  planned = (plan_parts found.choice found.plan x.plan).all ∙ ap (λ g. extents_in_use g.extents found.plan.retired) x.choice.geometry;
-  findings = x.all;
-}
-
 -- Each named locator into an extent to reclaim is sound and among the moves out of it.
 pub safe_to_reclaim : (image : Image) (accepted : Acceptance) (pages : List SuperblockPage) (loose : LooseValue) (found : Scrubbed) →
     IsScrubbed image found → AreMoved found.checked (reclaimed accepted pages loose found)
@@ -193,7 +184,7 @@ safe_to_reclaim image accepted pages loose found x = by (is_clear accepted pages
     safe : AreSafe found.checked found.candidates
     safe =
         candidates_safe image found.plan found.all found.checked (is_in_doubt found.choice found.read) found.candidates
-        (whole image found x) x.checked.statuses x.candidates
+        (whole_but [] found.choice found.plan image found.all x.choice x.plan x.all) x.checked.statuses x.candidates
 
     by : (b : Bool) → AreMoved found.checked (if b then found.candidates else [])
     by true = all_moved found.checked found.candidates safe

@@ -1,9 +1,9 @@
 -- One extent with room, before and after something was written there: its chunks are where they were, and sound locators stay
 -- sound.
-use Rattle.std.proofs.Common.{◌≡◌, ◌≢◌, ◌<◌, ◌≤◌, ◌==◌, ℕ, Bool, true, false, not, Option, Some, None, MatchBool, MatchOption, List, map, arith, refl, sym, ◌∙◌, ap, subst}
-use Rattle.std.specs.List.{Contains, find, list_any}
+use Rattle.std.proofs.Common.{◌≡◌, ◌<◌, ◌≤◌, ◌==◌, ℕ, Bool, true, false, Option, Some, MatchBool, MatchOption, List, map, arith, refl, sym, ◌∙◌, ap, subst}
+use Rattle.std.specs.List.{Contains, find, list_all, list_any}
 use Rattle.std.specs.Option.{option_and_then}
-use Rattle.std.proofs.lemmas.Bool.{eqb-true}
+use Rattle.std.proofs.lemmas.List.Sums.{AllPass-from_list_all}
 use Rattle.scrub_disk.specs.declared.geometry.Geometry.{Geometry}
 use Rattle.scrub_disk.specs.Image.{Image, image_byte}
 use Rattle.scrub_frame.specs.declared.form.Form.{Form}
@@ -12,31 +12,23 @@ use Rattle.scrub_super.specs.Plan.{PlanValue, pointer_of}
 use Rattle.scrub_scan.specs.declared.item.Item.{Item}
 use Rattle.scrub_scan.specs.AllFindings.{entry_of}
 use Rattle.scrub_scan.specs.Extent.{extent_of}
-use Rattle.scrub_scan.specs.Findings.{is_nonzero}
 use Rattle.scrub_scan.specs.Item.{start_of}
 use Rattle.scrub_scan.specs.Scanned.{Scanned}
 use Rattle.scrub_scan.specs.Tiling.{IsTiling}
 use Rattle.scrub_scan.proofs.Tilings.{one_tiling}
+use Rattle.scrub_check.specs.declared.statuses.checked.Checked.{Checked}
 use Rattle.scrub_check.specs.declared.statuses.status.Status.{Status}
 use Rattle.scrub_check.specs.declared.statuses.status.Status.TheVariants.{OutOfRange, Sound}
 use Rattle.scrub_check.specs.ChunkForms.{form_at, form_of}
-use Rattle.scrub_check.specs.Status.{BeginsAt, HasStatus, HasStatusIn, HasStatusInRetired, InRange, NamesChunk, is_retired}
+use Rattle.scrub_check.specs.Status.{BeginsAt, HasStatus, HasStatusIn, HasStatusInRetired, NamesChunk, is_retired}
 use Rattle.scrub_check.proofs.OneStatus.{one_in_plan}
 use Rattle.scrub_check.proofs.RunStates.{HasStatusInUse}
 use Rattle.scrub_check.proofs.Payloads.{same_payload}
+use Rattle.scrub_found.specs.Scrubbed.{is_clean_item}
+use Rattle.scrub_reclaim.specs.Room.{IsRoom, next_place}
 use Rattle.scrub_reclaim.proofs.CarriedNames.{Carries}
-use Rattle.scrub_reclaim.proofs.NextPlaces.{Grown, chunk_is_item, chunk_of, found_there, frame_kept, item_there, starts_there}
-
--- ---- zeros past the pointer
-
--- a byte that can be read is zero if it isn't another number
-pub zero_there : (o : Option ℕ) → is_nonzero o ≡ false → o ≢ None → o ≡ Some 0
-zero_there None none readable = absurd (readable refl)
-zero_there (Some b) none readable = ap Some (eqb-true b 0 (same (b == 0) none))
-  where
-    same : (t : Bool) → not t ≡ false → t ≡ true
-    same true e = refl
-    same false e = sym e
+use Rattle.scrub_reclaim.proofs.NextPlaces.{Grown, chunk_is_item, chunk_of, found_there, grown, item_there, place_above, starts_there}
+use Rattle.scrub_reclaim.proofs.SameBelow.{AreSameBelow, names_below, payload_below}
 
 -- ---- the chunk of a sound locator
 
@@ -72,38 +64,42 @@ pub record IsFilled (before after : Image) (e w v place : ℕ) (old new : List I
   pub is : IsTiling (extent_of after e v) new
   pub grown : Grown (extent_of after e v) place old new
 
-module _ {before after : Image} {w v place : ℕ} {old new : List Item} (l : Locator) (f : IsFilled before after l.extent w v place old new) where
-  -- a locator that names a chunk still does
-  named_still : NamesChunk before w l → NamesChunk after v l
-  named_still n = record {
-    payload = n.payload;
-    found = record {
-      can = record {
-        in_range = subst (λ (g : Geometry). InRange g l) (sym f.sizes) n.found.can.in_range;
-        below = omega (arith, n.found.can.below, f.above, f.moved);
-        readable = λ gap. n.found.can.readable (record {
-          place = gap.place;
-          low = gap.low;
-          high = gap.high;
-          unreadable = sym (f.kept gap.place (omega (arith, gap.high, n.found.can.below, f.above))) ∙ gap.unreadable;
-        });
-      };
-      form = n.found.form;
-      frame =
-          frame_kept (extent_of before l.extent w) (extent_of after l.extent v) place f.kept f.above f.moved l.offset
-          n.found.form l.uuid n.payload n.found.frame;
-    };
-    length = n.length;
-    digest = n.digest;
-  }
+-- An extent with room into which something is written from the place on is filled.
+pub filled_room : (checked : List Checked) (before after : Image) (e w v place : ℕ) (old new : List Item) → after.geometry ≡ before.geometry →
+    IsRoom before checked e w place → place ≡ next_place before.geometry.page w old →
+    ((p : ℕ) → p < place → image_byte after e p ≡ image_byte before e p) → place ≤ v →
+    IsTiling (extent_of before e w) old → IsTiling (extent_of after e v) new → IsFilled before after e w v place old new
+filled_room checked before after e w v place old new sizes room at kept moved was is = record {
+  sizes = sizes;
+  kept = kept;
+  above = above;
+  moved = moved;
+  was = was;
+  is = is;
+  grown =
+      grown (extent_of before e w) (extent_of after e v) place positive (ap (λ (g : Geometry). g.page) sizes) kept room.zeros above moved old new was is
+      (AllPass-from_list_all is_clean_item old clean) at;
+}
+  where
+    positive : 0 < before.geometry.page
+    positive = omega (arith, before.geometry.page_least)
 
-  still_payload : (n : NamesChunk before w l) → (named_still n).payload ≡ n.payload
-  unfolding named_still
-  still_payload n = refl
+    above : w ≤ place
+    above = let low = place_above before.geometry.page w old positive in omega (arith, low, at)
+
+    clean : list_all is_clean_item old ≡ true
+    clean = ap (list_all is_clean_item) (one_tiling (extent_of before e w) old room.items positive was room.tiled) ∙ room.clean
+
+module _ {before after : Image} {w v place : ℕ} {old new : List Item} (l : Locator) (f : IsFilled before after l.extent w v place old new) where
+  kept_below : AreSameBelow before after l.extent w
+  kept_below = record { sizes = f.sizes; bytes = λ p less. f.kept p (omega (arith, less, f.above)) }
+
+  no_lower : w ≤ v
+  no_lower = omega (arith, f.above, f.moved)
 
   sound_still : HasStatus before w l Sound → HasStatus after v l Sound
   sound_still h = (
-    named_still h.0,
+    names_below l kept_below v no_lower h.0,
     record {
       items = new;
       tiled = f.is;
@@ -164,8 +160,8 @@ module _ {before after : Image} {w v place : ℕ} {is js : List Item} (l : Locat
   pub filled_carries : Carries before after old new l
   filled_carries = record {
     names = λ n. record {
-      names = record { in_use = free_after; pointer = v; has_pointer = now; chunk = named_still l f under.0 };
-      has = still_payload l f under.0 ∙ same_payload before l w n.pointer under.0 n.chunk;
+      names = record { in_use = free_after; pointer = v; has_pointer = now; chunk = names_below l (kept_below l f) v (no_lower l f) under.0 };
+      has = payload_below l (kept_below l f) v (no_lower l f) under.0 ∙ same_payload before l w n.pointer under.0 n.chunk;
     };
     no_other = λ m. record { in_use = free_before; pointer = w; has_pointer = was; chunk = under.0 };
     own = λ s h.

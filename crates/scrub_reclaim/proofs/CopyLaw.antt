@@ -1,15 +1,16 @@
 -- Copies into room lose nothing: each chunk is still one, the same is named with the same statuses, and what was copied is found.
-use Rattle.std.proofs.Common.{◌≡◌, ◌≢◌, ◌⊎◌, ◌<◌, ◌≤◌, ◌==◌, ◌||◌, ℕ, Bool, true, false, not, nat_lt, Option, Some, None, List, [], ◌∷◌, length, get_or, arith, refl, sym, ◌∙◌, ap, subst, inl, inr}
+use Rattle.std.proofs.Common.{◌≡◌, ◌≢◌, ◌⊎◌, ◌<◌, ◌≤◌, ◌==◌, ◌||◌, ℕ, Bool, true, false, not, Option, Some, None, List, [], ◌∷◌, length, get_or, arith, refl, sym, ◌∙◌, ap, subst, inl, inr}
 use Rattle.std.proofs.Math.Path.{fun_ext}
 use Rattle.std.specs.List.{All, AllZip, Contains, find, list_any}
 use Rattle.std.specs.Option.{option_and_then}
-use Rattle.std.proofs.lemmas.Bool.{and_parts, eq-eqb, eqb-true, false≢true, ltb-false}
+use Rattle.std.proofs.lemmas.Bool.{and_parts, eq-eqb, eqb-true, false≢true}
 use Rattle.std.proofs.lemmas.Option.{same_Some}
 use Rattle.std.proofs.lemmas.List.Elements.{All-contains, All-contains_itself}
+use Rattle.std.proofs.lemmas.List.Sums.{AllPass-from_list_all}
 use Rattle.list_facts.proofs.Elements.{Contains-behind, Contains-cases, Contains-from_map, Contains-map}
 use Rattle.list_facts.proofs.Bools.{false_from_not}
 use Rattle.scrub_disk.specs.declared.geometry.Geometry.{Geometry}
-use Rattle.scrub_disk.specs.Image.{Image, image_byte, extent_bytes}
+use Rattle.scrub_disk.specs.Image.{Image, image_byte}
 use Rattle.scrub_frame.specs.declared.locator.Locator.{Locator}
 use Rattle.scrub_super.specs.Plan.{PlanValue, pointer_of}
 use Rattle.scrub_super.proofs.PlanParts.{plan_parts}
@@ -21,34 +22,29 @@ use Rattle.scrub_scan.specs.Extent.{extent_of}
 use Rattle.scrub_scan.specs.Item.{start_of}
 use Rattle.scrub_scan.specs.Scanned.{Scanned}
 use Rattle.scrub_scan.specs.Tiling.{IsTiling}
-use Rattle.scrub_scan.proofs.Tilings.{one_tiling}
 use Rattle.scrub_check.specs.declared.statuses.checked.Checked.{Checked}
 use Rattle.scrub_check.specs.declared.statuses.status.Status.{Status}
 use Rattle.scrub_check.specs.declared.statuses.status.Status.TheVariants.{Sound}
-use Rattle.scrub_check.specs.Candidates.{has_sound_alone}
-use Rattle.scrub_check.specs.Checked.{is_sound}
 use Rattle.scrub_check.specs.ChunkForms.{form_at, form_of}
 use Rattle.scrub_check.specs.Live.{is_chunk}
 use Rattle.scrub_check.specs.Spares.{spares_of}
 use Rattle.scrub_check.specs.Status.{HasStatusIn}
-use Rattle.scrub_check.proofs.RunStates.{Sound_from_is_sound}
 use Rattle.scrub_loose.specs.Loose.{AreLoose, IsSearched, LooseValue, best_of, loose_of}
 use Rattle.scrub_loose.proofs.LooseThere.{some_loose}
 use Rattle.scrub_loose.proofs.OneLoose.{one_loose}
-use Rattle.scrub_found.specs.Scrubbed.{Scrubbed, IsScrubbed, is_clean_extent, is_clean_item}
+use Rattle.scrub_found.specs.Scrubbed.{Scrubbed, IsScrubbed}
 use Rattle.scrub_found.proofs.OneReader.{one_scanned}
 use Rattle.scrub_found.proofs.OneScrub.{one_scrub}
 use Rattle.scrub_listings.specs.Manifest.{IsManifest, manifest_text}
-use Rattle.scrub_listings.proofs.AllPass.{all_pass}
 use Rattle.scrub_reclaim.specs.Copy.{HasRoomAt, HoldsCopies, IsAfterCopies, IsPlanAfterCopies, IsSameButRisen, RoomValue, extents_of, rank}
 use Rattle.scrub_reclaim.specs.Doubts.{crowded_now}
-use Rattle.scrub_reclaim.specs.Reset.{IsPlanIn, NameTheSame}
-use Rattle.scrub_reclaim.specs.Room.{IsRoom, has_room, holds_loose, is_closed, is_zero_to, may_grow, next_place, offers_room, place_in, room_fits, room_in}
+use Rattle.scrub_reclaim.specs.Reset.{NameTheSame}
+use Rattle.scrub_reclaim.specs.Room.{IsRoom, has_room, holds_loose, is_closed, next_place, offers_room, place_in}
 use Rattle.scrub_reclaim.proofs.BestCopies.{as_good, first_of, loose_among, not_nil}
 use Rattle.scrub_reclaim.proofs.CarriedNames.{Carries, named_alike}
-use Rattle.scrub_reclaim.proofs.CopiedExtents.{IsFilled, filled_carries, form_there, sound_chunk, sound_under, zero_there}
-use Rattle.scrub_reclaim.proofs.NextPlaces.{Grown, chunk_of, frames_are_chunks, grown, place_above}
-use Rattle.scrub_reclaim.proofs.Reset.{one_plan_in, same_verdict}
+use Rattle.scrub_reclaim.proofs.CopiedExtents.{IsFilled, filled_carries, filled_room, form_there, sound_chunk, sound_under}
+use Rattle.scrub_reclaim.proofs.NextPlaces.{chunk_of, frames_are_chunks}
+use Rattle.scrub_reclaim.proofs.Reset.{plan_found, plan_in, same_verdict}
 use Rattle.scrub_reclaim.proofs.SameExtents.{AreAlike, HaveTheSameForms, IsScannedBy, IsTheSame, alike_items, carries, in_disk, planned_there, same_numbers, same_planned, scanned_by}
 use Rattle.scrub_reclaim.proofs.ResetForms.{along}
 use Rattle.scrub_reclaim.proofs.RoomLines.{shows_room}
@@ -80,13 +76,10 @@ room_cases (r ∷ rooms) e = by (r.extent == e) refl (room_cases rooms e)
 
 module _ (rooms : List RoomValue) (before after : Image) (found rest : Scrubbed) (x : IsScrubbed before found) (y : IsScrubbed after rest)
     (loose : LooseValue) (those : AreLoose [] before found.plan loose) (c : IsAfterCopies rooms before after) where
-  old_plan : IsPlanIn before found.plan
-  old_plan = record { choice = found.choice; chosen = x.choice; follows = x.plan }
-
   plans : IsPlanAfterCopies rooms found.plan rest.plan
   plans =
-      subst (λ (p : PlanValue). IsPlanAfterCopies rooms p rest.plan) (one_plan_in before c.old found.plan c.was old_plan)
-      (subst (λ (q : PlanValue). IsPlanAfterCopies rooms c.old q) (one_plan_in after c.new rest.plan c.is (record { choice = rest.choice; chosen = y.choice; follows = y.plan })) c.plans)
+      subst (λ (p : PlanValue). IsPlanAfterCopies rooms p rest.plan) (plan_found before found c.old x c.was)
+      (subst (λ (q : PlanValue). IsPlanAfterCopies rooms c.old q) (plan_found after rest c.new y c.is) c.plans)
 
   -- the same extents were scanned
   numbers : extent_numbers rest.all ≡ extent_numbers found.all
@@ -102,8 +95,7 @@ module _ (rooms : List RoomValue) (before after : Image) (found rest : Scrubbed)
   record HasRoom (r : RoomValue) (f : Scanned) : Type 0 where
     place_is : r.place ≡ place_in found.plan.geometry f
     unclosed : is_closed found.all loose found.checked f.extent ≡ false
-    fits : has_room found.plan.geometry found.checked f ≡ true
-    shown : IsRoom before f.extent f.pointer (place_in found.plan.geometry f)
+    shown : IsRoom before found.checked f.extent f.pointer (place_in found.plan.geometry f)
 
   -- a room's extent was scanned
   scanned_room : (r : RoomValue) → Contains rooms r → (f : Scanned) × Contains found.all f × (f.extent ≡ r.extent) × HasRoom r f
@@ -121,9 +113,8 @@ module _ (rooms : List RoomValue) (before after : Image) (found rest : Scrubbed)
         record {
           place_is = h.place_is ∙ ap (λ (s : Scrubbed). place_in s.plan.geometry h.scanned) same;
           unclosed = false_from_not (is_closed found.all loose found.checked h.scanned.extent) parts.0;
-          fits = parts.1;
           shown =
-              All-contains (λ (f : Scanned). has_room found.plan.geometry found.checked f ≡ true → IsRoom before f.extent f.pointer (place_in found.plan.geometry f)) found.all h.scanned (shows_room before found x) among parts.1;
+              All-contains (λ (f : Scanned). has_room found.plan.geometry found.checked f ≡ true → IsRoom before found.checked f.extent f.pointer (place_in found.plan.geometry f)) found.all h.scanned (shows_room before found c.whole x) among parts.1;
         },
       )
     where
@@ -143,61 +134,25 @@ module _ (rooms : List RoomValue) (before after : Image) (found rest : Scrubbed)
       let same : s.0 ≡ f = one_scanned before found.plan s.0 f (s.2 ∙ sym number) is.0 known.0 is.1 known.1 in
       subst (λ (h : Scanned). HasRoom r h) same s.3
 
-  -- the named locators into it are sound, and a frame fits
-  alone : (r : RoomValue) (f : Scanned) → HasRoom r f → has_sound_alone found.checked f ≡ true
-  alone r f h =
-      (and_parts (is_clean_extent f) (has_sound_alone found.checked f) (and_parts (may_grow found.checked f) (room_fits found.plan.geometry f) h.fits).0).1
-
-  enough : (r : RoomValue) (f : Scanned) → HasRoom r f → r.place ≤ extent_bytes before.geometry
-  enough r f h =
-      let g = found.plan.geometry in
-      let space : not (nat_lt (room_in g f) 38) ≡ true =
-      (and_parts (is_zero_to (place_in g f) f) (not (nat_lt (room_in g f) 38)) (and_parts (may_grow found.checked f) (room_fits g f) h.fits).1).1 in
-      let some : 38 ≤ room_in g f =
-      ltb-false (room_in g f) 38 (false_from_not (nat_lt (room_in g f) 38) space) in
-      let size : extent_bytes g ≡ extent_bytes before.geometry = ap extent_bytes ((plan_parts found.choice found.plan x.plan).geometry ∙ x.choice.geometry) in
-      omega (arith, some, h.place_is, size)
-
   filled : (r : RoomValue) → Contains rooms r → (f g : Scanned) → IsScannedBy before found.plan f → IsScannedBy after rest.plan g →
       f.extent ≡ r.extent → g.extent ≡ r.extent →
       IsFilled before after r.extent f.pointer g.pointer r.place f.findings.items g.findings.items
-  filled r there f g among here old new = record {
-    sizes = c.sizes;
-    kept = kept;
-    above = above;
-    moved = moved;
-    was = was;
-    is = is;
-    grown =
-        subst (λ (items : List Item). Grown (extent_of after r.extent g.pointer) r.place items g.findings.items)
-        same_items
-        (grown (extent_of before r.extent f.pointer) (extent_of after r.extent g.pointer) r.place (omega (arith, before.geometry.page_least)) (ap (λ (s : Geometry). s.page) c.sizes) kept zero above moved shown.items g.findings.items shown.tiled is (all_pass is_clean_item shown.items shown.clean) place_there);
-  }
+  filled r there f g among here old new =
+      filled_room found.checked before after r.extent f.pointer g.pointer r.place f.findings.items g.findings.items c.sizes shown at kept moved was is
     where
       room : HasRoom r f
       room = has_room_there r there f among old
 
-      shown : IsRoom before r.extent f.pointer r.place
+      shown : IsRoom before found.checked r.extent f.pointer r.place
       shown =
-          subst (λ (p : ℕ). IsRoom before r.extent f.pointer p) (sym room.place_is)
-          (subst (λ (e : ℕ). IsRoom before e f.pointer (place_in found.plan.geometry f)) old room.shown)
+          subst (λ (p : ℕ). IsRoom before found.checked r.extent f.pointer p) (sym room.place_is)
+          (subst (λ (e : ℕ). IsRoom before found.checked e f.pointer (place_in found.plan.geometry f)) old room.shown)
+
+      at : r.place ≡ next_place before.geometry.page f.pointer f.findings.items
+      at = room.place_is ∙ ap (λ (s : Geometry). place_in s f) ((plan_parts found.choice found.plan x.plan).geometry ∙ x.choice.geometry)
 
       was : IsTiling (extent_of before r.extent f.pointer) f.findings.items
       was = subst (λ (e : ℕ). IsTiling (extent_of before e f.pointer) f.findings.items) old among.1.tiled
-
-      same_items : shown.items ≡ f.findings.items
-      same_items = one_tiling (extent_of before r.extent f.pointer) shown.items f.findings.items (omega (arith, before.geometry.page_least)) shown.tiled was
-
-      place_there : r.place ≡ next_place before.geometry.page f.pointer shown.items
-      place_there =
-          room.place_is
-          ∙ ap (λ (s : Geometry). place_in s f) ((plan_parts found.choice found.plan x.plan).geometry ∙ x.choice.geometry)
-          ∙ ap (next_place before.geometry.page f.pointer) (sym same_items)
-
-      above : f.pointer ≤ r.place
-      above =
-          let low = place_above before.geometry.page f.pointer shown.items (omega (arith, before.geometry.page_least)) in
-          omega (arith, low, place_there)
 
       moved : r.place ≤ g.pointer
       moved =
@@ -209,16 +164,8 @@ module _ (rooms : List RoomValue) (before after : Image) (found rest : Scrubbed)
       kept : (p : ℕ) → p < r.place → image_byte after r.extent p ≡ image_byte before r.extent p
       kept = All-contains (λ (s : RoomValue). (p : ℕ) → p < s.place → image_byte after s.extent p ≡ image_byte before s.extent p) rooms r c.kept there
 
-      readable : (p : ℕ) → p < extent_bytes after.geometry → image_byte after r.extent p ≢ None
-      readable = All-contains (λ (s : RoomValue). (p : ℕ) → p < extent_bytes after.geometry → image_byte after s.extent p ≢ None) rooms r c.readable there
-
       is : IsTiling (extent_of after r.extent g.pointer) g.findings.items
       is = subst (λ (e : ℕ). IsTiling (extent_of after e g.pointer) g.findings.items) new here.1.tiled
-
-      zero : (p : ℕ) → f.pointer ≤ p → p < r.place → image_byte before r.extent p ≡ Some 0
-      zero p low high =
-          let size : extent_bytes after.geometry ≡ extent_bytes before.geometry = ap extent_bytes c.sizes in
-          zero_there (image_byte before r.extent p) (shown.zeros p low high) (λ none. readable p (omega (arith, high, enough r f room, size)) (kept p high ∙ none))
 
   -- an extent without copies is the same
   the_same : (e : ℕ) → ¬ Contains (extents_of rooms) e → IsTheSame before after found.plan rest.plan e
@@ -227,7 +174,7 @@ module _ (rooms : List RoomValue) (before after : Image) (found rest : Scrubbed)
     retired = plans.retired;
     pointer = plans.pointers e other;
     bytes = λ w is.
-        let there = in_disk before found.plan old_plan e w is in inr (fun_ext (λ p. c.others e p there.0 there.1 other));
+        let there = in_disk before found.plan (plan_in before found x) e w is in λ p below. c.others e p there.0 there.1 other;
   }
 
   kept_in : (f g : Scanned) → g.extent ≡ f.extent → IsScannedBy before found.plan f → IsScannedBy after rest.plan g → IsKept f g
@@ -251,23 +198,7 @@ module _ (rooms : List RoomValue) (before after : Image) (found rest : Scrubbed)
   -- a named locator into a room is sound
   sound_in : (r : RoomValue) → Contains rooms r → (i : ℕ) (d : Checked) → i < length found.checked →
       r.extent ≡ (get_or found.checked i d).locator.extent → (get_or found.checked i d).status ≡ Sound
-  sound_in r there i d below number = Sound_from_is_sound one.status (by (one.locator.extent == s.0.extent) (is_sound one.status) same passes)
-    where
-      s : (f : Scanned) × Contains found.all f × (f.extent ≡ r.extent) × HasRoom r f
-      s = scanned_room r there
-
-      one : Checked
-      one = get_or found.checked i d
-
-      passes : (not (one.locator.extent == s.0.extent) || is_sound one.status) ≡ true
-      passes = all_pass (λ (k : Checked). not (k.locator.extent == s.0.extent) || is_sound k.status) found.checked (alone r s.0 s.3) i d below
-
-      same : (one.locator.extent == s.0.extent) ≡ true
-      same = eq-eqb one.locator.extent s.0.extent (sym number ∙ sym s.2)
-
-      by : (a b : Bool) → a ≡ true → (not a || b) ≡ true → b ≡ true
-      by true b e all = all
-      by false b e all = absurd (false≢true e)
+  sound_in r there i d below number = let s = scanned_room r there in s.3.shown.sound i d below (sym number ∙ sym s.2)
 
   carry : All (λ (k : Checked). Carries before after found.plan rest.plan k.locator) found.checked
   carry i d below = by (room_cases rooms one.locator.extent)
@@ -394,7 +325,7 @@ module _ (rooms : List RoomValue) (before after : Image) (found rest : Scrubbed)
 
   texts : (others : LooseValue) → AreLoose [] after rest.plan others →
       IsSameButRisen (manifest_text found loose.frames) (manifest_text rest others.frames)
-  texts others m = manifests_rise found rest loose.frames others.frames names_alike forms (copies_rise others m)
+  texts others m = manifests_rise found rest loose.frames others.frames names_alike (copies_rise others m)
 
 module _ (rooms : List RoomValue) (before after : Image) where
   -- After copies the manifest is the same, but that words for best copies may have risen, and so is its verdict.

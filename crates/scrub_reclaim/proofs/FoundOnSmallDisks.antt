@@ -55,10 +55,8 @@ no_runs n w xs = record { same = refl; each = tt }
 -- The shard map of no runs has no bindings.
 pub no_bindings : IsShardMap [] []
 no_bindings = record {
-  bindings_of_map = record {
-    rising = λ i j d lt here. absurd (omega (arith, here));
-    bound = All-nil (λ (b : BindingValue). 0 < length b.locators);
-  };
+  rising = λ i j d lt here. absurd (omega (arith, here));
+  bound = All-nil (λ (b : BindingValue). 0 < length b.locators);
   newest = All-nil (IsNewestBinding []);
   all = λ b is some. absurd (none-some (Some is.entry.entries) is.entry.is_read);
 }

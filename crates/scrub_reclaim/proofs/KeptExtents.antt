@@ -71,22 +71,10 @@ found_both (f ∷ fs) (g ∷ gs) e zip = by (f.extent == e) refl (found_both fs 
 -- a frame is that of a chunk
 frame_of_chunk : (e : ℕ) (item : Item) (s : Standing) → frame_of_item e item ≡ Some s → is_chunk item ≡ true
 frame_of_chunk e (Chunk form start stop uuid n digest) s is = refl
-frame_of_chunk e (Pad start stop) s is = absurd (none s is)
-  where
-    none : (t : Standing) → None ≡ Some t → ⊥
-    none t h = cc
-frame_of_chunk e (Torn start stop) s is = absurd (none s is)
-  where
-    none : (t : Standing) → None ≡ Some t → ⊥
-    none t h = cc
-frame_of_chunk e (Noise start stop) s is = absurd (none s is)
-  where
-    none : (t : Standing) → None ≡ Some t → ⊥
-    none t h = cc
-frame_of_chunk e (Lost start stop) s is = absurd (none s is)
-  where
-    none : (t : Standing) → None ≡ Some t → ⊥
-    none t h = cc
+frame_of_chunk e (Pad start stop) s is = cc
+frame_of_chunk e (Torn start stop) s is = cc
+frame_of_chunk e (Noise start stop) s is = cc
+frame_of_chunk e (Lost start stop) s is = cc
 
 -- so each chunk that was there as a frame is there
 frames_kept_in : (f g : Scanned) (s : Standing) → IsKept f g → Contains (frames_in f) s → Contains (frames_in g) s

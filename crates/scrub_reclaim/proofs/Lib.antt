@@ -21,6 +21,7 @@ pub mod BestCopies
 -- what a reset keeps
 pub mod ResetForms
 pub mod CarriedNames
+pub mod SameBelow
 pub mod SameExtents
 pub mod LooseFrames
 pub mod RisenTexts

@@ -1,55 +1,27 @@
 -- The doubts that loose copies and crowded extents make, and the closed extents, by the copies that the code keeps.
-use Rattle.std.proofs.Common.{◌≡◌, ◌==◌, ◌||◌, ◌++◌, ◌∷◌, [], ℕ, Bool, true, false, not, List, Some, None, OnOk, Result, get_or, length, map, arith, refl, sym, ◌∙◌, ap, subst, append-nil, if◌then◌else◌}
+use Rattle.std.proofs.Common.{◌≡◌, ◌==◌, ◌||◌, ◌∷◌, [], ℕ, Bool, true, false, not, List, get_or, length, map, refl, sym, ◌∙◌, ap, subst, if◌then◌else◌}
 use Rattle.std.proofs.Math.Path.{ap₂}
-use Rattle.std.specs.List.{Contains, filter, flat_map, list_any, slice_get}
+use Rattle.std.specs.List.{Contains, filter, flat_map, list_any}
 use Rattle.std.specs.List.Sorted.{IsPermutation}
-use Rattle.std.proofs.lemmas.Bool.{and_parts, eqb-true, false≢true}
+use Rattle.std.proofs.lemmas.Bool.{and_parts}
 use Rattle.std.proofs.lemmas.List.Elements.{All-contains_itself}
 use Rattle.std.proofs.lemmas.List.Folds.{Any-from_list_any, list_any-append}
 use Rattle.std.proofs.lemmas.List.Sorted.{list_any-IsPermutation}
-use Rattle.std.proofs.lemmas.Option.{none-some, same_Some}
 use Rattle.list_facts.proofs.Elements.{Contains-from_filter, Contains-from_map, Contains-map}
 use Rattle.list_facts.proofs.Filters.{filter_comm}
 use Rattle.scrub_scan.specs.declared.standing.Standing.{Standing}
 use Rattle.scrub_scan.specs.Scanned.{Scanned}
-use Rattle.scrub_check.specs.declared.named.Owner.{Owner}
 use Rattle.scrub_check.specs.declared.statuses.checked.Checked.{Checked}
 use Rattle.scrub_check.specs.Spares.{HaveTheSameCopies, asks_for_spares, is_copy_of, spares_by}
 use Rattle.scrub_loose.specs.Copies.{CopiesValue, is_gone_by, loose_by}
 use Rattle.scrub_loose.specs.Loose.{LooseValue, loose_of}
 use Rattle.scrub_listings.proofs.SpareLines.{flat_same}
-use Rattle.scrub_reclaim.specs.declared.doubts.Doubt.{Doubt}
 use Rattle.scrub_reclaim.specs.declared.doubts.Doubt.TheVariants.{Crowded}
-use Rattle.scrub_reclaim.specs.Doubts.{crowded_doubt, crowded_now, is_in, loose_doubt, loose_doubts_of, outside}
+use Rattle.scrub_reclaim.specs.Doubts.{crowded_doubt, crowded_now, first_doubt, is_in, loose_doubt, loose_doubts_of, outside}
 use Rattle.scrub_reclaim.specs.Room.{holds_loose, is_closed}
 use Rattle.scrub_reclaim.specs.steps.KeptCopies.{AreKept, closed_by, loose_doubts_by}
 use Rattle.scrub_reclaim.proofs.BestCopies.{none_in_nil}
 use Rattle.scrub_reclaim.proofs.LooseLaw.{any_of}
-
--- ---- the doubt of one locator
-
--- If one of its copies stays, a locator makes no doubt.
-pub one_left : (owner : Owner) (some stay : List Standing) (old : List Doubt) → (length stay == 0) ≡ false →
-    old ≡ old ++ loose_doubt owner some stay
-one_left owner [] stay old is = sym (append-nil old)
-one_left owner (s ∷ ss) [] old is = absurd (false≢true (sym is))
-one_left owner (s ∷ ss) (t ∷ ts) old is = sym (append-nil old)
-
--- A locator without loose copies makes no doubt.
-pub no_copy : (owner : Owner) (some stay : List Standing) (old : List Doubt) → slice_get some 0 ≡ None →
-    old ≡ old ++ loose_doubt owner some stay
-no_copy owner [] stay old is = sym (append-nil old)
-no_copy owner (s ∷ ss) stay old is = absurd (none-some s (sym is))
-
--- If no loose copy of a locator stays, its doubt is of the first one.
-pub first_copy_doubted : {E : Type 0} (r : Result (Unit {0}) E) (owner : Owner) (some stay : List Standing) (first : Standing)
-    (old new : List Doubt) → (length stay == 0) ≡ true → slice_get some 0 ≡ Some first →
-    OnOk r (new ≡ old ++ loose_doubt owner (first ∷ []) []) → OnOk r (new ≡ old ++ loose_doubt owner some stay)
-first_copy_doubted r owner [] stay first old new none is later = absurd (none-some first is)
-first_copy_doubted r owner (s ∷ ss) (t ∷ ts) first old new none is later =
-    let e : length (t ∷ ts) ≡ 0 = eqb-true (length (t ∷ ts)) 0 none in absurd (omega (arith, e))
-first_copy_doubted r owner (s ∷ ss) [] first old new none is later =
-    subst (λ (x : Standing). OnOk r (new ≡ old ++ loose_doubt owner (x ∷ []) [])) (sym (same_Some s first is)) later
 
 -- ---- the doubts of all
 
@@ -76,12 +48,12 @@ module _ (all : List Scanned) (checked : List Checked) (loose : LooseValue) (v :
       where
         by : (b : Bool) → is_gone_by v.spares c ≡ b → loose_doubts_by v stay c ≡ loose_doubts_of all loose.frames numbers c
         by true gone =
-            ap (loose_doubt c.owner (loose_by v c)) (stay_of c gone)
-            ∙ ap (λ (ss : List Standing). loose_doubt c.owner ss (outside numbers ss)) (kept.each c there)
+            ap (first_doubt (loose_doubt c.owner) (loose_by v c)) (stay_of c gone)
+            ∙ ap (λ (ss : List Standing). first_doubt (loose_doubt c.owner) ss (outside numbers ss)) (kept.each c there)
         by false some =
             let none : loose_by v c ≡ [] = ap (λ (b : Bool). if b then filter (is_copy_of c.locator) v.loose else []) some in
-            ap (λ (ss : List Standing). loose_doubt c.owner ss (spares_by stay c)) none
-            ∙ sym (ap (λ (ss : List Standing). loose_doubt c.owner ss (outside numbers ss)) (sym (kept.each c there) ∙ none))
+            ap (λ (ss : List Standing). first_doubt (loose_doubt c.owner) ss (spares_by stay c)) none
+            ∙ sym (ap (λ (ss : List Standing). first_doubt (loose_doubt c.owner) ss (outside numbers ss)) (sym (kept.each c there) ∙ none))
 
     -- The doubts by the frames that stay are those that resets of these extents make.
     pub all_loose_alike : flat_map (loose_doubts_by v stay) checked ≡ flat_map (loose_doubts_of all loose.frames numbers) checked

@@ -5,6 +5,7 @@ use Rattle.std.specs.List.{Contains, list_all, list_any}
 use Rattle.std.proofs.lemmas.Bool.{eq-eqb, false≢true, or_right}
 use Rattle.std.proofs.lemmas.List.Elements.{All-contains, All-contains_itself, All-filter, filter_passes}
 use Rattle.std.proofs.lemmas.List.Folds.{list_any_at}
+use Rattle.std.proofs.lemmas.List.Sums.{AllPass-from_list_all}
 use Rattle.list_facts.proofs.Bools.{false_from_not}
 use Rattle.list_facts.proofs.Elements.{Contains-flat_map}
 use Rattle.scrub_frame.specs.declared.form.Form.TheVariants.{Plain}
@@ -14,10 +15,9 @@ use Rattle.scrub_scan.specs.Scanned.{Scanned}
 use Rattle.scrub_check.specs.declared.statuses.checked.Checked.{Checked}
 use Rattle.scrub_loose.specs.Loose.{LooseValue, loose_of}
 use Rattle.scrub_found.specs.Scrubbed.{Scrubbed}
-use Rattle.scrub_listings.proofs.AllPass.{all_pass}
 use Rattle.scrub_reclaim.specs.declared.doubts.Doubt.{Doubt}
-use Rattle.scrub_reclaim.specs.declared.doubts.Doubt.TheVariants.{Crowded, Loose}
-use Rattle.scrub_reclaim.specs.Doubts.{Acceptance, crowded_doubt, crowded_doubts, crowded_now, frame_bytes, is_accepted, is_any_gone, is_crowded, is_in, is_loose, loose_doubt, loose_doubts_of, outside}
+use Rattle.scrub_reclaim.specs.declared.doubts.Doubt.TheVariants.{Crowded}
+use Rattle.scrub_reclaim.specs.Doubts.{Acceptance, crowded_doubt, crowded_doubts, crowded_now, first_doubt, is_accepted, is_any_gone, is_crowded, is_in, is_loose, loose_doubt, loose_doubts_of, outside}
 use Rattle.scrub_reclaim.specs.Reclaimable.{AcceptsNoCrowded, AcceptsNoLoose, HasNoRoomLine, HasSafeLoose, IsLeftAlone, KeepsCrowded, KeepsLoose, accepted_in, doubts_for, is_clear, reclaimed}
 use Rattle.scrub_reclaim.specs.Room.{has_room, holds_loose, is_closed, place_in, room_in, room_line}
 use Rattle.scrub_reclaim.proofs.DoubtParts.{each_part, of_crowded, of_loose}
@@ -104,20 +104,20 @@ module _ (accepted : Acceptance) (pages : List SuperblockPage) (loose : LooseVal
       there = All-contains_itself found.checked k d below
 
       of_one : (p : Doubt → Bool) → list_all p (doubts_for accepted pages loose found) ≡ true →
-          list_all p (loose_doubt c.owner (copies c) (outside numbers (copies c))) ≡ true
+          list_all p (first_doubt (loose_doubt c.owner) (copies c) (outside numbers (copies c))) ≡ true
       of_one p all =
           each_part p (loose_doubts_of found.all loose.frames numbers) found.checked there.0 c there.1 there.2
           (of_loose p accepted.last pages loose found all)
 
       by : (ss ts : List Standing) → copies c ≡ ss → outside numbers (copies c) ≡ ts →
-          list_all (is_accepted (accepted_in accepted found)) (loose_doubt c.owner ss ts) ≡ true →
-          list_all (λ x. not (is_loose x && is_accepted (accepted_in accepted found) x)) (loose_doubt c.owner ss ts) ≡ true →
+          list_all (is_accepted (accepted_in accepted found)) (first_doubt (loose_doubt c.owner) ss ts) ≡ true →
+          list_all (λ x. not (is_loose x && is_accepted (accepted_in accepted found) x)) (first_doubt (loose_doubt c.owner) ss ts) ≡ true →
           HasSafeLoose loose found found.candidates c
       by [] ts none stay all not_one = absurd (has none)
       by (s ∷ ss) (t ∷ ts) some stay all not_one =
           one_stays c there (let e : length (outside numbers (copies c)) ≡ suc (length ts) = ap length stay in omega (arith, e))
       by (s ∷ ss) [] some stay all not_one =
-          absurd (clash (is_accepted (accepted_in accepted found) (Loose s.extent s.offset s.length s.uuid c.owner (frame_bytes s))) all not_one)
+          absurd (clash (is_accepted (accepted_in accepted found) (loose_doubt c.owner s)) all not_one)
 
   -- without extents to reclaim any will do
   any_will_do : KeepsLoose loose found []
@@ -161,7 +161,7 @@ module _ (accepted : Acceptance) (pages : List SuperblockPage) (loose : LooseVal
           let doubted : Contains (crowded_doubts found.all loose.crowded found.checked found.candidates) (Crowded e) =
           Contains-flat_map (crowded_doubt numbers) (crowded_now found.all loose.crowded found.checked) e (Crowded e) now own in
           All-contains (λ (x : Doubt). p x ≡ true) (crowded_doubts found.all loose.crowded found.checked found.candidates) (Crowded e)
-          (all_pass p (crowded_doubts found.all loose.crowded found.checked found.candidates) (of_crowded p accepted.last pages loose found all)) doubted
+          (AllPass-from_list_all p (crowded_doubts found.all loose.crowded found.checked found.candidates) (of_crowded p accepted.last pages loose found all)) doubted
 
       both : (b : Bool) → b ≡ true → not (true && b) ≡ true → ⊥
       both true e f = false≢true f

@@ -1,13 +1,13 @@
 -- The lines of a candidate's moves are those that the code writes chunk by chunk.
-use Rattle.std.proofs.Common.{◌≡◌, ◌==◌, ◌++◌, ℕ, Bool, true, false, List, [], ◌∷◌, get_or, map, arith, refl, sym, ap, ◌∙◌}
-use Rattle.std.specs.List.{filter, flat_map, list_any}
+use Rattle.std.proofs.Common.{◌≡◌, ◌==◌, ◌++◌, ℕ, true, List, [], ◌∷◌, get_or, map, arith, refl, sym, ap, ◌∙◌}
+use Rattle.std.specs.List.{flat_map, list_any}
 use Rattle.std.specs.List.Sorted.{IsPermutation}
-use Rattle.std.proofs.lemmas.Bool.{and_parts, eq-eqb, eqb-true, false≢true}
+use Rattle.std.proofs.lemmas.Bool.{and_parts, eq-eqb, eqb-true}
 use Rattle.std.proofs.lemmas.List.{get_or-map, length-map}
 use Rattle.std.proofs.lemmas.List.Sorted.{list_any-IsPermutation}
 use Rattle.std.proofs.lemmas.Grind.{flat_map-append}
 use Rattle.std.proofs.lemmas.List.Folds.{flat_map-map, list_any_at}
-use Rattle.list_facts.proofs.Filters.{filter_in, filter_out}
+use Rattle.list_facts.proofs.Filters.{filter_of_weaker}
 use Rattle.scrub_check.specs.declared.lists.kept_chunk.KeptChunk.{KeptChunk}
 use Rattle.scrub_check.specs.declared.statuses.checked.Checked.{Checked}
 use Rattle.scrub_check.specs.Candidates.{CandidateValue}
@@ -15,32 +15,14 @@ use Rattle.scrub_listings.proofs.SpareLines.{flat_same}
 use Rattle.scrub_reclaim.specs.Reclaimable.{MoveValue, all_candidate_lines, candidate_lines, move_line, moves, moves_of, pointing_to, points_to, reclaim_line}
 use Rattle.scrub_reclaim.specs.steps.Moves.{kept_lines, named_in}
 
--- a test that holds only where another one does keeps what it keeps without that
-kept_alike : {X : Type 0} (p q : X → Bool) → ((x : X) → p x ≡ true → q x ≡ true) → (xs : List X) →
-    filter p (filter q xs) ≡ filter p xs
-kept_alike p q holds [] = refl
-kept_alike {X} p q holds (x ∷ xs) = by (p x) (q x) refl refl (kept_alike p q holds xs)
-  where
-    by : (a b : Bool) → p x ≡ a → q x ≡ b → filter p (filter q xs) ≡ filter p xs → filter p (filter q (x ∷ xs)) ≡ filter p (x ∷ xs)
-    by true true hp hq rest =
-        ap (filter p) (filter_in q x xs hq)
-        ∙ filter_in p x (filter q xs) hp
-        ∙ ap (λ (ys : List X). x ∷ ys) rest
-        ∙ sym (filter_in p x xs hp)
-    by false true hp hq rest =
-        ap (filter p) (filter_in q x xs hq) ∙ filter_out p x (filter q xs) hp ∙ rest ∙ sym (filter_out p x xs hp)
-    by false false hp hq rest = ap (filter p) (filter_out q x xs hq) ∙ rest ∙ sym (filter_out p x xs hp)
-    by true false hp hq rest = absurd (false≢true (sym hq ∙ holds x hp))
-
 -- the named locators to a chunk of one of these extents are among those into these
 pointing_in : (extents : List ℕ) (checked : List Checked) (e p : ℕ) → list_any (λ n. n == e) extents ≡ true →
     pointing_to (named_in extents checked) e p ≡ pointing_to checked e p
 pointing_in extents checked e p among =
-    kept_alike (points_to e p) (λ (c : Checked). list_any (λ n. n == c.locator.extent) extents)
+    filter_of_weaker (points_to e p) (λ (c : Checked). list_any (λ n. n == c.locator.extent) extents) checked
     (λ (c : Checked) there.
     ap (λ (x : ℕ). list_any (λ n. n == x) extents) (eqb-true c.locator.extent e (and_parts (c.locator.extent == e) (c.locator.offset == p) there).0)
     ∙ among)
-    checked
 
 -- so a candidate of one of these extents has the same moves among them
 lines_in : (extents : List ℕ) (checked : List Checked) (a : CandidateValue) → list_any (λ n. n == a.extent) extents ≡ true →
@@ -64,8 +46,8 @@ all_lines_in extents checked candidates same =
     ∙ list_any_at (λ n. n == a.extent) (map (λ b. b.extent) candidates) i a.extent (omega (arith, below, length-map candidates (λ b. b.extent)))
     (ap (λ (n : ℕ). n == a.extent) (get_or-map (λ b. b.extent) candidates i d a.extent below) ∙ eq-eqb a.extent a.extent refl)))
 
--- the parts of parts, put together
-flat_parts : {X Y Z : Type 0} (f : Y → List Z) (g : X → List Y) (xs : List X) →
+-- The parts of parts, put together.
+pub flat_parts : {X Y Z : Type 0} (f : Y → List Z) (g : X → List Y) (xs : List X) →
     flat_map f (flat_map g xs) ≡ flat_map (λ x. flat_map f (g x)) xs
 flat_parts f g [] = refl
 flat_parts {X} {Y} {Z} f g (x ∷ xs) = flat_map-append f (g x) (flat_map g xs) ∙ ap (λ (u : List Z). flat_map f (g x) ++ u) (flat_parts f g xs)

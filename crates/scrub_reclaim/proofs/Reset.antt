@@ -1,13 +1,13 @@
 -- What is named on a disk is the same after a reset of extents that no named locator points into.
-use Rattle.std.proofs.Common.{◌≡◌, ◌≢◌, ◌⊎◌, inl, inr, ◌==◌, ◌&&◌, ◌||◌, ◌-◌, ℕ, zero, suc, map, if◌then◌else◌, Bool, is_none, true, false, Option, Some, None, List, [], ◌∷◌, ◌+◌, ◌≤◌, length, get_or, arith, refl, sym, ◌∙◌, ap, subst}
+use Rattle.std.proofs.Common.{◌≡◌, ◌≢◌, ◌⊎◌, inl, inr, ◌==◌, ◌&&◌, ◌-◌, ℕ, zero, suc, map, if◌then◌else◌, Bool, is_none, true, false, Option, Some, None, List, [], ◌∷◌, ◌+◌, ◌≤◌, length, get_or, arith, refl, sym, ◌∙◌, ap, subst}
 use Rattle.std.proofs.Math.Path.{ap₂, fun_ext}
 use Rattle.std.specs.Bool.{⊤}
-use Rattle.std.specs.List.{All, AllZip, Contains, count_by, enumerate_from, list_any, slice_get}
+use Rattle.std.specs.List.{All, AllZip, Any, Contains, count_by, enumerate_from, list_any, slice_get}
 use Rattle.std.specs.Option.{option_map}
 use Rattle.std.proofs.lemmas.Bool.{eq-eqb, eqb-true, false≢true}
-use Rattle.std.proofs.lemmas.List.Folds.{list_any_at}
+use Rattle.std.proofs.lemmas.List.Folds.{Any-from_list_any, list_any_at}
 use Rattle.std.proofs.lemmas.Option.{same_Some, slice_get-get_or, slice_get-map, slice_get_within}
-use Rattle.std.proofs.lemmas.List.Elements.{All-contains, All-contains_itself, All-filter, All-head, All-tail}
+use Rattle.std.proofs.lemmas.List.Elements.{All-contains, All-contains_itself, All-filter}
 use Rattle.scrub_disk.specs.declared.geometry.Geometry.{Geometry}
 use Rattle.scrub_disk.specs.Image.{Image}
 use Rattle.scrub_frame.specs.declared.locator.Locator.{Locator}
@@ -67,6 +67,13 @@ one_plan_in image p q x y =
     let choice : x.choice ≡ y.choice = one_choice_lem image x.choice y.choice x.chosen y.chosen in
     one_plan y.choice p q (rw choice at x.follows) y.follows
 
+-- What is found on an image follows its plan.
+pub plan_in : (image : Image) (s : Scrubbed) → IsScrubbed image s → IsPlanIn image s.plan
+plan_in image s x = record { choice = s.choice; chosen = x.choice; follows = x.plan }
+
+pub plan_found : (image : Image) (s : Scrubbed) (p : PlanValue) → IsScrubbed image s → IsPlanIn image p → p ≡ s.plan
+plan_found image s p x is = one_plan_in image p s.plan is (plan_in image s x)
+
 -- no named locator points into one of the listed extents
 pub none_into_these : (image : Image) (accepted : Acceptance) (extents : List ℕ) (found : Scrubbed) → IsScrubbed image found →
     All (IsListedWithoutMoves image accepted) extents → All (λ (c : Checked). ¬ Contains extents c.locator.extent) found.checked
@@ -83,13 +90,10 @@ none_into_these image accepted extents found x listed i d below =
 
 module _ (extents : List ℕ) (before after : Image) (found rest : Scrubbed) (x : IsScrubbed before found) (y : IsScrubbed after rest)
     (r : IsAfterReset extents before after) where
-  old_plan : IsPlanIn before found.plan
-  old_plan = record { choice = found.choice; chosen = x.choice; follows = x.plan }
-
   pub plans_of : IsPlanAfterReset extents found.plan rest.plan
   plans_of =
-      subst (λ (p : PlanValue). IsPlanAfterReset extents p rest.plan) (one_plan_in before r.old found.plan r.was old_plan)
-      (subst (λ (q : PlanValue). IsPlanAfterReset extents r.old q) (one_plan_in after r.new rest.plan r.is (record { choice = rest.choice; chosen = y.choice; follows = y.plan })) r.plans)
+      subst (λ (p : PlanValue). IsPlanAfterReset extents p rest.plan) (plan_found before found r.old x r.was)
+      (subst (λ (q : PlanValue). IsPlanAfterReset extents r.old q) (plan_found after rest r.new y r.is) r.plans)
 
   pub the_same : (e : ℕ) → ¬ Contains extents e → IsTheSame before after found.plan rest.plan e
   the_same e other = record {
@@ -97,7 +101,7 @@ module _ (extents : List ℕ) (before after : Image) (found rest : Scrubbed) (x 
     retired = plans_of.retired;
     pointer = plans_of.pointers e other;
     bytes = λ w is.
-        let there = in_disk before found.plan old_plan e w is in inr (fun_ext (λ p. r.bytes e p there.0 there.1 other));
+        let there = in_disk before found.plan (plan_in before found x) e w is in λ p below. r.bytes e p there.0 there.1 other;
   }
 
   pub scans : AllZip (IsAlikeIn (λ e. ¬ Contains extents e)) found.all rest.all
@@ -131,6 +135,18 @@ module _ (resets others : List ℕ) (before after : Image) (found rest : Scrubbe
       named_alike resets others before after found rest x y has runs retired
       (λ i d below. carries (get_or found.checked i d).locator (same i d below)) forms
 
+module _ (extents : List ℕ) (before after : Image) (found rest : Scrubbed) (x : IsScrubbed before found) (y : IsScrubbed after rest)
+    (r : IsAfterReset extents before after) where
+  -- So they do after a reset of extents that no named locator points into.
+  pub named_apart : All (λ (c : Checked). ¬ Contains extents c.locator.extent) found.checked → NameTheSame found rest
+  named_apart apart =
+      let plans = plans_of extents before after found rest x y r in
+      name_the_same [] [] before after found rest x y plans.has plans.runs plans.retired
+      (λ i d below. the_same extents before after found rest x y r (get_or found.checked i d).locator.extent (apart i d below))
+      (λ i d below sound.
+      same_form (get_or found.checked i d).locator (λ e. ¬ Contains extents e) found.all rest.all
+      (scans extents before after found rest x y r) (apart i d below))
+
 -- the same manifest, if the same follows the status of each named locator
 pub same_text : (found rest : Scrubbed) (loose others : List Standing) → NameTheSame found rest →
     All (λ (c : Checked). after_status_in rest.all others c ≡ after_status_in found.all loose c) found.checked →
@@ -154,24 +170,19 @@ same_verdict found rest same i = of (same.superblock i) (same.read i) (same.chec
 
 -- ---- a reset that is foreseen
 
--- whether a number is among these
-pub among_cases : (extents : List ℕ) (e : ℕ) →
-    (list_any (λ n. n == e) extents ≡ true) ⊎ ((list_any (λ n. n == e) extents ≡ false) × (¬ Contains extents e))
+-- a number is among these, or it isn't
+abbrev pub AmongCases : List ℕ → ℕ → Type 0
+AmongCases extents e =
+    ((list_any (λ n. n == e) extents ≡ true) × Contains extents e) ⊎ ((list_any (λ n. n == e) extents ≡ false) × (¬ Contains extents e))
+
+pub among_cases : (extents : List ℕ) (e : ℕ) → AmongCases extents e
 among_cases extents e = by (list_any (λ n. n == e) extents) refl
   where
-    by : (b : Bool) → list_any (λ n. n == e) extents ≡ b →
-        (list_any (λ n. n == e) extents ≡ true) ⊎ ((list_any (λ n. n == e) extents ≡ false) × (¬ Contains extents e))
-    by true is = inl is
+    by : (b : Bool) → list_any (λ n. n == e) extents ≡ b → AmongCases extents e
+    by true is =
+        let some : Any (λ (n : ℕ). (n == e) ≡ true) extents = Any-from_list_any (λ n. n == e) extents is in
+        inl (is, subst (Contains extents) (eqb-true some.1 e some.4) (some.0, some.2, some.3))
     by false is = inr (is, λ there. false≢true (sym is ∙ list_any_at (λ n. n == e) extents there.0 e there.1 (eq-eqb (get_or extents there.0 e) e there.2)))
-
--- what an element passes, all that is said of each element says of it
-pub said_of : (P : ℕ → Type 0) (extents : List ℕ) (e : ℕ) → All P extents → list_any (λ n. n == e) extents ≡ true → P e
-said_of P [] e all is = absurd (false≢true is)
-said_of P (n ∷ ns) e all is = by (n == e) refl is (said_of P ns e (All-tail P n ns all))
-  where
-    by : (b : Bool) → (n == e) ≡ b → (b || list_any (λ m. m == e) ns) ≡ true → (list_any (λ m. m == e) ns ≡ true → P e) → P e
-    by true same is rest = subst P (eqb-true n e same) (All-head P n ns all)
-    by false other is rest = rest is
 
 -- the pointer of an extent in a plan with resets
 reset_pointer : (extents pointers : List ℕ) (k : ℕ) →
@@ -255,7 +266,7 @@ module _ (extents : List ℕ) (before after : Image) (found rest : Scrubbed) (x 
   was = one_plan_in before f.reset.old without.0 f.reset.was plan_was
 
   is_now : f.reset.new ≡ rest.plan
-  is_now = one_plan_in after f.reset.new rest.plan f.reset.is (record { choice = rest.choice; chosen = y.choice; follows = y.plan })
+  is_now = plan_found after rest f.reset.new y f.reset.is
 
   plans : IsPlanAfterReset extents without.0 rest.plan
   plans =
@@ -270,15 +281,14 @@ module _ (extents : List ℕ) (before after : Image) (found rest : Scrubbed) (x 
   foreseen : (e : ℕ) → IsTheSame before after found.plan rest.plan e
   foreseen e = by (among_cases extents e)
     where
-      by : (list_any (λ n. n == e) extents ≡ true) ⊎ ((list_any (λ n. n == e) extents ≡ false) × (¬ Contains extents e)) →
-          IsTheSame before after found.plan rest.plan e
-      by (inl among) =
-          let given : pointer_of f.reset.new e ≡ Some 0 = said_of (λ n. pointer_of f.reset.new n ≡ Some 0) extents e f.are among in
+      by : AmongCases extents e → IsTheSame before after found.plan rest.plan e
+      by (inl (among, there)) =
+          let given : pointer_of f.reset.new e ≡ Some 0 = All-contains (λ n. pointer_of f.reset.new n ≡ Some 0) extents e f.are there in
           let had : (w : ℕ) × (pointer_of without.0 e ≡ Some w) =
           subst (λ (p : PlanValue). (w : ℕ) × (pointer_of p e ≡ Some w)) was (had_pointer f.reset.old f.reset.new e 0 long given) in
           let none : pointer_of found.plan e ≡ Some 0 = zero_pointer extents without.0 found.plan without.2 e had.0 among had.1 in
           let now : pointer_of rest.plan e ≡ Some 0 = subst (λ (p : PlanValue). pointer_of p e ≡ Some 0) is_now given in
-          record { sizes = f.reset.sizes; retired = plans.retired ∙ sym without.2.retired; pointer = now ∙ sym none; bytes = λ w is. inl (same_Some w 0 (sym is ∙ none)) }
+          record { sizes = f.reset.sizes; retired = plans.retired ∙ sym without.2.retired; pointer = now ∙ sym none; bytes = λ w is p below. absurd (omega (arith, below, same_Some w 0 (sym is ∙ none))) }
       by (inr (other, apart)) =
           let kept : pointer_of found.plan e ≡ pointer_of without.0 e = kept_pointer extents without.0 found.plan without.2 e other in
           record {
@@ -287,7 +297,7 @@ module _ (extents : List ℕ) (before after : Image) (found rest : Scrubbed) (x 
             pointer = plans.pointers e apart ∙ sym kept;
             bytes = λ w is.
                 let there = in_disk before without.0 plan_was e w (sym kept ∙ is) in
-                inr (fun_ext (λ p. f.reset.bytes e p there.0 there.1 apart));
+                λ p below. f.reset.bytes e p there.0 there.1 apart;
           }
 
   retired_now : rest.plan.retired ≡ found.plan.retired
@@ -345,7 +355,6 @@ as_foreseen extents before after a b v w f x y =
       subst (λ (t : List ℕ). IsSameButRisen t b) (sym x.text_is)
           (subst (λ (t : List ℕ). IsSameButRisen (manifest_text x.found x.loose.frames) t) (sym y.text_is)
           (manifests_rise x.found y.found x.loose.frames y.loose.frames same
-          (λ i d below sound. form_now extents before after x.found y.found x.scrubbed y.scrubbed f (get_or x.found.checked i d).locator)
           (λ i d below. best_as_foreseen extents before after x.found y.found x.scrubbed y.scrubbed f x.loose y.loose x.are_loose y.are_loose (get_or x.found.checked i d)))),
       x.verdict ∙ sym (same_verdict x.found y.found same) ∙ sym y.verdict,
     )
@@ -357,14 +366,7 @@ module _ (accepted : Acceptance) (extents : List ℕ) (before after : Image) whe
   pub the_same_named : (found rest : Scrubbed) → IsReclaimed accepted extents before after → IsScrubbed before found →
       IsScrubbed after rest → NameTheSame found rest
   the_same_named found rest r x y =
-      let plans = plans_of extents before after found rest x y r.reset in
-      let apart : All (λ (c : Checked). ¬ Contains extents c.locator.extent) found.checked =
-      none_into_these before accepted extents found x r.listed in
-      name_the_same [] [] before after found rest x y plans.has plans.runs plans.retired
-      (λ i d below. the_same extents before after found rest x y r.reset (get_or found.checked i d).locator.extent (apart i d below))
-      (λ i d below sound.
-      same_form (get_or found.checked i d).locator (λ e. ¬ Contains extents e) found.all rest.all
-      (scans extents before after found rest x y r.reset) (apart i d below))
+      named_apart extents before after found rest x y r.reset (none_into_these before accepted extents found x r.listed)
 
   -- It leaves the recovered index, too.
   pub the_same_index : (a b : AnswerValue) → IsReclaimed accepted extents before after → IsScrubAnswer before a →

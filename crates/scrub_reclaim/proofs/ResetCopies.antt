@@ -1,9 +1,9 @@
 -- A reset of extents that are listed without a move changes nothing in the manifest but words for best copies, which may rise, if no
 -- copy was accepted: no named locator points into them, and what has a spare or a loose copy keeps one.
-use Rattle.std.proofs.Common.{◌≡◌, ◌≢◌, ◌⊎◌, inl, inr, ◌≤◌, ◌==◌, ◌&&◌, ℕ, Bool, true, false, List, [], get_or, refl, sym, ◌∙◌, ap, subst}
-use Rattle.std.specs.List.{All, AllZip, Any, Contains, list_any}
+use Rattle.std.proofs.Common.{◌≡◌, ◌≢◌, ◌⊎◌, inl, inr, ◌≤◌, ◌==◌, ◌&&◌, ℕ, Bool, true, List, [], get_or, refl, sym, ◌∙◌, ap, subst}
+use Rattle.std.specs.List.{All, AllZip, Any, Contains}
 use Rattle.std.proofs.lemmas.Bool.{and_parts, eqb-true}
-use Rattle.std.proofs.lemmas.List.Elements.{All-contains, All-contains_itself}
+use Rattle.std.proofs.lemmas.List.Elements.{All-contains}
 use Rattle.std.proofs.lemmas.List.Folds.{Any-from_list_any}
 use Rattle.std.proofs.lemmas.Option.{same_Some}
 use Rattle.list_facts.proofs.Counts.{any_counts}
@@ -23,7 +23,7 @@ use Rattle.scrub_check.specs.Checked.{is_sound}
 use Rattle.scrub_check.specs.Live.{has_sound_at}
 use Rattle.scrub_check.specs.Spares.{frames, spares_of}
 use Rattle.scrub_check.specs.steps.SoundPlaces.{is_sound_at}
-use Rattle.scrub_loose.specs.Loose.{AreLoose, IsLooseFrame, LooseValue, best_of, loose_of}
+use Rattle.scrub_loose.specs.Loose.{AreLoose, LooseValue, best_of, loose_of}
 use Rattle.scrub_loose.proofs.OneLoose.{one_loose}
 use Rattle.scrub_found.specs.Resets.{IsScrubbedBut}
 use Rattle.scrub_found.specs.Scrubbed.{Scrubbed, IsScrubbed}
@@ -35,10 +35,11 @@ use Rattle.scrub_reclaim.specs.Doubts.{Acceptance, is_loose, is_spare}
 use Rattle.scrub_reclaim.specs.Reclaimable.{AcceptsNone, HasSafeLoose, HasSafeSpare, KeepsLoose, KeepsSpares, reclaimed}
 use Rattle.scrub_reclaim.specs.Reset.{AreListedKeepingCopies, IsAfterReset, IsListedWithoutMoves, NameTheSame}
 use Rattle.scrub_reclaim.proofs.BestCopies.{as_good, first_of, loose_among, none_in_nil, not_nil, one_of_rank}
+use Rattle.scrub_reclaim.proofs.LooseFrames.{carried_over}
 use Rattle.scrub_reclaim.proofs.LooseLaw.{loose_kept}
-use Rattle.scrub_reclaim.proofs.Reset.{among_cases, kept_pointer, loose_stays, name_the_same, none_into_these, one_plan_in, plans_of, reset_of, said_of, same_text, same_verdict, scans, the_same, zero_pointer}
+use Rattle.scrub_reclaim.proofs.Reset.{among_cases, kept_pointer, loose_stays, name_the_same, named_apart, none_into_these, plan_found, reset_of, same_text, same_verdict, scans, zero_pointer}
 use Rattle.scrub_reclaim.proofs.RisenTexts.{manifests_rise}
-use Rattle.scrub_reclaim.proofs.SameExtents.{HaveTheSameForms, IsScannedBy, IsTheSame, alike_items, no_items, same_numbers, scanned_by, scans_alike}
+use Rattle.scrub_reclaim.proofs.SameExtents.{IsScannedBy, IsTheSame, alike_items, no_items, same_numbers, scanned_by, scans_alike}
 use Rattle.scrub_reclaim.proofs.ResetForms.{IsAlikeIn, IsPartOf, along, frame_stays, frame_was, same_after, same_form, spare_among, spare_too}
 use Rattle.scrub_reclaim.proofs.SpareLaw.{spares_kept}
 
@@ -130,28 +131,25 @@ module _ (accepted : Acceptance) (extents : List ℕ) (image : Image) (k : AreLi
 
 -- ---- the manifest as if they were reset
 
-module _ (accepted : Acceptance) (extents : List ℕ) (image : Image) (k : AreListedKeepingCopies accepted extents image)
-    (found rest : Scrubbed) (x : IsScrubbed image found) (y : IsScrubbedBut extents image rest) (loose others : LooseValue)
-    (l : AreLoose [] image found.plan loose) (m : AreLoose extents image rest.plan others) where
-  reset : IsReset found.plan extents rest.plan
+module _ (extents : List ℕ) (image : Image) (found rest : Scrubbed) (x : IsScrubbed image found) (y : IsScrubbedBut extents image rest) where
+  -- A plan with resets is that without them, but for write pointers.
+  pub reset : IsReset found.plan extents rest.plan
   reset =
       let without : (old : PlanValue) × (old ≡ plan_of rest.choice) × IsReset old extents rest.plan = reset_of extents rest.choice rest.plan y.plan in
       subst (λ (p : PlanValue). IsReset p extents rest.plan)
-      (one_plan_in image without.0 found.plan (record { choice = rest.choice; chosen = y.choice; follows = without.1 }) (record { choice = found.choice; chosen = x.choice; follows = x.plan }))
+      (plan_found image found without.0 x (record { choice = rest.choice; chosen = y.choice; follows = without.1 }))
       without.2
 
   same_else : (e : ℕ) → ¬ Contains extents e → IsTheSame image image found.plan rest.plan e
   same_else e apart = record {
     sizes = refl;
     retired = reset.retired;
-    pointer = by (among_cases extents e);
-    bytes = λ w is. inr refl;
+    pointer = elim (among_cases extents e) [
+      | inl among ↦ absurd (apart among.1)
+      | inr other ↦ kept_pointer extents found.plan rest.plan reset e other.0
+    ];
+    bytes = λ w is p below. refl;
   }
-    where
-      by : (list_any (λ n. n == e) extents ≡ true) ⊎ ((list_any (λ n. n == e) extents ≡ false) × (¬ Contains extents e)) →
-          pointer_of rest.plan e ≡ pointer_of found.plan e
-      by (inl among) = absurd (apart (said_of (Contains extents) extents e (All-contains_itself extents) among))
-      by (inr (other, none)) = kept_pointer extents found.plan rest.plan reset e other
 
   -- ---- the scans
 
@@ -163,90 +161,77 @@ module _ (accepted : Acceptance) (extents : List ℕ) (image : Image) (k : AreLi
 
   -- nothing is found in the extents that are reset
   part : (f g : Scanned) → g.extent ≡ f.extent → IsScannedBy image found.plan f → IsScannedBy image rest.plan g → IsPartOf f g
-  part f g number p q = record { extent = number; items = by (among_cases extents f.extent) }
-    where
-      by : (list_any (λ n. n == f.extent) extents ≡ true) ⊎ ((list_any (λ n. n == f.extent) extents ≡ false) × (¬ Contains extents f.extent)) →
-          (g.findings.items ≡ f.findings.items) ⊎ (g.findings.items ≡ [])
-      by (inl among) =
+  part f g number p q = record {
+    extent = number;
+    items = elim (among_cases extents f.extent) [
+      | inl among ↦
           inr
           (no_items (extent_of image g.extent g.pointer) g.findings.items
-          (same_Some g.pointer 0 (sym q.0 ∙ ap (pointer_of rest.plan) number ∙ zero_pointer extents found.plan rest.plan reset f.extent f.pointer among p.0))
+          (same_Some g.pointer 0 (sym q.0 ∙ ap (pointer_of rest.plan) number ∙ zero_pointer extents found.plan rest.plan reset f.extent f.pointer among.0 p.0))
           q.1.tiled)
-      by (inr (other, apart)) = inl (alike_items image image found.plan rest.plan f g number p q (same_else f.extent apart))
+      | inr other ↦ inl (alike_items image image found.plan rest.plan f g number p q (same_else f.extent other.1))
+    ];
+  }
 
   parts : AllZip IsPartOf found.all rest.all
   parts =
       along (IsScannedBy image found.plan) (IsScannedBy image rest.plan) IsPartOf part found.all rest.all numbers
       (scanned_by image found.plan found.all x.all) (scanned_by image rest.plan rest.all y.all)
 
-  -- ---- the loose frames
+  -- ---- the loose frames and the best copies
 
-  outside_too : (s : Standing) → ¬ Contains extents s.extent → Contains loose.frames s → Contains others.frames s
-  outside_too s apart there =
-      let h : IsLooseFrame [] image found.plan s = (l.frames s).0 there in
-      (m.frames s).1
-      (record {
-        searched = record {
-          in_use = subst (λ (ns : List ℕ). Contains ns s.extent) (sym reset.planned) h.searched.in_use;
-          stays = apart;
-        };
-        sparse = h.sparse;
-        stands = h.stands;
-      })
+  module _ (loose others : LooseValue) (l : AreLoose [] image found.plan loose) (m : AreLoose extents image rest.plan others) where
+    outside_too : (s : Standing) → ¬ Contains extents s.extent → Contains loose.frames s → Contains others.frames s
+    outside_too s apart =
+        carried_over [] extents found.plan rest.plan s (record { sizes = refl; bytes = refl }) loose others l m
+        (λ is. record { in_use = subst (λ (ns : List ℕ). Contains ns s.extent) (sym reset.planned) is.in_use; stays = apart })
 
-  no_more : (s : Standing) → Contains others.frames s → Contains loose.frames s
-  no_more s there =
-      let h : IsLooseFrame extents image rest.plan s = (m.frames s).0 there in
-      (l.frames s).1
-      (record {
-        searched = record {
-          in_use = subst (λ (ns : List ℕ). Contains ns s.extent) reset.planned h.searched.in_use;
-          stays = λ among. none_in_nil s.extent among;
-        };
-        sparse = h.sparse;
-        stands = h.stands;
-      })
+    no_more : (s : Standing) → Contains others.frames s → Contains loose.frames s
+    no_more s =
+        carried_over extents [] rest.plan found.plan s (record { sizes = refl; bytes = refl }) others loose m l
+        (λ is. record { in_use = subst (λ (ns : List ℕ). Contains ns s.extent) reset.planned is.in_use; stays = none_in_nil s.extent })
 
-  -- ---- the best copies
+    -- With resets no best copy is better than without.
+    pub no_better : (c : Checked) → rank (best_of rest.all others.frames c) ≤ rank (best_of found.all loose.frames c)
+    no_better c =
+        as_good c rest.all found.all others.frames loose.frames
+        (λ some.
+        let one = first_of (spares_of rest.all c) some in
+        not_nil (spares_of found.all c) one.0
+        (spare_too c (frames rest.all) (frames found.all) one.0 one.1
+        (frame_was found.all rest.all one.0 parts (spare_among c (frames rest.all) (frames found.all) one.0 one.1))))
+        (λ some.
+        let one = first_of (loose_of rest.all others.frames c) some in
+        (one.0, one.1, no_more one.0 (loose_among c rest.all found.all others.frames loose.frames one.0 one.1).2))
 
-  up : All (λ (c : Checked). rank (best_of found.all loose.frames c) ≤ rank (best_of rest.all others.frames c)) found.checked
-  up = rises accepted extents image k found x loose l rest.all others.frames alike_else outside_too
+  -- ---- what is named
 
-  down : (c : Checked) → rank (best_of rest.all others.frames c) ≤ rank (best_of found.all loose.frames c)
-  down c =
-      as_good c rest.all found.all others.frames loose.frames
-      (λ some.
-      let one = first_of (spares_of rest.all c) some in
-      not_nil (spares_of found.all c) one.0
-      (spare_too c (frames rest.all) (frames found.all) one.0 one.1
-      (frame_was found.all rest.all one.0 parts (spare_among c (frames rest.all) (frames found.all) one.0 one.1))))
-      (λ some.
-      let one = first_of (loose_of rest.all others.frames c) some in
-      (one.0, one.1, no_more one.0 (loose_among c rest.all found.all others.frames loose.frames one.0 one.1).2))
-
-  -- ---- what is named, and its lines
-
-  forms : HaveTheSameForms found rest
-  forms i d below sound =
-      same_form (get_or found.checked i d).locator (λ e. ¬ Contains extents e) found.all rest.all alike_else
-      (none_into_them accepted extents image k found x loose l i d below)
-
-  named : NameTheSame found rest
-  named =
+  -- With resets that no named locator points into, the same is named as without.
+  pub named_but : All (λ (c : Checked). ¬ Contains extents c.locator.extent) found.checked → NameTheSame found rest
+  named_but apart =
       name_the_same [] extents image image found rest x y reset.has reset.runs reset.retired
-      (λ i d below. same_else (get_or found.checked i d).locator.extent (none_into_them accepted extents image k found x loose l i d below)) forms
+      (λ i d below. same_else (get_or found.checked i d).locator.extent (apart i d below))
+      (λ i d below sound. same_form (get_or found.checked i d).locator (λ e. ¬ Contains extents e) found.all rest.all alike_else (apart i d below))
+
+module _ (accepted : Acceptance) (extents : List ℕ) (image : Image) (k : AreListedKeepingCopies accepted extents image)
+    (found rest : Scrubbed) (x : IsScrubbed image found) (y : IsScrubbedBut extents image rest) (loose others : LooseValue)
+    (l : AreLoose [] image found.plan loose) (m : AreLoose extents image rest.plan others) where
+  same_named : NameTheSame found rest
+  same_named = named_but extents image found rest x y (none_into_them accepted extents image k found x loose l)
 
   after : All (λ (c : Checked). after_status_in rest.all others.frames c ≡ after_status_in found.all loose.frames c) found.checked
   after i d below =
       let c : Checked = get_or found.checked i d in
-      same_after found.all rest.all loose.frames others.frames c (forms i d below)
-      (one_of_rank (best_of rest.all others.frames c) (best_of found.all loose.frames c) (down c) (up i d below))
+      same_after found.all rest.all loose.frames others.frames c (same_named.forms i d below)
+      (one_of_rank (best_of rest.all others.frames c) (best_of found.all loose.frames c)
+      (no_better extents image found rest x y loose others l m c)
+      (rises accepted extents image k found x loose l rest.all others.frames (alike_else extents image found rest x y) (outside_too extents image found rest x y loose others l m) i d below))
 
 -- If extents are listed and no copy is accepted, the manifest as if they were reset is the manifest.
 pub same_without : (accepted : Acceptance) (extents : List ℕ) (image : Image) (a b : List ℕ) (v w : Bool) → AreListedKeepingCopies accepted extents image →
     IsManifestBut extents image a v → IsManifest image b w → (a ≡ b) × (v ≡ w)
 same_without accepted extents image a b v w k y x =
-    let same = named accepted extents image k x.found y.found x.scrubbed y.scrubbed x.loose y.loose x.are_loose y.are_loose in (
+    let same = same_named accepted extents image k x.found y.found x.scrubbed y.scrubbed x.loose y.loose x.are_loose y.are_loose in (
       y.text_is
           ∙ same_text x.found y.found x.loose.frames y.loose.frames same
           (after accepted extents image k x.found y.found x.scrubbed y.scrubbed x.loose y.loose x.are_loose y.are_loose)
@@ -259,23 +244,12 @@ same_without accepted extents image a b v w k y x =
 module _ (accepted : Acceptance) (extents : List ℕ) (before after : Image) (k : AreListedKeepingCopies accepted extents before)
     (r : IsAfterReset extents before after) (found rest : Scrubbed) (x : IsScrubbed before found) (y : IsScrubbed after rest)
     (loose others : LooseValue) (l : AreLoose [] before found.plan loose) (m : AreLoose [] after rest.plan others) where
-  apart : All (λ (c : Checked). ¬ Contains extents c.locator.extent) found.checked
-  apart = none_into_these before accepted extents found x k.listed
-
-  forms_after : HaveTheSameForms found rest
-  forms_after i d below sound =
-      same_form (get_or found.checked i d).locator (λ e. ¬ Contains extents e) found.all rest.all
-      (scans extents before after found rest x y r) (apart i d below)
-
   named_after : NameTheSame found rest
-  named_after =
-      let plans = plans_of extents before after found rest x y r in
-      name_the_same [] [] before after found rest x y plans.has plans.runs plans.retired
-      (λ i d below. the_same extents before after found rest x y r (get_or found.checked i d).locator.extent (apart i d below)) forms_after
+  named_after = named_apart extents before after found rest x y r (none_into_these before accepted extents found x k.listed)
 
   risen : IsSameButRisen (manifest_text found loose.frames) (manifest_text rest others.frames)
   risen =
-      manifests_rise found rest loose.frames others.frames named_after forms_after
+      manifests_rise found rest loose.frames others.frames named_after
       (rises accepted extents before k found x loose l rest.all others.frames (scans extents before after found rest x y r)
       (loose_stays extents before after found rest x y r loose others l m))
 

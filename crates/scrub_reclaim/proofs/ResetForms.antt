@@ -15,18 +15,17 @@ use Rattle.scrub_scan.specs.declared.item.Item.TheVariants.{Chunk, Pad, Torn, No
 use Rattle.scrub_scan.specs.declared.standing.Standing.{Standing}
 use Rattle.scrub_scan.specs.AllFindings.{entry_of, extent_numbers}
 use Rattle.scrub_scan.specs.Item.{start_of}
-use Rattle.scrub_scan.specs.Line.{spaced}
 use Rattle.scrub_scan.specs.Scanned.{Scanned}
 use Rattle.scrub_merge.specs.Binding.{BindingValue}
 use Rattle.scrub_check.specs.declared.statuses.checked.Checked.{Checked}
-use Rattle.scrub_check.specs.declared.statuses.status.Status.{Status}
-use Rattle.scrub_check.specs.declared.statuses.status.Status.TheVariants.{OutOfRange, Retired, PastPointer, Unreadable, NoFrame, WrongUuid, WrongLength, WrongDigest, Hidden, Sound}
-use Rattle.scrub_check.specs.Checked.{is_dangling, is_owned_by, is_sound}
+use Rattle.scrub_check.specs.declared.statuses.status.Status.TheVariants.{Sound}
+use Rattle.scrub_check.specs.Checked.{is_owned_by, is_sound}
 use Rattle.scrub_check.specs.ChunkForms.{form_at, form_of}
+use Rattle.scrub_check.proofs.RunStates.{Sound_from_is_sound}
 use Rattle.scrub_check.specs.Spares.{asks_for_spares, frame_of_item, frames, frames_in, is_copy_of, spares_by}
 use Rattle.scrub_loose.specs.declared.copies.BestCopy.{BestCopy}
 use Rattle.scrub_loose.specs.Loose.{best_of}
-use Rattle.scrub_listings.specs.Manifest.{after_status_in, copy_word, form_text, looked_for, numbered_line, numbered_text, retired_line, runs_line, text_by, total_line}
+use Rattle.scrub_listings.specs.Manifest.{after_status_in, form_text, looked_for, numbered_line, numbered_text, retired_line, runs_line, spare_text, text_by, total_line}
 
 -- ---- two scans of the same extents
 
@@ -175,39 +174,17 @@ module _ (c : Checked) (xs ys : List Standing) where
 
 -- ---- the lines
 
--- what follows a locator's status, by the status, the form of its chunk, and its best copy
-abbrev after_by : Locator → Status → Option Form → BestCopy → List ℕ
-after_by l status o best = if is_sound status then form_text o else looked_for l ++ (if is_dangling status then spaced (copy_word best) else [])
-
--- without a sound chunk the form doesn't matter
-unsound : (l : Locator) (s : Status) (o p : Option Form) (a b : BestCopy) → is_sound s ≡ false → a ≡ b → after_by l s o a ≡ after_by l s p b
-unsound l s o p a b is same =
-    ap (λ (t : Bool). if t then form_text o else looked_for l ++ (if is_dangling s then spaced (copy_word a) else [])) is
-    ∙ ap (λ (x : BestCopy). looked_for l ++ (if is_dangling s then spaced (copy_word x) else [])) same
-    ∙ ap (λ (t : Bool). if t then form_text p else looked_for l ++ (if is_dangling s then spaced (copy_word b) else [])) (sym is)
-
 -- If its form and its best copy are the same, the same follows a locator's status.
 pub same_after : (fs gs : List Scanned) (loose others : List Standing) (c : Checked) →
     (c.status ≡ Sound → form_at gs c.locator ≡ form_at fs c.locator) → best_of gs others c ≡ best_of fs loose c →
     after_status_in gs others c ≡ after_status_in fs loose c
-same_after fs gs loose others c form best = by c.status refl
+same_after fs gs loose others c form best = by (is_sound c.status) refl
   where
-    other : (s : Status) → is_sound s ≡ false →
-        after_by c.locator s (form_at gs c.locator) (best_of gs others c) ≡ after_by c.locator s (form_at fs c.locator) (best_of fs loose c)
-    other s is = unsound c.locator s (form_at gs c.locator) (form_at fs c.locator) (best_of gs others c) (best_of fs loose c) is best
-
-    by : (s : Status) → c.status ≡ s →
-        after_by c.locator s (form_at gs c.locator) (best_of gs others c) ≡ after_by c.locator s (form_at fs c.locator) (best_of fs loose c)
-    by Sound is = ap form_text (form is)
-    by OutOfRange is = other OutOfRange refl
-    by Retired is = other Retired refl
-    by PastPointer is = other PastPointer refl
-    by Unreadable is = other Unreadable refl
-    by NoFrame is = other NoFrame refl
-    by WrongUuid is = other WrongUuid refl
-    by WrongLength is = other WrongLength refl
-    by WrongDigest is = other WrongDigest refl
-    by Hidden is = other Hidden refl
+    by : (b : Bool) → is_sound c.status ≡ b →
+        (if b then form_text (form_at gs c.locator) else looked_for c.locator ++ spare_text c.status (best_of gs others c))
+        ≡ (if b then form_text (form_at fs c.locator) else looked_for c.locator ++ spare_text c.status (best_of fs loose c))
+    by true is = ap form_text (form (Sound_from_is_sound c.status is))
+    by false is = ap (λ (best : BestCopy). looked_for c.locator ++ spare_text c.status best) best
 
 module _ (after other : Checked → List ℕ) where
   -- the same follows the status of a locator

@@ -1,10 +1,11 @@
 -- Texts that are the same but that the words for best copies rose, part by part, and so whole manifests.
 use Rattle.std.proofs.Common.{◌≡◌, ◌⊎◌, ◌<◌, ◌≤◌, ◌&&◌, ◌+◌, ◌++◌, ◌∷◌, [], ℕ, Bool, true, false, is_none, List, Option, get_or, length, arith, refl, sym, ◌∙◌, ap, subst, append-nil, append_assoc, inl, inr, if◌then◌else◌}
 use Rattle.std.specs.Prelude.{codes}
-use Rattle.std.specs.List.{All, AllZip, count_by, enumerate_from, filter, flat_map}
+use Rattle.std.specs.List.{All, count_by, enumerate_from, filter, flat_map}
 use Rattle.std.proofs.lemmas.Bool.{cases_lt}
 use Rattle.std.proofs.lemmas.Grind.{flat_map-append}
 use Rattle.std.proofs.lemmas.List.Elements.{All-cons, All-filter, All-head, All-tail}
+use Rattle.list_facts.proofs.Zips.{AllZip-append}
 use Rattle.scrub_frame.specs.declared.form.Form.{Form}
 use Rattle.scrub_scan.specs.declared.standing.Standing.{Standing}
 use Rattle.scrub_scan.specs.Line.{spaced}
@@ -21,7 +22,6 @@ use Rattle.scrub_listings.specs.Manifest.{after_status, after_status_in, copy_wo
 use Rattle.scrub_reclaim.specs.Copy.{IsSameButRisen, IsSameOrRisen, rank}
 use Rattle.scrub_reclaim.specs.Reset.{NameTheSame}
 use Rattle.scrub_reclaim.proofs.BestCopies.{one_of_rank}
-use Rattle.scrub_reclaim.proofs.SameExtents.{HaveTheSameForms}
 
 -- ---- parts of texts
 
@@ -38,13 +38,6 @@ one_part a b same = record {
 itself : (a : List ℕ) → IsSameButRisen a a
 itself a = one_part a a (inl refl)
 
-zipped_both : {A B : Type 0} (R : A → B → Type 0) (xs : List A) (ys : List B) (us : List A) (vs : List B) → AllZip R xs ys →
-    AllZip R us vs → AllZip R (xs ++ us) (ys ++ vs)
-zipped_both R [] [] us vs h k = k
-zipped_both R [] (y ∷ ys) us vs h k = absurd h
-zipped_both R (x ∷ xs) [] us vs h k = absurd h
-zipped_both R (x ∷ xs) (y ∷ ys) us vs h k = (h.0, zipped_both R xs ys us vs h.1 k)
-
 -- one text after another
 both : (a b c d : List ℕ) → IsSameButRisen a b → IsSameButRisen c d → IsSameButRisen (a ++ c) (b ++ d)
 both a b c d s t = record {
@@ -56,7 +49,7 @@ both a b c d s t = record {
   b_is =
       ap (λ (u : List ℕ). u ++ d) s.b_is ∙ ap (λ (u : List ℕ). flat_map (λ part. part) s.others ++ u) t.b_is
       ∙ sym (flat_map-append (λ (part : List ℕ). part) s.others t.others);
-  each = zipped_both IsSameOrRisen s.parts s.others t.parts t.others s.each t.each;
+  each = AllZip-append IsSameOrRisen s.parts t.parts s.others t.others s.each t.each;
 }
 
 -- those of each element
@@ -169,14 +162,13 @@ module _ (found rest : Scrubbed) (loose others : List Standing) (same : NameTheS
       is_other : of found.plan.has_superblock found.plan.retired found.read found.bindings found.checked ≡ manifest_text rest others
       is_other = λ i. of (sym same.superblock i) (sym same.retired i) (sym same.read i) (sym same.bindings i) (sym same.checked i)
 
-  -- The same, if sound locators keep their forms, and the best copy of each locator is as good or better.
-  pub manifests_rise : HaveTheSameForms found rest →
-      All (λ (k : Checked). rank (best_of found.all loose k) ≤ rank (best_of rest.all others k)) found.checked →
+  -- The same, if the best copy of each locator is as good or better.
+  pub manifests_rise : All (λ (k : Checked). rank (best_of found.all loose k) ≤ rank (best_of rest.all others k)) found.checked →
       IsSameButRisen (manifest_text found loose) (manifest_text rest others)
-  manifests_rise forms rises = manifests_alike said
+  manifests_rise rises = manifests_alike said
     where
       said : All AreSaid found.checked
       said i d below =
           let k : Checked = get_or found.checked i d in
           said_alike (form_at found.all k.locator) (form_at rest.all k.locator) (best_of found.all loose k) (best_of rest.all others k) k
-          (λ sound. forms i d below (Sound_from_is_sound k.status sound)) (rises i d below)
+          (λ sound. same.forms i d below (Sound_from_is_sound k.status sound)) (rises i d below)

@@ -1,30 +1,39 @@
 -- What the code finds of an extent's room, by sorted numbers and by the last item.
-use Rattle.std.proofs.Common.{◌≡◌, ◌≢◌, ◌⊎◌, ◌==◌, ◌&&◌, ◌||◌, ◌++◌, ◌-◌, ◌<◌, ◌≤◌, ◌+◌, ◌*◌, ◌/◌, ◌%◌, ℕ, zero, suc, Bool, true, false, cond, not, nat_lt, Option, Some, None, List, [], ◌∷◌, length, get_or, arith, refl, sym, ◌∙◌, ap, subst, append-nil, inl, inr, if◌then◌else◌}
+use Rattle.std.proofs.Common.{◌≡◌, ◌≢◌, ◌⊎◌, ◌==◌, ◌&&◌, ◌||◌, ◌++◌, ◌-◌, ◌<◌, ◌≤◌, ◌+◌, ◌*◌, ◌/◌, ◌%◌, ℕ, zero, suc, Bool, true, false, cond, not, nat_lt, Option, Some, None, List, [], ◌∷◌, length, get_or, arith, refl, sym, ◌∙◌, ap, subst, append-nil, inl, inr, is_none, if◌then◌else◌}
 use Rattle.std.proofs.Math.Path.{ap₂}
 use Rattle.std.specs.Option.{option_map_or}
-use Rattle.std.specs.List.{All, flat_map, list_all, list_any, slice_get}
+use Rattle.std.specs.List.{All, Contains, flat_map, list_all, list_any, slice_get}
 use Rattle.std.specs.List.Sorted.{IsPermutation}
 use Rattle.std.proofs.Math.Nat.{mod-lt, mul-mod_left}
+use Rattle.std.proofs.lemmas.List.Sums.{AllPass-from_list_all}
 use Rattle.std.proofs.lemmas.Bool.{and_parts, cases_lt, eq-eqb, eqb-true, false≢true, ltb-false}
 use Rattle.std.proofs.lemmas.List.Sorted.{list_any-IsPermutation}
-use Rattle.std.proofs.lemmas.Nat.{div-add-mod'}
+use Rattle.std.proofs.lemmas.Nat.{div-add-mod', div_below}
 use Rattle.std.proofs.lemmas.Option.{none-some, same_Some}
 use Rattle.scrub_disk.specs.declared.geometry.Geometry.{Geometry}
-use Rattle.scrub_disk.specs.Image.{Image, image_byte, extent_bytes}
+use Rattle.list_facts.proofs.Bools.{false_from_not, true_from_not}
+use Rattle.list_facts.proofs.Filters.{Contains-filter_range}
+use Rattle.scrub_disk.specs.Image.{HasWholePages, Image, image_byte, extent_bytes, unreadable_pages}
+use Rattle.scrub_disk.proofs.HeldBytes.{byte-page}
 use Rattle.scrub_super.proofs.PlanParts.{plan_parts}
 use Rattle.scrub_scan.specs.declared.item.Item.{Item}
+use Rattle.scrub_scan.specs.declared.findings.Findings.{Findings}
 use Rattle.scrub_scan.specs.Findings.{IsFindings, is_nonzero, nonzero_places}
 use Rattle.scrub_scan.specs.Scanned.{Scanned}
 use Rattle.scrub_check.specs.declared.statuses.checked.Checked.{Checked}
 use Rattle.scrub_check.specs.Candidates.{has_sound_alone}
+use Rattle.scrub_check.specs.Checked.{is_sound}
 use Rattle.scrub_check.specs.Live.{is_chunk}
 use Rattle.scrub_check.proofs.Reclaimable.{named_by_sound_alone}
+use Rattle.scrub_check.proofs.RunStates.{Sound_from_is_sound}
 use Rattle.scrub_check.specs.steps.LocatorIndex.{AreBarredExtents}
 use Rattle.scrub_loose.specs.Loose.{LooseValue}
 use Rattle.scrub_found.specs.Scrubbed.{Scrubbed, IsScrubbed, is_clean_extent, is_clean_item}
 use Rattle.scrub_reclaim.specs.Room.{IsRoom, ends_in_chunk, has_room, is_closed, is_listed_as, is_zero_to, may_grow, next_place, offers_room, place_in, room_fits, room_in, room_if, room_line, room_where, rooms_where}
 use Rattle.scrub_reclaim.specs.steps.KeptCopies.{AreShut}
 use Rattle.scrub_reclaim.specs.steps.Room.{may_grow_by, may_take_by, room_text}
+use Rattle.scrub_reclaim.proofs.Reset.{plan_in}
+use Rattle.scrub_reclaim.proofs.SameExtents.{in_disk}
 
 -- ---- which extents
 
@@ -144,13 +153,6 @@ first_least at a (suc n) p low high is = by (is_nonzero (at a)) refl (λ l. firs
           rest.2,
         )
 
-not_less : (a b : ℕ) → not (nat_lt a b) ≡ true → b ≤ a
-not_less a b none = by (nat_lt a b) refl none
-  where
-    by : (t : Bool) → nat_lt a b ≡ t → not t ≡ true → b ≤ a
-    by false is e = ltb-false a b is
-    by true is e = absurd (false≢true e)
-
 -- so there is none in front of a place that the first isn't in front of
 zeros_to : (at : ℕ → Option ℕ) (w n place : ℕ) (first : Option ℕ) → first ≡ slice_get (nonzero_places at w n) 0 →
     option_map_or (λ q. not (nat_lt q place)) first true ≡ true → place ≤ w + n → (p : ℕ) → w ≤ p → p < place →
@@ -163,7 +165,7 @@ zeros_to at w n place first is free within p low below = by (is_nonzero (at p)) 
         let least = first_least at w n p low (omega (arith, below, within)) some in
         let there : option_map_or (λ q. not (nat_lt q place)) (Some least.0) true ≡ true =
         subst (λ (o : Option ℕ). option_map_or (λ q. not (nat_lt q place)) o true ≡ true) (is ∙ least.1) free in
-        absurd (omega (arith, not_less least.0 place there, least.2, below))
+        absurd (omega (arith, ltb-false least.0 place (false_from_not (nat_lt least.0 place) there), least.2, below))
 
 -- at a page bound and directly after a chunk it is the pointer
 is_pointer : (page w : ℕ) (items : List Item) → (w % page ≡ 0) ⊎ (ends_in_chunk items ≡ true) → next_place page w items ≡ w
@@ -193,50 +195,110 @@ is_bound page w items pos off none = by (w % page == 0) (ends_in_chunk items) re
           mul-mod_left (w / page + 1) page,
         )
 
--- If a scanned extent has room, its items are chunks or zeros, and a frame of no payload fits at the place.
-pub shows_room : (image : Image) (found : Scrubbed) → IsScrubbed image found →
-    All (λ f. has_room found.plan.geometry found.checked f ≡ true →
-    IsRoom image f.extent f.pointer (place_in found.plan.geometry f)) found.all
-shows_room image found x i d below roomy =
-    let f : Scanned = get_or found.all i d in
-    let g : Geometry = found.plan.geometry in
-    let is : IsFindings image f.extent f.pointer f.findings = x.all.findings i d below in
-    let sizes : g ≡ image.geometry = (plan_parts found.choice found.plan x.plan).geometry ∙ x.choice.geometry in
-    let grows : may_grow found.checked f ≡ true = first_part (may_grow found.checked f) (room_fits g f) roomy in
-    let fits : room_fits g f ≡ true = second_part (may_grow found.checked f) (room_fits g f) roomy in
-    let zero : is_zero_to (place_in g f) f ≡ true = first_part (is_zero_to (place_in g f) f) (not (nat_lt (room_in g f) 38)) fits in
-    let space : not (nat_lt (room_in g f) 38) ≡ true = second_part (is_zero_to (place_in g f) f) (not (nat_lt (room_in g f) 38)) fits in
-    let enough : 38 ≤ room_in g f = not_less (room_in g f) 38 space in
-    let whole : extent_bytes g ≡ extent_bytes image.geometry = ap extent_bytes sizes in
-    let at : place_in g f ≡ next_place image.geometry.page f.pointer f.findings.items = ap (λ (h : Geometry). place_in h f) sizes in
-    record {
-      items = f.findings.items;
-      tiled = is.tiled;
-      clean = clean_part (length f.findings.bad_pages == 0) (list_all is_clean_item f.findings.items) (has_sound_alone found.checked f) grows;
-      at_pointer = λ pointed. at ∙ is_pointer image.geometry.page f.pointer f.findings.items pointed;
-      at_bound = λ off none.
-          subst
-          (λ (p : ℕ). (f.pointer < p) × (p < f.pointer + image.geometry.page) × (p % image.geometry.page ≡ 0))
-          (sym at)
-          (is_bound image.geometry.page f.pointer f.findings.items (omega (arith, image.geometry.page_least)) off none);
-      zeros =
-          zeros_to (image_byte image f.extent) f.pointer (extent_bytes image.geometry - f.pointer) (place_in g f) f.findings.tail_first is.tail_least zero
-          (omega (arith, enough, whole));
-      fits = omega (arith, enough, whole);
-    }
+-- ---- what can be read
+
+-- in an extent without an unreadable page each byte can be read
+all_readable : (image : Image) (e w : ℕ) (found : Findings) → HasWholePages image → e < image.geometry.extents → IsFindings image e w found →
+    length found.bad_pages ≡ 0 → (p : ℕ) → p < extent_bytes image.geometry → image_byte image e p ≢ None
+all_readable image e w found whole inside is none p here = by (image.page e q) refl
   where
-    first_part : (a b : Bool) → (a && b) ≡ true → a ≡ true
-    first_part true b all = refl
-    first_part false b all = absurd (false≢true all)
+    size : ℕ
+    size = image.geometry.page
 
-    second_part : (a b : Bool) → (a && b) ≡ true → b ≡ true
-    second_part true b all = all
-    second_part false b all = absurd (false≢true all)
+    positive : 0 < size
+    positive = omega (arith, image.geometry.page_least)
 
-    clean_part : (a b c : Bool) → (a && b && c) ≡ true → b ≡ true
-    clean_part true true c all = refl
-    clean_part true false c all = absurd (false≢true all)
-    clean_part false b c all = absurd (false≢true all)
+    q : ℕ
+    q = p / size
+
+    below : q < image.geometry.pages
+    below = div_below p size image.geometry.pages positive (omega (arith, here))
+
+    by : (o : Option (List ℕ)) → image.page e q ≡ o → image_byte image e p ≢ None
+    by None lost =
+        let there : Contains (unreadable_pages image e) q =
+        Contains-filter_range (λ n. is_none (image.page e n)) 0 image.geometry.pages q (omega arith) (omega (arith, below)) (ap (λ (o : Option (List ℕ)). is_none o) lost) in
+        let long : length (unreadable_pages image e) ≡ 0 = ap (λ (ns : List ℕ). length ns) (sym is.bad_pages) ∙ none in
+        absurd (omega (arith, there.1, long))
+    by (Some bytes) read =
+        let at : image_byte image e (q * size + p % size) ≡ Some (get_or bytes (p % size) 0) =
+        byte-page image e q (p % size) bytes read (whole e q bytes inside below read) below (mod-lt p positive) in
+        λ lost. none-some (get_or bytes (p % size) 0) (sym lost ∙ ap (image_byte image e) (let split : p ≡ q * size + p % size = omega (arith, div-add-mod' p size) in split) ∙ at)
+
+-- a byte that can be read is zero if it isn't another number
+zero_there : (o : Option ℕ) → is_nonzero o ≡ false → o ≢ None → o ≡ Some 0
+zero_there None none readable = absurd (readable refl)
+zero_there (Some b) none readable = ap Some (eqb-true b 0 (true_from_not (b == 0) none))
+
+-- What holds of a scanned extent with room holds in the image.
+pub shows_room : (image : Image) (found : Scrubbed) → HasWholePages image → IsScrubbed image found →
+    All (λ f. has_room found.plan.geometry found.checked f ≡ true →
+    IsRoom image found.checked f.extent f.pointer (place_in found.plan.geometry f)) found.all
+shows_room image found whole x i d below roomy = record {
+  readable = readable;
+  items = f.findings.items;
+  tiled = is.tiled;
+  clean = clean.1;
+  sound = λ j e inside number.
+      let c : Checked = get_or found.checked j e in
+      Sound_from_is_sound c.status (by (c.locator.extent == f.extent) (is_sound c.status) (eq-eqb c.locator.extent f.extent number) (alone j e inside));
+  at_pointer = λ pointed. at ∙ is_pointer image.geometry.page f.pointer f.findings.items pointed;
+  at_bound = λ off none.
+      subst
+      (λ (p : ℕ). (f.pointer < p) × (p < f.pointer + image.geometry.page) × (p % image.geometry.page ≡ 0))
+      (sym at)
+      (is_bound image.geometry.page f.pointer f.findings.items (omega (arith, image.geometry.page_least)) off none);
+  zeros = λ p low high.
+      zero_there (image_byte image f.extent p)
+      (zeros_to (image_byte image f.extent) f.pointer (extent_bytes image.geometry - f.pointer) (place_in g f) f.findings.tail_first is.tail_least fits.0 (omega (arith, enough, size)) p low high)
+      (readable p (omega (arith, high, enough, size)));
+  fits = omega (arith, enough, size);
+}
+  where
+    f : Scanned
+    f = get_or found.all i d
+
+    g : Geometry
+    g = found.plan.geometry
+
+    is : IsFindings image f.extent f.pointer f.findings
+    is = x.all.findings i d below
+
+    sizes : g ≡ image.geometry
+    sizes = (plan_parts found.choice found.plan x.plan).geometry ∙ x.choice.geometry
+
+    size : extent_bytes g ≡ extent_bytes image.geometry
+    size = ap extent_bytes sizes
+
+    at : place_in g f ≡ next_place image.geometry.page f.pointer f.findings.items
+    at = ap (λ (h : Geometry). place_in h f) sizes
+
+    parts : (may_grow found.checked f ≡ true) × (room_fits g f ≡ true)
+    parts = and_parts (may_grow found.checked f) (room_fits g f) roomy
+
+    grows : (is_clean_extent f ≡ true) × (has_sound_alone found.checked f ≡ true)
+    grows = and_parts (is_clean_extent f) (has_sound_alone found.checked f) parts.0
+
+    clean : ((length f.findings.bad_pages == 0) ≡ true) × (list_all is_clean_item f.findings.items ≡ true)
+    clean = and_parts (length f.findings.bad_pages == 0) (list_all is_clean_item f.findings.items) grows.0
+
+    fits : (is_zero_to (place_in g f) f ≡ true) × (not (nat_lt (room_in g f) 38) ≡ true)
+    fits = and_parts (is_zero_to (place_in g f) f) (not (nat_lt (room_in g f) 38)) parts.1
+
+    enough : 38 ≤ room_in g f
+    enough = ltb-false (room_in g f) 38 (false_from_not (nat_lt (room_in g f) 38) fits.1)
+
+    readable : (p : ℕ) → p < extent_bytes image.geometry → image_byte image f.extent p ≢ None
+    readable =
+        all_readable image f.extent f.pointer f.findings whole (in_disk image found.plan (plan_in image found x) f.extent f.pointer (x.all.pointers i d below)).1 is
+        (eqb-true (length f.findings.bad_pages) 0 clean.0)
+
+    alone : All (λ (c : Checked). (not (c.locator.extent == f.extent) || is_sound c.status) ≡ true) found.checked
+    alone = AllPass-from_list_all (λ (c : Checked). not (c.locator.extent == f.extent) || is_sound c.status) found.checked grows.1
+
+    by : (a b : Bool) → a ≡ true → (not a || b) ≡ true → b ≡ true
+    by true b e all = all
+    by false b e all = absurd (false≢true e)
 
 -- ---- what a line shows
 
@@ -250,18 +312,14 @@ module _ (is_listed : Bool) (g : Geometry) (all : List Scanned) (loose : LooseVa
       by true there = refl
       by false there = absurd (there refl)
 
-  -- If an extent has a line, it has its number, its place, and how many bytes there are behind the place.
-  pub line_named : room_if is_listed g all loose checked f ≡ room_line is_listed f.extent (place_in g f) (room_in g f)
-  line_named = ap (λ (t : Bool). if t then room_line is_listed f.extent (place_in g f) (room_in g f) else []) has_line
-
   -- and it has room
   line_roomy : has_room g checked f ≡ true
   line_roomy = (and_parts (not (is_closed all loose checked f.extent)) (has_room g checked f) has_line).1
 
 -- An extent with a line has room in the image.
-pub line_shows_room : (image : Image) (found : Scrubbed) (loose : LooseValue) (is_listed : Bool) → IsScrubbed image found →
+pub line_shows_room : (image : Image) (found : Scrubbed) (loose : LooseValue) (is_listed : Bool) → HasWholePages image → IsScrubbed image found →
     All (λ f. room_if is_listed found.plan.geometry found.all loose found.checked f ≢ [] →
-    IsRoom image f.extent f.pointer (place_in found.plan.geometry f)) found.all
-line_shows_room image found loose is_listed x i d below some =
-    shows_room image found x i d below
+    IsRoom image found.checked f.extent f.pointer (place_in found.plan.geometry f)) found.all
+line_shows_room image found loose is_listed whole x i d below some =
+    shows_room image found whole x i d below
     (line_roomy is_listed found.plan.geometry found.all loose found.checked (get_or found.all i d) some)

@@ -1,6 +1,6 @@
 -- Small disks: two extents of one page of 64 bytes, with one superblock record that names no index run. The record
 -- counts, page 0 holds nothing else, and what is in extent 1 is known.
-use Rattle.std.proofs.Common.{◌≡◌, ◌<◌, ◌≤◌, ◌+◌, ◌*◌, ◌-◌, ◌^◌, ◌⊎◌, ◌==◌, ℕ, zero, suc, false, List, [], ◌∷◌, ◌++◌, length, replicate, arith, refl, sym, ◌∙◌, ap, subst, Option, Some, None, inl, inr, Contains, IsTrue, nat_lt, slice_get, get_or, length-append, if◌then◌else◌}
+use Rattle.std.proofs.Common.{◌≡◌, ◌<◌, ◌≤◌, ◌+◌, ◌*◌, ◌-◌, ◌^◌, ◌⊎◌, ◌==◌, ℕ, zero, suc, Bool, true, false, List, [], ◌∷◌, ◌++◌, length, replicate, arith, refl, sym, ◌∙◌, ap, subst, Option, Some, None, inl, inr, Contains, IsTrue, nat_lt, slice_get, get_or, length-append, if◌then◌else◌}
 use Rattle.std.specs.Int.{is_power_of_two}
 use Rattle.std.proofs.lemmas.Bool.{cases_lt, le-ltb}
 use Rattle.std.proofs.lemmas.List.{get_or-append_right, get_or-replicate, get_or_append_left}
@@ -8,7 +8,7 @@ use Rattle.std.proofs.lemmas.List.Elements.{All-cons, All-nil}
 use Rattle.std.proofs.lemmas.Option.{get_or_from_slice_get, none-some, same_Some}
 use Rattle.list_facts.proofs.Elements.{Contains-cases}
 use Rattle.scrub_disk.specs.declared.geometry.Geometry.{Geometry}
-use Rattle.scrub_disk.specs.Image.{Image, image_byte}
+use Rattle.scrub_disk.specs.Image.{HasWholePages, Image, image_byte}
 use Rattle.scrub_disk.proofs.HeldBytes.{byte-page}
 use Rattle.scrub_frame.specs.Locator.{IsLocator}
 use Rattle.scrub_super.specs.declared.kind.RecordKind.TheVariants.{Ssb1}
@@ -91,6 +91,14 @@ length-first_page n w are =
 abbrev pub disk : ℕ → ℕ → List ℕ → Image
 disk n w xs = record { geometry = small; page = λ e q. if e == 0 then Some (first_page n w) else Some xs }
 
+-- Each page has its 64 bytes.
+pub whole_pages : (n w : ℕ) (xs : List ℕ) → AreSmall n w → length xs ≡ 64 → HasWholePages (disk n w xs)
+whole_pages n w xs are long e q bytes inside below = by (e == 0)
+  where
+    by : (b : Bool) → (if b then Some (first_page n w) else Some xs) ≡ Some bytes → length bytes ≡ 64
+    by true is = ap (λ (ys : List ℕ). length ys) (sym (same_Some (first_page n w) bytes is)) ∙ length-first_page n w are
+    by false is = ap (λ (ys : List ℕ). length ys) (sym (same_Some xs bytes is)) ∙ long
+
 -- byte k of extent 1
 pub byte_of : (n w : ℕ) (xs : List ℕ) (k : ℕ) → length xs ≡ 64 → k < 64 → image_byte (disk n w xs) 1 k ≡ Some (get_or xs k 0)
 byte_of n w xs k long low =
@@ -122,7 +130,7 @@ choice_of n w = record {
 
 -- of page 0: the record counts, and no byte is stray
 abbrev pub pages_of : ℕ → List SuperblockPage
-pages_of n = Record Ssb1 n Counts false ∷ []
+pages_of n = Record Ssb1 n 62 Counts false ∷ []
 
 module _ (n w : ℕ) (xs : List ℕ) (are : AreSmall n w) where
   stands : RecordStandsAt (disk n w xs) 0 (contents n w)
@@ -203,8 +211,9 @@ module _ (n w : ℕ) (xs : List ℕ) (are : AreSmall n w) where
   rank_is : IsRank (disk n w xs) n Counts
   rank_is = (only_record, records_are, rw not_older refl)
 
-  page_is : IsSuperblockPage (disk n w xs) 0 (Record Ssb1 n Counts false)
-  page_is = (contents n w, stands, refl, refl, rank_is, (first_page n w, refl, held))
+  page_is : IsSuperblockPage (disk n w xs) 0 (Record Ssb1 n 62 Counts false)
+  unfolding small_record
+  page_is = (contents n w, stands, refl, refl, omega (arith, length-small_record n w are), rank_is, (first_page n w, refl, held))
 
   -- The one page of extent 0 begins with the record that counts, and none of its bytes is stray.
   pub pages_are : AreSuperblockPages (disk n w xs) (pages_of n)
@@ -213,7 +222,7 @@ module _ (n w : ℕ) (xs : List ℕ) (are : AreSmall n w) where
       each : (q : ℕ) (page : SuperblockPage) → slice_get (pages_of n) q ≡ Some page →
           IsSuperblockPage (disk n w xs) q page
       each zero page is =
-          subst (IsSuperblockPage (disk n w xs) 0) (same_Some (Record Ssb1 n Counts false) page is) page_is
+          subst (IsSuperblockPage (disk n w xs) 0) (same_Some (Record Ssb1 n 62 Counts false) page is) page_is
       each (suc q) page is = absurd (none-some page is)
 
 -- ---- what is in extent 1

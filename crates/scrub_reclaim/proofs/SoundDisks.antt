@@ -3,16 +3,15 @@
 use Rattle.std.proofs.Common.{◌≡◌, ◌<◌, ◌+◌, ◌==◌, ◌&&◌, ◌||◌, ◌++◌, ◌∷◌, [], ℕ, suc, Bool, true, false, not, cond, List, Option, Some, None, MatchOption, is_none, is_some, length, get_or, map, nat_lt, arith, refl, sym, ap, ◌∙◌, if◌then◌else◌}
 use Rattle.std.proofs.Math.Path.{ap₂}
 use Rattle.std.specs.Cmp.Derive.{both_true}
-use Rattle.std.specs.List.{AllZip, Contains, cons_option, count_by, enumerate_from, filter, filter_map, flat_map, list_all, list_any, range_with_len, zip}
+use Rattle.std.specs.List.{AllZip, Contains, cons_option, count_by, enumerate_from, filter, filter_map, flat_map, list_all, list_any, zip}
 use Rattle.std.specs.Option.{option_map, option_to_list}
 use Rattle.std.proofs.lemmas.Bool.{and_parts, eq-eqb, eqb-true, false≢true, or_parts, or_right}
 use Rattle.std.proofs.lemmas.List.Folds.{list_all-append}
-use Rattle.std.proofs.lemmas.List.FromFn.{get_or-range_with_len, length-range_with_len}
 use Rattle.std.proofs.lemmas.List.Sums.{AllPass-from_list_all, sum_by-cons}
 use Rattle.std.proofs.lemmas.Option.{slice_get-get_or, slice_get_within}
 use Rattle.std.specs.List.{slice_get}
 use Rattle.list_facts.proofs.Bools.{false_from_not}
-use Rattle.list_facts.proofs.Elements.{Contains-filter}
+use Rattle.list_facts.proofs.Filters.{Contains-filter_range}
 use Rattle.scrub_disk.specs.Image.{Image, unreadable_pages}
 use Rattle.scrub_frame.specs.declared.locator.Locator.{Locator}
 use Rattle.scrub_super.specs.Chosen.{Choice}
@@ -30,22 +29,21 @@ use Rattle.scrub_check.specs.declared.runs.RunState.{RunState}
 use Rattle.scrub_check.specs.declared.runs.RunState.TheVariants.{Read, BadChunk, NotARun}
 use Rattle.scrub_check.specs.declared.statuses.checked.Checked.{Checked}
 use Rattle.scrub_check.specs.declared.statuses.status.Status.{Status}
-use Rattle.scrub_check.specs.declared.statuses.status.Status.TheVariants.{Sound as SoundStatus}
-use Rattle.scrub_check.specs.Checked.{dangling, hidden, is_dangling, is_hidden, is_sound}
+use Rattle.scrub_check.specs.Checked.{is_dangling, is_hidden, is_sound}
 use Rattle.scrub_check.specs.Runs.{HasRunIn}
+use Rattle.scrub_check.proofs.RunStates.{Sound_from_is_sound}
 use Rattle.scrub_check.specs.Candidates.{CandidateValue}
 use Rattle.scrub_check.specs.Spares.{copies_of, is_copy_of, spares_of}
 use Rattle.scrub_loose.specs.Loose.{LooseValue, is_gone}
 use Rattle.scrub_scan.specs.declared.standing.Standing.{Standing}
-use Rattle.scrub_found.specs.Scrubbed.{IsScrubbed, Scrubbed, is_clean_disk, is_clean_choice, is_clean_extent, is_clean_item, is_clean_list}
-use Rattle.scrub_found.proofs.CleanLists.{sound_alone}
+use Rattle.scrub_found.specs.Scrubbed.{IsScrubbed, Scrubbed, is_clean_disk, is_clean_extent, is_clean_item}
 use Rattle.scrub_found.proofs.OneScrub.{one_scrub}
 use Rattle.scrub_report.specs.Answer.{AnswerValue, IsScrubAnswer}
 use Rattle.scrub_listings.specs.Manifest.{IsManifest, hidden_runs, is_of_read_run, is_of_shard, is_whole, lost_run_count}
 use Rattle.scrub_listings.specs.Summary.{IsSummary, counts_as, is_behind, is_sound_verdict, one_if, verdict, verdict_by}
 use Rattle.scrub_reclaim.specs.declared.doubts.Doubt.{Doubt}
 use Rattle.scrub_reclaim.specs.declared.doubts.Doubt.TheVariants.{Last, NoSuperblock, Tail, Tie}
-use Rattle.scrub_reclaim.specs.Doubts.{Acceptance, choice_doubts, crowded_doubt, crowded_doubts, doubts, ends_past, is_accepted, is_last, is_named, last_doubt, last_doubts, loose_doubt, loose_doubts_of, outside, page_ranges, range_doubts, run_lost, spare_doubt, spare_doubts_of, safe_spares, superblock_damaged, superblock_lost, superblock_stray, tail_doubts, tail_lost_doubts}
+use Rattle.scrub_reclaim.specs.Doubts.{Acceptance, choice_doubts, crowded_doubt, crowded_doubts, doubts, ends_past, first_doubt, is_accepted, is_last, is_named, last_doubt, last_doubts, loose_doubt, loose_doubts_of, outside, page_ranges, range_doubts, run_lost, spare_doubt, spare_doubts_of, safe_spares, superblock_damaged, superblock_lost, superblock_stray, tail_doubts, tail_lost_doubts}
 use Rattle.scrub_reclaim.specs.AllRight.{IsAllRight, is_quiet, is_tail}
 use Rattle.scrub_reclaim.specs.Reclaimable.{AreReclaimLines, accepted_in, doubts_for, is_clear}
 use Rattle.scrub_super.proofs.PageLaws.{held_unless_odd, one_list_of_pages}
@@ -118,12 +116,8 @@ module _ (image : Image) (plan : PlanValue) where
 
 -- ---- named locators
 
-sound_only : (s : Status) → is_sound s ≡ true → s ≡ SoundStatus
-sound_only SoundStatus e = refl
-sound_only _ e = absurd (false≢true e)
-
 not_hidden : (s : Status) (b : Bool) → is_sound s ≡ true → not (is_hidden s && b) ≡ true
-not_hidden s b e = ap (λ (t : Status). not (is_hidden t && b)) (sound_only s e)
+not_hidden s b e = ap (λ (t : Status). not (is_hidden t && b)) (Sound_from_is_sound s e)
 
 -- a sound locator asks for no spare
 no_spare_doubt : (all : List Scanned) (checked : List Checked) (extents : List ℕ) (c : Checked) → is_sound c.status ≡ true →
@@ -131,19 +125,19 @@ no_spare_doubt : (all : List Scanned) (checked : List Checked) (extents : List �
 no_spare_doubt all checked extents c e =
     let none : spares_of all c ≡ [] = ap
     (λ (t : Status). if is_dangling t && nat_lt 0 c.locator.length then copies_of all c.locator else [])
-    (sound_only c.status e) in
-    ap (λ (ss : List Standing). spare_doubt c.owner ss (safe_spares checked extents ss)) none
+    (Sound_from_is_sound c.status e) in
+    ap (λ (ss : List Standing). first_doubt (spare_doubt c.owner) ss (safe_spares checked extents ss)) none
 
 -- nor is its payload gone
 not_gone : (all : List Scanned) (c : Checked) → is_sound c.status ≡ true → is_gone all c ≡ false
 not_gone all c e =
-    ap (λ (t : Status). (is_dangling t && nat_lt 0 c.locator.length) && (length (spares_of all c) == 0)) (sound_only c.status e)
+    ap (λ (t : Status). (is_dangling t && nat_lt 0 c.locator.length) && (length (spares_of all c) == 0)) (Sound_from_is_sound c.status e)
 
 -- so there are no loose copies of it
 no_loose_doubt : (all : List Scanned) (frames : List Standing) (extents : List ℕ) (c : Checked) → is_sound c.status ≡ true →
     loose_doubts_of all frames extents c ≡ []
 no_loose_doubt all frames extents c e =
-    ap (λ (ss : List Standing). loose_doubt c.owner ss (outside extents ss))
+    ap (λ (ss : List Standing). first_doubt (loose_doubt c.owner) ss (outside extents ss))
     (ap (λ (b : Bool). if b then filter (is_copy_of c.locator) frames else []) (not_gone all c e))
 
 -- and nothing is said of crowded extents
@@ -181,7 +175,7 @@ known_last choice g e = by (counts_as choice g) refl
 
 quiet_one : (p : SuperblockPage) → ¬ (p ≡ Lost) → is_odd p ≡ false → is_quiet p ≡ true
 quiet_one Lost n e = absurd (n refl)
-quiet_one (Record kind generation rank stray) n e = ap not e
+quiet_one (Record kind generation to rank stray) n e = ap not e
 quiet_one (Damaged kind) n e = absurd (false≢true (sym e))
 quiet_one Stray n e = absurd (false≢true (sym e))
 quiet_one Held n e = refl
@@ -200,10 +194,8 @@ none_lost image pages held none q is =
     let below : q < length pages = slice_get_within pages q Lost is in
     let within : q < image.geometry.pages = omega (arith, below, held.count) in
     let lost : image.page 0 q ≡ None = held.each q Lost is in
-    let among : Contains (range_with_len 0 image.geometry.pages) q =
-    (q, omega (arith, within, length-range_with_len 0 image.geometry.pages), omega (arith, get_or-range_with_len 0 image.geometry.pages q q within)) in
     let there : Contains (unreadable_pages image 0) q =
-    Contains-filter (λ r. is_none (image.page 0 r)) (range_with_len 0 image.geometry.pages) q (ap (λ o. is_none o) lost) among in
+    Contains-filter_range (λ r. is_none (image.page 0 r)) 0 image.geometry.pages q (omega arith) (omega (arith, within)) (ap (λ o. is_none o) lost) in
     omega (arith, there.1, none)
 
 -- quiet pages make no doubt
@@ -226,8 +218,8 @@ no_damaged q _ e = refl
 
 no_stray : (q : ℕ) (p : SuperblockPage) → is_quiet p ≡ true → superblock_stray q p ≡ None
 no_stray q Lost e = refl
-no_stray q (Record kind generation rank true) e = absurd (false≢true e)
-no_stray q (Record kind generation rank false) e = refl
+no_stray q (Record kind generation to rank true) e = absurd (false≢true e)
+no_stray q (Record kind generation to rank false) e = refl
 no_stray q (Damaged kind) e = refl
 no_stray q Stray e = absurd (false≢true e)
 no_stray q Held e = refl
@@ -235,8 +227,8 @@ no_stray q Held e = refl
 -- a quiet page is not odd
 even_if_quiet : (p : SuperblockPage) → is_quiet p ≡ true → is_odd p ≡ false
 even_if_quiet Lost e = refl
-even_if_quiet (Record kind generation rank true) e = absurd (false≢true e)
-even_if_quiet (Record kind generation rank false) e = refl
+even_if_quiet (Record kind generation to rank true) e = absurd (false≢true e)
+even_if_quiet (Record kind generation to rank false) e = refl
 even_if_quiet (Damaged kind) e = absurd (false≢true e)
 even_if_quiet Stray e = absurd (false≢true e)
 even_if_quiet Held e = refl
@@ -263,36 +255,46 @@ no_tail_lost page f e = by f.findings.bad_pages (and_parts (length f.findings.ba
 
 -- ---- all of it
 
+clean_parts : (a b c d e f g : Bool) → (a && b && c && d && e && f && g) ≡ true →
+    (a ≡ true) × (b ≡ true) × (c ≡ true) × (d ≡ true) × (e ≡ true) × (f ≡ true)
+clean_parts true true true true true true g all = (refl, refl, refl, refl, refl, refl)
+clean_parts true true true true true false g all = absurd (false≢true all)
+clean_parts true true true true false f g all = absurd (false≢true all)
+clean_parts true true true false e f g all = absurd (false≢true all)
+clean_parts true true false d e f g all = absurd (false≢true all)
+clean_parts true false c d e f g all = absurd (false≢true all)
+clean_parts false b c d e f g all = absurd (false≢true all)
+
 module _ (image : Image) (pages : List SuperblockPage) (found : Scrubbed) (x : IsScrubbed image found)
     (held : AreSuperblockPages image pages) (clean : is_clean_disk found ≡ true) (even : list_any is_odd pages ≡ false) (last : Option ℕ)
     (counts : is_behind last found.choice ≡ false) where
-  choice_is : is_clean_choice found.choice ≡ true
-  choice_is = (and_parts (is_clean_choice found.choice) (list_all is_clean_extent found.all) (and_parts (is_clean_choice found.choice && list_all is_clean_extent found.all) (list_all is_some found.read.runs) (and_parts (is_clean_choice found.choice && list_all is_clean_extent found.all && list_all is_some found.read.runs) (is_clean_list found.checked found.shared) clean).0).0).0
-
-  extents_are : list_all is_clean_extent found.all ≡ true
-  extents_are = (and_parts (is_clean_choice found.choice) (list_all is_clean_extent found.all) (and_parts (is_clean_choice found.choice && list_all is_clean_extent found.all) (list_all is_some found.read.runs) (and_parts (is_clean_choice found.choice && list_all is_clean_extent found.all && list_all is_some found.read.runs) (is_clean_list found.checked found.shared) clean).0).0).1
-
-  runs_are : list_all is_some found.read.runs ≡ true
-  runs_are = (and_parts (is_clean_choice found.choice && list_all is_clean_extent found.all) (list_all is_some found.read.runs) (and_parts (is_clean_choice found.choice && list_all is_clean_extent found.all && list_all is_some found.read.runs) (is_clean_list found.checked found.shared) clean).0).1
-
-  lists_are : is_clean_list found.checked found.shared ≡ true
-  lists_are = (and_parts (is_clean_choice found.choice && list_all is_clean_extent found.all && list_all is_some found.read.runs) (is_clean_list found.checked found.shared) clean).1
-
-  sound_are : list_all (λ c. is_sound c.status) found.checked ≡ true
-  sound_are =
-      sym (sound_alone found.checked)
-      ∙ (and_parts (length (dangling found.checked) == 0 && length (hidden found.checked) == 0) (length found.shared == 0) lists_are).0
+  parts : (is_some found.choice.superblock ≡ true) × (not found.choice.tie ≡ true) × ((length found.choice.bad_pages == 0) ≡ true)
+      × (list_all is_clean_extent found.all ≡ true) × (list_all is_some found.read.runs ≡ true)
+      × (list_all (λ c. is_sound c.status) found.checked ≡ true)
+  parts =
+      clean_parts (is_some found.choice.superblock) (not found.choice.tie) (length found.choice.bad_pages == 0)
+      (list_all is_clean_extent found.all) (list_all is_some found.read.runs) (list_all (λ c. is_sound c.status) found.checked)
+      (length found.shared == 0) clean
 
   has : is_some found.choice.superblock ≡ true
-  has = (and_parts (is_some found.choice.superblock) (not found.choice.tie) (and_parts (is_some found.choice.superblock && not found.choice.tie) (length found.choice.bad_pages == 0) choice_is).0).0
+  has = parts.0
 
   no_tie : found.choice.tie ≡ false
-  no_tie = false_from_not found.choice.tie (and_parts (is_some found.choice.superblock) (not found.choice.tie) (and_parts (is_some found.choice.superblock && not found.choice.tie) (length found.choice.bad_pages == 0) choice_is).0).1
+  no_tie = false_from_not found.choice.tie parts.1
 
   no_bad : length (unreadable_pages image 0) ≡ 0
   no_bad =
       sym (ap (λ (qs : List ℕ). length qs) x.choice.bad_pages)
-      ∙ eqb-true (length found.choice.bad_pages) 0 (and_parts (is_some found.choice.superblock && not found.choice.tie) (length found.choice.bad_pages == 0) choice_is).1
+      ∙ eqb-true (length found.choice.bad_pages) 0 parts.2
+
+  extents_are : list_all is_clean_extent found.all ≡ true
+  extents_are = parts.3
+
+  runs_are : list_all is_some found.read.runs ≡ true
+  runs_are = parts.4
+
+  sound_are : list_all (λ c. is_sound c.status) found.checked ≡ true
+  sound_are = parts.5
 
   planned : found.plan.has_superblock ≡ true
   planned = by found.choice.superblock has (plan_parts found.choice found.plan x.plan).by

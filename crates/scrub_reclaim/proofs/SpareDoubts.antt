@@ -10,13 +10,12 @@ use Rattle.std.proofs.lemmas.Option.{none-some, same_Some}
 use Rattle.list_facts.proofs.Filters.{filter_comm}
 use Rattle.scrub_scan.specs.declared.standing.Standing.{Standing}
 use Rattle.scrub_scan.specs.Scanned.{Scanned}
-use Rattle.scrub_check.specs.declared.named.Owner.{Owner}
 use Rattle.scrub_check.specs.declared.statuses.checked.Checked.{Checked}
 use Rattle.scrub_check.specs.Live.{has_sound_at}
 use Rattle.scrub_check.specs.Spares.{AreSpares, HaveTheSameCopies, asks_for_spares, is_copy_of, spares_by}
 use Rattle.scrub_listings.proofs.SpareLines.{flat_same}
 use Rattle.scrub_reclaim.specs.declared.doubts.Doubt.{Doubt}
-use Rattle.scrub_reclaim.specs.Doubts.{is_at_risk, spare_doubt, spare_doubts_by, spare_doubts_of, safe_spares}
+use Rattle.scrub_reclaim.specs.Doubts.{first_doubt, is_at_risk, spare_doubt, spare_doubts_by, spare_doubts_of, safe_spares}
 
 -- Some element of `map f xs` passes `p` exactly if `p (f x)` is true of some element of `xs`.
 pub any_mapped : {X Y : Type 0} (p : Y → Bool) (f : X → Y) (xs : List X) → list_any p (map f xs) ≡ list_any (λ x. p (f x)) xs
@@ -46,30 +45,32 @@ safe_spares_more checked extents some i s old new below is so_far grown =
     ∙ sym (filter-append p (take i some) (s ∷ []))
     ∙ ap (filter p) (ap (λ (x : Standing). take i some ++ x ∷ []) is ∙ sym (take_more some i s below))
 
--- the doubt of one locator
-pub none_taken : (owner : Owner) (some stay : List Standing) (old : List Doubt) → (length stay == 0) ≡ false →
-    old ≡ old ++ spare_doubt owner some stay
-none_taken owner [] stay old is = sym (append-nil old)
-none_taken owner (s ∷ ss) [] old is = absurd (false≢true (sym is))
-none_taken owner (s ∷ ss) (t ∷ ts) old is = sym (append-nil old)
+-- ---- the doubt of one locator
 
--- A locator without spares makes no doubt.
-pub no_spare : (owner : Owner) (some stay : List Standing) (old : List Doubt) → slice_get some 0 ≡ None →
-    old ≡ old ++ spare_doubt owner some stay
-no_spare owner [] stay old is = sym (append-nil old)
-no_spare owner (s ∷ ss) stay old is = absurd (none-some s (sym is))
+module _ (doubt_of : Standing → Doubt) where
+  -- If one of its copies stays, a locator makes no doubt.
+  pub one_left : (some stay : List Standing) (old : List Doubt) → (length stay == 0) ≡ false → old ≡ old ++ first_doubt doubt_of some stay
+  one_left [] stay old is = sym (append-nil old)
+  one_left (s ∷ ss) [] old is = absurd (false≢true (sym is))
+  one_left (s ∷ ss) (t ∷ ts) old is = sym (append-nil old)
 
--- If no spare of a locator stays, its doubt is of the first spare.
-pub first_doubted : {E : Type 0} (r : Result (Unit {0}) E) (owner : Owner) (some stay : List Standing) (first : Standing)
-    (old new : List Doubt) → (length stay == 0) ≡ true → slice_get some 0 ≡ Some first →
-    OnOk r (new ≡ old ++ spare_doubt owner (first ∷ []) []) → OnOk r (new ≡ old ++ spare_doubt owner some stay)
-first_doubted r owner [] stay first old new none is later = absurd (none-some first is)
-first_doubted r owner (s ∷ ss) (t ∷ ts) first old new none is later =
-    let e : length (t ∷ ts) ≡ 0 = eqb-true (length (t ∷ ts)) 0 none in absurd (omega (arith, e))
-first_doubted r owner (s ∷ ss) [] first old new none is later =
-    subst (λ (x : Standing). OnOk r (new ≡ old ++ spare_doubt owner (x ∷ []) [])) (sym (same_Some s first is)) later
+  -- A locator without copies makes no doubt.
+  pub no_copy : (some stay : List Standing) (old : List Doubt) → slice_get some 0 ≡ None → old ≡ old ++ first_doubt doubt_of some stay
+  no_copy [] stay old is = sym (append-nil old)
+  no_copy (s ∷ ss) stay old is = absurd (none-some s (sym is))
 
--- all of them
+  -- If none of its copies stays, its doubt is of the first one.
+  pub first_doubted : {E : Type 0} (r : Result (Unit {0}) E) (some stay : List Standing) (first : Standing) (old new : List Doubt) →
+      (length stay == 0) ≡ true → slice_get some 0 ≡ Some first → OnOk r (new ≡ old ++ doubt_of first ∷ []) →
+      OnOk r (new ≡ old ++ first_doubt doubt_of some stay)
+  first_doubted r [] stay first old new none is later = absurd (none-some first is)
+  first_doubted r (s ∷ ss) (t ∷ ts) first old new none is later =
+      let e : length (t ∷ ts) ≡ 0 = eqb-true (length (t ∷ ts)) 0 none in absurd (omega (arith, e))
+  first_doubted r (s ∷ ss) [] first old new none is later =
+      subst (λ (x : Standing). OnOk r (new ≡ old ++ doubt_of x ∷ [])) (sym (same_Some s first is)) later
+
+-- ---- the doubts of all
+
 module _ (all : List Scanned) (checked : List Checked) (found : List Standing) (are : AreSpares all checked found)
     (numbers sorted : List ℕ) (same : IsPermutation numbers sorted) (safe stay : List Standing)
     (safe_is : safe ≡ safe_spares checked sorted found) (alike : HaveTheSameCopies safe stay) where
@@ -96,8 +97,8 @@ module _ (all : List Scanned) (checked : List Checked) (found : List Standing) (
 
   one_alike : (c : Checked) → Contains checked c → spare_doubts_by found stay c ≡ spare_doubts_of all checked numbers c
   one_alike c there =
-      ap (spare_doubt c.owner (spares_by found c)) (stay_of c)
-      ∙ ap (λ (ss : List Standing). spare_doubt c.owner ss (safe_spares checked numbers ss)) (are c there)
+      ap (first_doubt (spare_doubt c.owner) (spares_by found c)) (stay_of c)
+      ∙ ap (λ (ss : List Standing). first_doubt (spare_doubt c.owner) ss (safe_spares checked numbers ss)) (are c there)
 
   -- The doubts by the chunks that stay are those that resets of these extents make.
   pub all_alike : flat_map (spare_doubts_by found stay) checked ≡ flat_map (spare_doubts_of all checked numbers) checked

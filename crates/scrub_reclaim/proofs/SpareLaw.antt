@@ -13,10 +13,9 @@ use Rattle.scrub_check.specs.Live.{has_sound_at}
 use Rattle.scrub_check.specs.Spares.{spares_of}
 use Rattle.scrub_loose.specs.Loose.{LooseValue}
 use Rattle.scrub_found.specs.Scrubbed.{Scrubbed}
-use Rattle.scrub_reclaim.specs.Doubts.{Acceptance, frame_bytes, is_spare}
+use Rattle.scrub_reclaim.specs.Doubts.{Acceptance, is_spare}
 use Rattle.scrub_reclaim.specs.declared.doubts.Doubt.{Doubt}
-use Rattle.scrub_reclaim.specs.declared.doubts.Doubt.TheVariants.{Spare}
-use Rattle.scrub_reclaim.specs.Doubts.{is_accepted, is_at_risk, spare_doubt, spare_doubts_of, safe_spares}
+use Rattle.scrub_reclaim.specs.Doubts.{first_doubt, is_accepted, is_at_risk, spare_doubt, spare_doubts_of, safe_spares}
 use Rattle.scrub_reclaim.specs.Reclaimable.{AcceptsNoSpare, HasSafeSpare, KeepsSpares, accepted_in, doubts_for, is_clear, reclaimed}
 use Rattle.scrub_reclaim.proofs.DoubtParts.{each_part, of_spares}
 
@@ -80,18 +79,18 @@ module _ (accepted : Acceptance) (pages : List SuperblockPage) (loose : LooseVal
       c = get_or found.checked k d
 
       of_one : (p : Doubt → Bool) → list_all p (doubts_for accepted pages loose found) ≡ true →
-          list_all p (spare_doubt c.owner (spares_of found.all c) (safe_spares found.checked numbers (spares_of found.all c))) ≡ true
+          list_all p (first_doubt (spare_doubt c.owner) (spares_of found.all c) (safe_spares found.checked numbers (spares_of found.all c))) ≡ true
       of_one p all =
           let there : Contains found.checked c = All-contains_itself found.checked k d below in
           each_part p (spare_doubts_of found.all found.checked numbers) found.checked there.0 c there.1 there.2 (of_spares p accepted.last pages loose found all)
 
       by : (ss ts : List Standing) → spares_of found.all c ≡ ss → safe_spares found.checked numbers (spares_of found.all c) ≡ ts →
-          list_all (is_accepted (accepted_in accepted found)) (spare_doubt c.owner ss ts) ≡ true →
-          list_all (λ x. not (is_spare x && is_accepted (accepted_in accepted found) x)) (spare_doubt c.owner ss ts) ≡ true → HasSafeSpare found found.candidates c
+          list_all (is_accepted (accepted_in accepted found)) (first_doubt (spare_doubt c.owner) ss ts) ≡ true →
+          list_all (λ x. not (is_spare x && is_accepted (accepted_in accepted found) x)) (first_doubt (spare_doubt c.owner) ss ts) ≡ true → HasSafeSpare found found.candidates c
       by [] ts none stay all not_one = absurd (has none)
       by (s ∷ ss) (t ∷ ts) some stay all not_one = one_stays c (let e : length (safe_spares found.checked numbers (spares_of found.all c)) ≡ suc (length ts) = ap length stay in omega (arith, e))
       by (s ∷ ss) [] some stay all not_one =
-          absurd (clash (is_accepted (accepted_in accepted found) (Spare s.extent s.offset s.length s.uuid c.owner (frame_bytes s))) all not_one)
+          absurd (clash (is_accepted (accepted_in accepted found) (spare_doubt c.owner s)) all not_one)
 
   -- without extents to reclaim any will do
   any_will_do : KeepsSpares found []

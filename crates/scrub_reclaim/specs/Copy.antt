@@ -1,9 +1,9 @@
 -- Copying chunks into room: what an image keeps then, and what its manifest says before and after.
-use Rattle.std.specs.Prelude.{◌≡◌, ◌≢◌, ◌⊎◌, ◌<◌, ◌≤◌, ◌+◌, ◌++◌, ℕ, ⊤, true, List, [], ◌∷◌, Some, None, All, Contains, map}
+use Rattle.std.specs.Prelude.{◌≡◌, ◌≢◌, ◌⊎◌, ◌<◌, ◌≤◌, ◌+◌, ◌++◌, ℕ, ⊤, true, List, [], ◌∷◌, Some, All, Contains, map}
 use Rattle.std.specs.Prelude.{length as len}
 use Rattle.std.specs.List.{AllZip, flat_map}
 use Rattle.sha2.specs.Sha256.{sha256}
-use Rattle.scrub_disk.specs.Image.{Image, image_byte, extent_bytes}
+use Rattle.scrub_disk.specs.Image.{HasWholePages, Image, image_byte}
 use Rattle.scrub_frame.specs.declared.form.Form.{Form}
 use Rattle.scrub_frame.specs.Frame.{frame_overhead}
 use Rattle.scrub_scan.specs.declared.item.Item.{Item}
@@ -53,15 +53,15 @@ pub record IsPlanAfterCopies (rooms : List RoomValue) (old new : PlanValue) : Ty
   pub pointers : (x : ℕ) → ¬ Contains (extents_of rooms) x → pointer_of new x ≡ pointer_of old x
   pub moved : All (λ r. (w : ℕ) × (pointer_of new r.extent ≡ Some w) × (r.place ≤ w)) rooms
 
--- something was written into these rooms: the sizes are the same, and so are the bytes of all other extents of the disk but
--- extent 0; in the rooms' extents the bytes in front of the places are the same, and all bytes can be read; and the superblock
--- that counts differs in nothing but its generation and the write pointers of the rooms' extents, which aren't below the places
+-- something was written into these rooms of an image of whole pages: the sizes are the same, and so are the bytes of all other
+-- extents of the disk but extent 0; in the rooms' extents the bytes in front of the places are the same; and the superblock that
+-- counts differs in nothing but its generation and the write pointers of the rooms' extents, which aren't below the places
 pub record IsAfterCopies (rooms : List RoomValue) (before after : Image) : Type 0 where
+  pub whole : HasWholePages before
   pub had : All (λ r. HasRoomAt before r.extent r.place) rooms
   pub sizes : after.geometry ≡ before.geometry
   pub others : (x p : ℕ) → x ≢ 0 → x < before.geometry.extents → ¬ Contains (extents_of rooms) x → image_byte after x p ≡ image_byte before x p
   pub kept : All (λ r. (p : ℕ) → p < r.place → image_byte after r.extent p ≡ image_byte before r.extent p) rooms
-  pub readable : All (λ r. (p : ℕ) → p < extent_bytes after.geometry → image_byte after r.extent p ≢ None) rooms
   pub old : PlanValue
   pub new : PlanValue
   pub was : IsPlanIn before old

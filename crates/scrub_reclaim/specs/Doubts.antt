@@ -136,15 +136,19 @@ safe_spares checked extents ss = filter (λ s. not (is_at_risk checked extents s
 abbrev pub frame_bytes : Standing → ℕ
 frame_bytes s = s.length + frame_overhead s.form
 
--- the doubt that the spares of this owner's locator make if none of them stays: the first of them
-abbrev pub spare_doubt : Owner → List Standing → List Standing → List Doubt
-spare_doubt owner [] stay = []
-spare_doubt owner (s ∷ ss) [] = Spare s.extent s.offset s.length s.uuid owner (frame_bytes s) ∷ []
-spare_doubt owner (s ∷ ss) (t ∷ ts) = []
+-- the doubt that some copies make if there are some and none of them stays: that of the first one
+abbrev pub first_doubt : (Standing → Doubt) → List Standing → List Standing → List Doubt
+first_doubt doubt_of [] stay = []
+first_doubt doubt_of (s ∷ ss) [] = doubt_of s ∷ []
+first_doubt doubt_of (s ∷ ss) (t ∷ ts) = []
+
+-- the doubt of a spare of this owner's locator
+abbrev pub spare_doubt : Owner → Standing → Doubt
+spare_doubt owner s = Spare s.extent s.offset s.length s.uuid owner (frame_bytes s)
 
 -- the doubt that the spares of a named locator make if these extents are reset
 abbrev pub spare_doubts_of : List Scanned → List Checked → List ℕ → Checked → List Doubt
-spare_doubts_of all checked extents c = spare_doubt c.owner (spares_of all c) (safe_spares checked extents (spares_of all c))
+spare_doubts_of all checked extents c = first_doubt (spare_doubt c.owner) (spares_of all c) (safe_spares checked extents (spares_of all c))
 
 -- the doubts that spares make if the candidates are reset, by named locator
 abbrev pub spare_doubts : List Scanned → List Checked → List CandidateValue → List Doubt
@@ -152,7 +156,7 @@ spare_doubts all checked candidates = flat_map (spare_doubts_of all checked (map
 
 -- the doubts that the spares of one locator make, by the chunks among which its spares are, and those that stay
 abbrev pub spare_doubts_by : List Standing → List Standing → Checked → List Doubt
-spare_doubts_by found stay c = spare_doubt c.owner (spares_by found c) (spares_by stay c)
+spare_doubts_by found stay c = first_doubt (spare_doubt c.owner) (spares_by found c) (spares_by stay c)
 
 -- ---- loose copies
 
@@ -164,15 +168,13 @@ is_in extents s = list_any (λ n. n == s.extent) extents
 abbrev pub outside : List ℕ → List Standing → List Standing
 outside extents ss = filter (λ s. not (is_in extents s)) ss
 
--- the doubt that the loose copies of this owner's locator make if none of them stays: the first of them
-abbrev pub loose_doubt : Owner → List Standing → List Standing → List Doubt
-loose_doubt owner [] stay = []
-loose_doubt owner (s ∷ ss) [] = Loose s.extent s.offset s.length s.uuid owner (frame_bytes s) ∷ []
-loose_doubt owner (s ∷ ss) (t ∷ ts) = []
+-- the doubt of a loose copy of this owner's locator
+abbrev pub loose_doubt : Owner → Standing → Doubt
+loose_doubt owner s = Loose s.extent s.offset s.length s.uuid owner (frame_bytes s)
 
 -- the doubt that a named locator's loose copies make, if it has some, and all of them are in these extents
 abbrev pub loose_doubts_of : List Scanned → List Standing → List ℕ → Checked → List Doubt
-loose_doubts_of all loose extents c = loose_doubt c.owner (loose_of all loose c) (outside extents (loose_of all loose c))
+loose_doubts_of all loose extents c = first_doubt (loose_doubt c.owner) (loose_of all loose c) (outside extents (loose_of all loose c))
 
 -- the doubts that loose copies make if the candidates are reset, by named locator
 abbrev pub loose_doubts : List Scanned → List Standing → List Checked → List CandidateValue → List Doubt

@@ -1,5 +1,5 @@
 -- Where the next frame can be put in an extent.
-use Rattle.std.specs.Prelude.{◌≡◌, ◌≢◌, ◌⊎◌, ◌<◌, ◌≤◌, ◌+◌, ◌-◌, ◌*◌, ◌/◌, ◌%◌, ◌==◌, ◌&&◌, ◌||◌, ◌++◌, ℕ, Bool, true, false, nat_lt, List, [], ◌∷◌, codes, map, not, if◌then◌else◌}
+use Rattle.std.specs.Prelude.{◌≡◌, ◌≢◌, ◌⊎◌, ◌<◌, ◌≤◌, ◌+◌, ◌-◌, ◌*◌, ◌/◌, ◌%◌, ◌==◌, ◌&&◌, ◌||◌, ◌++◌, ℕ, Bool, true, false, nat_lt, List, [], ◌∷◌, Some, None, All, codes, map, not, if◌then◌else◌}
 use Rattle.std.specs.Fmt.{decimal}
 use Rattle.std.specs.List.{flat_map, list_all, list_any}
 use Rattle.std.specs.Option.{option_map_or}
@@ -8,11 +8,11 @@ use Rattle.scrub_disk.specs.Image.{Image, image_byte, extent_bytes}
 use Rattle.scrub_scan.specs.declared.item.Item.{Item}
 use Rattle.scrub_scan.specs.declared.standing.Standing.{Standing}
 use Rattle.scrub_scan.specs.Extent.{extent_of}
-use Rattle.scrub_scan.specs.Findings.{is_nonzero}
 use Rattle.scrub_scan.specs.Line.{spaced}
 use Rattle.scrub_scan.specs.Scanned.{Scanned}
 use Rattle.scrub_scan.specs.Tiling.{IsTiling}
 use Rattle.scrub_check.specs.declared.statuses.checked.Checked.{Checked}
+use Rattle.scrub_check.specs.declared.statuses.status.Status.TheVariants.{Sound}
 use Rattle.scrub_check.specs.Candidates.{CandidateValue, has_sound_alone}
 use Rattle.scrub_check.specs.Live.{is_chunk}
 use Rattle.scrub_loose.specs.Loose.{LooseValue, loose_of}
@@ -106,15 +106,18 @@ room_lines g all loose checked candidates =
 
 -- ---- what is there
 
--- in extent e under the pointer w each item is a chunk or zeros; the place is the pointer, if that is at a
--- page boundary or the last item is a chunk, or else the next page boundary; each byte from the pointer to it
--- is zero or can't be read; and a frame of no payload, 38 bytes, fits from there on
-pub record IsRoom (image : Image) (e w place : ℕ) : Type 0 where
+-- each byte of extent e can be read; under the pointer w each item is a chunk or zeros; each of these named
+-- locators with its number is sound; the place is the pointer, if that is at a page boundary or the last item
+-- is a chunk, or else the next page boundary; each byte from the pointer to it is zero; and a frame of no
+-- payload, 38 bytes, fits from there on
+pub record IsRoom (image : Image) (checked : List Checked) (e w place : ℕ) : Type 0 where
+  pub readable : (p : ℕ) → p < extent_bytes image.geometry → image_byte image e p ≢ None
   pub items : List Item
   pub tiled : IsTiling (extent_of image e w) items
   pub clean : list_all is_clean_item items ≡ true
+  pub sound : All (λ c. c.locator.extent ≡ e → c.status ≡ Sound) checked
   pub at_pointer : (w % image.geometry.page ≡ 0) ⊎ (ends_in_chunk items ≡ true) → place ≡ w
   pub at_bound : w % image.geometry.page ≢ 0 → ends_in_chunk items ≡ false →
       (w < place) × (place < w + image.geometry.page) × (place % image.geometry.page ≡ 0)
-  pub zeros : (p : ℕ) → w ≤ p → p < place → is_nonzero (image_byte image e p) ≡ false
+  pub zeros : (p : ℕ) → w ≤ p → p < place → image_byte image e p ≡ Some 0
   pub fits : place + 38 ≤ extent_bytes image.geometry

@@ -1,10 +1,11 @@
-//! The doubts that loose copies make: of each locator whose loose copies a reset might all take, the first one;
-//! and those of crowded extents, in which no copy was looked for.
+//! The doubts that loose copies make: of each locator whose loose copies a reset might all take, the first
+//! one; and those of crowded extents, in which no copy was looked for.
 
 ghost use Rattle.std.specs.Prelude.{◌≡◌, ◌++◌, ◌∷◌, [], IfOk, OnOk};
 ghost use Rattle.std.specs.List.{flat_map};
 ghost use Rattle.scrub_loose.specs.Loose.{LooseValue};
-ghost use Rattle.scrub_reclaim.specs.Doubts.{crowded_doubt, is_in, loose_doubt, loose_doubts, outside};
+ghost use Rattle.scrub_reclaim.specs.Doubts.{crowded_doubt, first_doubt, is_in, loose_doubt};
+ghost use Rattle.scrub_reclaim.specs.Doubts.{loose_doubts, outside};
 ghost use Rattle.scrub_reclaim.specs.steps.ReclaimParts.{AreKeptOf, AreLists};
 ghost use Rattle.scrub_reclaim.specs.steps.KeptCopies.{loose_doubts_by};
 
@@ -40,7 +41,7 @@ fn outside(
 
 /// Adds the doubt that this loose copy of an owner's locator makes.
 fn add_doubt(doubts: &mut Vec<Doubt>, owner: Owner, copy: &Standing) -> Result<(), OutOfMemory>
-    ensures { OnOk result (doubts.new.items ≡ doubts.old.items ++ loose_doubt owner (copy.now ∷ []) []) }
+    ensures { OnOk result (doubts.new.items ≡ doubts.old.items ++ loose_doubt owner copy.now ∷ []) }
 {
     doubts.push(Doubt::Loose {
         extent: copy.extent,
@@ -60,7 +61,8 @@ fn add_one(
     some: &[Standing],
     stay: &[Standing],
 ) -> Result<(), OutOfMemory>
-    ensures { OnOk result (doubts.new.items ≡ doubts.old.items ++ loose_doubt owner some.now stay.now) }
+    ensures { OnOk result (doubts.new.items ≡
+        doubts.old.items ++ first_doubt (loose_doubt owner) some.now stay.now) }
 {
     if !stay.is_empty() {
         return Ok(());
@@ -88,8 +90,8 @@ fn add_all(
     Ok(())
 }
 
-/// Adds the doubts that the loose copies of the judged locators make if the candidates are reset. Each copy is
-/// looked at once.
+/// Adds the doubts that the loose copies of the judged locators make if the candidates are reset. Each copy
+/// is looked at once.
 pub(crate) fn add_loose<D: PageSource>(
     alloc: Global,
     doubts: &mut Vec<Doubt>,

@@ -6,7 +6,7 @@ ghost use Rattle.std.specs.Prelude.{map, string_bytes};
 ghost use Rattle.std.specs.List.{flat_map};
 ghost use Rattle.std.specs.List.Sorted.{IsPermutation};
 ghost use Rattle.scrub_disk.specs.declared.geometry.Geometry.{Geometry};
-ghost use Rattle.scrub_disk.specs.Image.{Image};
+ghost use Rattle.scrub_disk.specs.Image.{HasWholePages, Image};
 ghost use Rattle.scrub_super.specs.declared.pages.SuperblockPage.{SuperblockPage};
 ghost use Rattle.scrub_super.specs.Pages.{AreSuperblockPages};
 ghost use Rattle.scrub_scan.specs.Scanned.{Scanned};
@@ -29,7 +29,7 @@ ghost use Rattle.scrub_reclaim.specs.Reclaimable.{AreReclaimLines, IsListedByLas
 ghost use Rattle.scrub_reclaim.specs.Reclaimable.{all_candidate_lines, candidate_lines, is_clear};
 ghost use Rattle.scrub_reclaim.specs.Reclaimable.{reclaim_line, reclaimed};
 ghost use Rattle.scrub_reclaim.specs.Reset.{AreListedKeepingCopies, IsAfterReset, IsReclaimed, NameTheSame};
-ghost use Rattle.scrub_reclaim.specs.Room.{IsRoom, place_in, room_if, room_in, room_line};
+ghost use Rattle.scrub_reclaim.specs.Room.{IsRoom, place_in, room_if};
 
 use crate::closed::closed_extents;
 use crate::doubting::doubts_of;
@@ -250,8 +250,9 @@ pub fn reclaiming_is_safe()
 {}
 
 /// A law: where no line begins with `accepted spare`, each named locator that has a spare has one that is
-/// live or in an extent that isn't to be reclaimed. So no reset takes the last spare of a named locator. A
-/// copy that is no item of a tiling is no spare.
+/// live or in an extent that isn't to be reclaimed. So without `move` lines no reset takes the last spare of
+/// a named locator; with them a live chunk that is to be moved may be another shard's last spare. A copy that
+/// is no item of a tiling is no spare.
 pub fn no_spare_is_taken()
     ensures { (accepted : Acceptance) (pages : List SuperblockPage) (loose : LooseValue) (found : Scrubbed) →
         AcceptsNoSpare accepted pages loose found →
@@ -303,19 +304,15 @@ pub fn a_reset_loses_nothing()
         a.index ≡ b.index }
 {}
 
-/// A law: what a line `room` or `last-room` shows. It has the number of the extent, the place for the next
-/// frame and the bytes from there on. The extent's items are chunks and zeros alone. The place is the write
-/// pointer, if that is at a page boundary or directly after a chunk, or else the next page boundary. From the
-/// pointer to the place no byte that can be read is other than zero, and 38 bytes or more fit from there on.
+/// A law: what a line `room` or `last-room` shows. All pages of the extent can be read, its items are chunks
+/// and zeros alone, and each named locator with its number is sound. The place is the write pointer, if that
+/// is at a page boundary or directly after a chunk, or else the next page boundary. Each byte from the
+/// pointer to the place is zero, and 38 bytes or more fit from there on.
 pub fn a_line_shows_room()
-    ensures line { (is_listed : Bool) (geometry : Geometry) (all : List Scanned) (loose : LooseValue)
-        (checked : List Checked) (f : Scanned) → room_if is_listed geometry all loose checked f ≢ [] →
-        room_if is_listed geometry all loose checked f ≡
-        room_line is_listed f.extent (place_in geometry f) (room_in geometry f) }
-    ensures room { (image : Image) (found : Scrubbed) (loose : LooseValue) (is_listed : Bool) →
-        IsScrubbed image found →
+    ensures { (image : Image) (found : Scrubbed) (loose : LooseValue) (is_listed : Bool) →
+        HasWholePages image → IsScrubbed image found →
         All (λ f. room_if is_listed found.plan.geometry found.all loose found.checked f ≢ [] →
-        IsRoom image f.extent f.pointer (place_in found.plan.geometry f)) found.all }
+        IsRoom image found.checked f.extent f.pointer (place_in found.plan.geometry f)) found.all }
 {}
 
 /// A law: each image has a text of the lines of what can be reclaimed, and a verdict whether it is clear,

@@ -6,8 +6,8 @@ ghost use Rattle.scrub_scan.specs.Scanned.{Scanned};
 ghost use Rattle.scrub_check.specs.declared.statuses.checked.Checked.{Checked};
 ghost use Rattle.scrub_check.specs.Spares.{AreSpares};
 ghost use Rattle.scrub_check.specs.steps.LocatorIndex.{IsLocatorIndex};
-ghost use Rattle.scrub_reclaim.specs.Doubts.{frame_bytes, is_at_risk, spare_doubt, spare_doubts};
-ghost use Rattle.scrub_reclaim.specs.Doubts.{safe_spares, spare_doubts_by};
+ghost use Rattle.scrub_reclaim.specs.Doubts.{first_doubt, frame_bytes, is_at_risk, spare_doubt};
+ghost use Rattle.scrub_reclaim.specs.Doubts.{safe_spares, spare_doubts, spare_doubts_by};
 ghost use Rattle.scrub_reclaim.specs.steps.ReclaimParts.{AreLists};
 
 use crate::doubts::Doubt;
@@ -76,7 +76,7 @@ pub(crate) fn frame_bytes(spare: &Standing) -> u64
 
 /// Adds the doubt that this spare of an owner's locator makes.
 fn add_doubt(doubts: &mut Vec<Doubt>, owner: Owner, spare: &Standing) -> Result<(), OutOfMemory>
-    ensures { OnOk result (doubts.new.items ≡ doubts.old.items ++ spare_doubt owner (spare.now ∷ []) []) }
+    ensures { OnOk result (doubts.new.items ≡ doubts.old.items ++ spare_doubt owner spare.now ∷ []) }
 {
     doubts.push(Doubt::Spare {
         extent: spare.extent,
@@ -96,7 +96,8 @@ fn add_one(
     some: &[Standing],
     stay: &[Standing],
 ) -> Result<(), OutOfMemory>
-    ensures { OnOk result (doubts.new.items ≡ doubts.old.items ++ spare_doubt owner some.now stay.now) }
+    ensures { OnOk result (doubts.new.items ≡
+        doubts.old.items ++ first_doubt (spare_doubt owner) some.now stay.now) }
 {
     if !stay.is_empty() {
         return Ok(());

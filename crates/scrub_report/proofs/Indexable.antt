@@ -6,8 +6,9 @@ use Rattle.std.proofs.lemmas.List.Elements.{All-filter, All-map}
 use Rattle.std.proofs.lemmas.List.Filters.{length-filter_both}
 use Rattle.std.proofs.lemmas.List.Kept.{AllPairs-filter}
 use Rattle.scrub_disk.specs.Image.{Image}
-use Rattle.scrub_run.specs.Entry.{EntryValue, IsBelow, IsEntry}
+use Rattle.scrub_run.specs.Entry.{EntryValue, IsBelow}
 use Rattle.scrub_run.specs.Run.{AreEntries, RisesById}
+use Rattle.scrub_run.specs.steps.Parts.{IsEntry}
 use Rattle.scrub_merge.specs.Binding.{BindingValue}
 use Rattle.scrub_check.specs.Checked.{is_broken}
 use Rattle.scrub_report.specs.Index.{index_entries}
@@ -40,5 +41,5 @@ index_run image s x = record {
       (All-filter (is_kept s) (λ b. IsEntry (indexed b)) s.bindings (entries_are [] image s x));
   rising =
       indexed_rise (filter (is_kept s) s.bindings)
-      (AllPairs-filter (λ b c. IsBelow b.id c.id) (is_kept s) s.bindings x.bindings.bindings_of_map.rising);
+      (AllPairs-filter (λ b c. IsBelow b.id c.id) (is_kept s) s.bindings x.bindings.rising);
 }

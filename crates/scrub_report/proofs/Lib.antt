@@ -1,8 +1,7 @@
 -- Lemmas on the report and on the recovered index.
 
--- one report, and that each image has one
+-- each image has exactly one report
 pub mod OneReport
-pub mod Existing
 -- the bindings fit into one index run
 pub mod Indexable
 pub mod KeptEntries
@@ -10,7 +9,6 @@ pub mod KeptEntries
 pub mod Tokens
 pub mod PieceTexts
 pub mod ReportText
-pub mod LocatorValues
 pub mod RunRows
 pub mod ScannedLive
 pub mod ListedReport

@@ -5,7 +5,7 @@ use Rattle.scrub_scan.specs.Scanned.{Scanned}
 use Rattle.scrub_check.specs.declared.statuses.checked.Checked.{Checked}
 use Rattle.scrub_check.specs.Live.{live_bytes}
 use Rattle.serde_json.specs.Data.{Data}
-use Rattle.scrub_report.specs.Report.{extent_data}
+use Rattle.scrub_report.specs.steps.Values.{extent_data}
 
 each_beside : (checked : List Checked) (all : List Scanned) →
     map (λ (p : Scanned × ℕ). extent_data p.1 p.0) (zip all (map (live_bytes checked) all)) ≡ map (λ f. extent_data (live_bytes checked f) f) all

@@ -1,6 +1,7 @@
 //! Chunks at their places, and the extents that can be reclaimed, as the report has them.
 
-ghost use Rattle.scrub_report.specs.Report.{candidate_data, place_data, shared_data};
+ghost use Rattle.scrub_report.specs.Report.{place_data};
+ghost use Rattle.scrub_report.specs.steps.Values.{candidate_data, shared_data};
 
 use crate::json_values::WriteJson;
 use crate::object::{Value, write_object};

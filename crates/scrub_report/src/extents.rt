@@ -3,8 +3,8 @@
 ghost use Rattle.std.specs.Prelude.{◌≡◌, ◌*◌, ◌<◌, ◌≤◌, ◌++◌, ℕ, IfOk, IfSome, OnOk, length, slice_get};
 ghost use Rattle.std.specs.Int.{div_ceil};
 ghost use Rattle.scrub_scan.specs.Scanned.{scanned};
-ghost use Rattle.scrub_report.specs.Report.{extent_data};
 ghost use Rattle.scrub_report.specs.steps.Tokens.{ArePieces, extent_values, piece_text, value_tokens};
+ghost use Rattle.scrub_report.specs.steps.Values.{extent_data};
 
 use crate::items::ITEM_ROOM;
 use crate::object::{Value, write_object};
@@ -74,7 +74,8 @@ fn extents_text<D: PageSource>(
 ) -> Result<Vec<u8>, OutOfMemory>
     requires count { length live.now ≡ length all.now.extents }
     requires within { from ≤ length all.now.extents }
-    ensures { IfOk result (λ text. text.items ≡ piece_text (extent_values all.now.extents live.now) from size) }
+    ensures { IfOk result (λ text.
+        text.items ≡ piece_text (extent_values all.now.extents live.now) from size) }
 {
     let room = text_room(all, from, size);
     let mut out = Writer::new(comma_if(alloc, from > 0, room)?);

@@ -3,8 +3,9 @@
 ghost use Rattle.std.specs.Prelude.{◌≡◌, ◌+◌, ◌*◌, ◌++◌, ◌≤◌, ◌<◌, ◌^◌, ◌↔◌, All, AllPairs, Contains, IfOk};
 ghost use Rattle.std.specs.Prelude.{IsTrue, List, OnOk, length, not};
 ghost use Rattle.std.specs.List.{flat_map};
-ghost use Rattle.scrub_run.specs.Entry.{IsBelow, entry_bytes};
-ghost use Rattle.scrub_run.specs.Run.{run_body, run_bytes};
+ghost use Rattle.scrub_run.specs.Entry.{IsBelow};
+ghost use Rattle.scrub_run.specs.Run.{run_bytes};
+ghost use Rattle.scrub_run.specs.steps.Parts.{entry_bytes, run_body};
 ghost use Rattle.scrub_check.specs.declared.statuses.checked.Checked.{Checked};
 ghost use Rattle.scrub_check.specs.Checked.{AreBrokenShards, is_broken};
 ghost use Rattle.scrub_report.specs.Index.{index_entries};

@@ -92,9 +92,9 @@ impl WriteJson for Option<u64> {
 
 impl WriteJson for ShardId {
     ghost use Rattle.serde_json.specs.Data.{string};
-    ghost use Rattle.scrub_found.specs.Texts.{id_text};
+    ghost use Rattle.hex.specs.Hex.{encode_lower};
 
-    ghost shown = { λ id. string (id_text id) };
+    ghost shown = { λ id. string (encode_lower id.0) };
 
     fn write_json(&self, alloc: Global, out: &mut Writer) -> Result<(), OutOfMemory> {
         let id = id_text(alloc, *self)?;

@@ -29,8 +29,8 @@ pub(crate) struct Unlisted<'d, D: PageSource> {
     pub hidden: Vec<Checked>,
 }
 
-/// What the report lists of a disk, but for the broken shards. Neither the shard map is here nor what the named
-/// locators say: only what follows from them.
+/// What the report lists of a disk, but for the broken shards. Neither the shard map is here nor what the
+/// named locators say: only what follows from them.
 #[derive(Drop)]
 pub(crate) struct Listed<'d, D: PageSource> {
     /// What was scanned.

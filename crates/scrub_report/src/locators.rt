@@ -1,6 +1,6 @@
 //! The named locators that aren't sound, as the report has them.
 
-ghost use Rattle.scrub_report.specs.steps.Values.{locator_data};
+ghost use Rattle.scrub_report.specs.Report.{locator_data};
 
 use crate::json_values::WriteJson;
 use crate::object::{Value, write_object};

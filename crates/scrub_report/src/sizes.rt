@@ -1,9 +1,8 @@
 //! A disk's sizes and its superblock, as the report has them.
 
 ghost use Rattle.std.specs.Prelude.{◌≡◌, ◌++◌, OnOk, option_map};
-ghost use Rattle.scrub_report.specs.Report.{super_data};
 ghost use Rattle.scrub_report.specs.steps.Tokens.{value_tokens};
-ghost use Rattle.scrub_report.specs.steps.Values.{geometry_data};
+ghost use Rattle.scrub_report.specs.steps.Values.{geometry_data, super_data};
 
 use crate::object::{Value, write_object};
 use json::Writer;

@@ -1,36 +1,69 @@
 -- Bytes that begin with entries: which entries they are.
-use Rattle.std.proofs.Common.{◌≡◌, ◌<◌, ◌≤◌, ◌+◌, ◌*◌, ℕ, List, [], ◌∷◌, ◌++◌, length, drop, get_or, All, arith, refl, sym, ◌∙◌, ap, append_assoc, length-append}
+use Rattle.std.proofs.Common.{◌≡◌, ◌<◌, ◌≤◌, ◌+◌, ◌*◌, ℕ, List, [], ◌∷◌, ◌++◌, length, take, drop, get_or, All, arith, refl, sym, ◌∙◌, ap, append_assoc, drop-drop, length-append}
 use Rattle.std.specs.List.{flat_map}
-use Rattle.std.proofs.lemmas.List.{drop_at, flat_map_more, get_or_append_left, get_or_at}
+use Rattle.std.proofs.lemmas.List.{drop_at, flat_map_more, get_or_append_left, get_or_at, take_at}
 use Rattle.std.proofs.lemmas.List.Elements.{All-drop, All-head, All-push, All-tail}
 use Rattle.std.proofs.lemmas.List.Quantifiers.{all_pairs_push}
-use Rattle.list_facts.proofs.Slices.{same_front_and_rest}
-use Rattle.scrub_frame.specs.Locator.{locator_bytes}
-use Rattle.scrub_frame.proofs.Locators.{length-locators, same_locators}
-use Rattle.scrub_run.specs.Entry.{EntryValue, entry_bytes, IsEntry, IsBelow}
+use Rattle.list_facts.proofs.Spelling.{parts_again, read_parts}
+use Rattle.scrub_frame.specs.Locator.{locator_bytes, IsLocator}
+use Rattle.scrub_frame.proofs.Locators.{length-locator_bytes, length-locators}
+use Rattle.scrub_frame.proofs.ReadAgain.{read_locator, locator_again}
+use Rattle.scrub_run.specs.Entry.{EntryValue, IsBelow}
 use Rattle.scrub_run.specs.Run.{RisesById}
+use Rattle.scrub_run.specs.steps.Parts.{entry_bytes, IsEntry}
 
-same_value : (e f : EntryValue) → e.id.0 ≡ f.id.0 → e.locators ≡ f.locators → e ≡ f
-same_value e f h k = λ i. record { id = record { 0 = h i }; locators = k i }
+-- how many bytes the entry takes that bytes begin with
+abbrev pub entry_size : List ℕ → ℕ
+entry_size x = 17 + 60 * get_or x 16 0
 
--- the bytes of an entry, with what follows them, part by part
-entry_parts : (e : EntryValue) (r : List ℕ) → entry_bytes e ++ r ≡ e.id.0 ++ (length e.locators ∷ (flat_map locator_bytes e.locators ++ r))
-entry_parts e r = append_assoc e.id.0 (length e.locators ∷ flat_map locator_bytes e.locators) r
+-- the entry that bytes begin with
+abbrev pub read_entry : List ℕ → EntryValue
+read_entry x = record {
+  id = record { 0 = take 16 x };
+  locators = read_parts read_locator 60 (get_or x 16 0) (drop 17 x);
+}
+
+-- an entry is read from the bytes that spell it, and those that follow are left
+pub entry_again : (x : List ℕ) (e : EntryValue) (r : List ℕ) → IsEntry e → x ≡ entry_bytes e ++ r →
+    (read_entry x ≡ e) × (drop (entry_size x) x ≡ r)
+entry_again x e r h is = ((λ i. record { id = record { 0 = id i }; locators = locators i }), behind)
+  where
+    after : List ℕ
+    after = flat_map locator_bytes e.locators ++ r
+
+    parts : x ≡ e.id.0 ++ (length e.locators ∷ after)
+    parts = is ∙ append_assoc e.id.0 (length e.locators ∷ flat_map locator_bytes e.locators) r
+
+    id : take 16 x ≡ e.id.0
+    id = ap (take 16) parts ∙ take_at e.id.0 (length e.locators ∷ after) 16 h.0
+
+    count : get_or x 16 0 ≡ length e.locators
+    count = ap (λ t. get_or t 16 0) parts ∙ get_or_at e.id.0 (length e.locators) after 0 16 h.0
+
+    rest : drop 17 x ≡ after
+    rest =
+        sym (drop-drop 1 16 x)
+        ∙ ap (drop 1) (ap (drop 16) parts ∙ drop_at e.id.0 (length e.locators ∷ after) 16 h.0)
+
+    locators : read_parts read_locator 60 (get_or x 16 0) (drop 17 x) ≡ e.locators
+    locators =
+        ap (λ n. read_parts read_locator 60 n (drop 17 x)) count
+        ∙ ap (read_parts read_locator 60 (length e.locators)) rest
+        ∙ parts_again locator_bytes IsLocator read_locator 60 e.locators r length-locator_bytes locator_again h.2
+
+    behind : drop (entry_size x) x ≡ r
+    behind =
+        sym (drop-drop (60 * get_or x 16 0) 17 x)
+        ∙ ap (drop (60 * get_or x 16 0)) rest
+        ∙ drop_at (flat_map locator_bytes e.locators) r (60 * get_or x 16 0)
+        (length-locators e.locators h.2 ∙ ap (λ n. 60 * n) (sym count))
 
 -- bytes begin with at most one entry
 pub same_entry : (e f : EntryValue) (r s : List ℕ) → IsEntry e → IsEntry f → entry_bytes e ++ r ≡ entry_bytes f ++ s → (e ≡ f) × (r ≡ s)
-same_entry e f r s he hf same = (same_value e f ids.0 (same_locators e.locators f.locators he.each hf.each count spelled.0), spelled.1)
-  where
-    ids : (e.id.0 ≡ f.id.0) × (length e.locators ∷ (flat_map locator_bytes e.locators ++ r) ≡ length f.locators ∷ (flat_map locator_bytes f.locators ++ s))
-    ids = same_front_and_rest e.id.0 f.id.0 (length e.locators ∷ (flat_map locator_bytes e.locators ++ r)) (length f.locators ∷ (flat_map locator_bytes f.locators ++ s))
-        (he.sixteen ∙ sym hf.sixteen) (sym (entry_parts e r) ∙ same ∙ entry_parts f s)
-
-    count : length e.locators ≡ length f.locators
-    count = ap (λ t. get_or t 0 0) ids.1
-
-    spelled : (flat_map locator_bytes e.locators ≡ flat_map locator_bytes f.locators) × (r ≡ s)
-    spelled = same_front_and_rest (flat_map locator_bytes e.locators) (flat_map locator_bytes f.locators) r s
-        (length-locators e.locators he.each ∙ ap (λ n. 60 * n) count ∙ sym (length-locators f.locators hf.each)) (ap (drop 1) ids.1)
+same_entry e f r s he hf same =
+    let one = entry_again (entry_bytes e ++ r) e r he refl in
+    let other = entry_again (entry_bytes e ++ r) f s hf same in
+    (sym one.0 ∙ other.0, sym one.1 ∙ other.1)
 
 -- the entries ys are xs and then some more, which the rest of the bytes is
 pub record Continues (xs ys : List EntryValue) (rest : List ℕ) : Type 0 where
@@ -52,10 +85,10 @@ continues (x ∷ xs) (y ∷ ys) rest hx hy few e =
 
 -- the parts of bytes that begin with an entry
 pub entry_stands : (x : List ℕ) (e : EntryValue) (r : List ℕ) → IsEntry e → x ≡ entry_bytes e ++ r → (get_or x 16 0 ≡ length e.locators) × (17 + 60 * length e.locators ≤ length x)
-entry_stands x e r h same = (ap (λ t. get_or t 16 0) parts ∙ get_or_at e.id.0 (length e.locators) (flat_map locator_bytes e.locators ++ r) 0 16 h.sixteen, long)
+entry_stands x e r h same = (ap (λ t. get_or t 16 0) parts ∙ get_or_at e.id.0 (length e.locators) (flat_map locator_bytes e.locators ++ r) 0 16 h.0, long)
   where
     parts : x ≡ e.id.0 ++ (length e.locators ∷ (flat_map locator_bytes e.locators ++ r))
-    parts = same ∙ entry_parts e r
+    parts = same ∙ append_assoc e.id.0 (length e.locators ∷ flat_map locator_bytes e.locators) r
 
     long : 17 + 60 * length e.locators ≤ length x
     long = omega (
@@ -63,8 +96,8 @@ entry_stands x e r h same = (ap (λ t. get_or t 16 0) parts ∙ get_or_at e.id.0
       ap length parts,
       length-append e.id.0 (length e.locators ∷ (flat_map locator_bytes e.locators ++ r)),
       length-append (flat_map locator_bytes e.locators) r,
-      length-locators e.locators h.each,
-      h.sixteen,
+      length-locators e.locators h.2,
+      h.0,
     )
 
 -- the entries xs, n of them, were read, and the rest is to come

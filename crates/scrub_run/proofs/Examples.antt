@@ -2,8 +2,8 @@
 use Rattle.std.proofs.Common.{◌≡◌, ℕ, List, [], ◌∷◌, ◌++◌, replicate, refl}
 use Rattle.scrub_frame.specs.declared.locator.Locator.{Locator}
 use Rattle.scrub_run.specs.declared.shard_id.ShardId.{ShardId}
-use Rattle.scrub_run.specs.Entry.{entry_bytes, IsBelow}
-use Rattle.scrub_run.specs.Run.{run_body}
+use Rattle.scrub_run.specs.Entry.{IsBelow}
+use Rattle.scrub_run.specs.steps.Parts.{entry_bytes, run_body}
 
 -- the identifier of fifteen zero bytes and this one
 shard : ℕ → ShardId

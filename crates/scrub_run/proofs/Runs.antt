@@ -1,25 +1,15 @@
 -- What is read from the bytes of a run, and that nothing else could be.
-use Rattle.std.proofs.Common.{◌≡◌, ◌<◌, ◌≤◌, ◌-◌, ◌^◌, ℕ, List, [], ◌++◌, length, take, drop, get_or, All, arith, refl, sym, ◌∙◌, ap, length-append, take-append-drop}
+use Rattle.std.proofs.Common.{◌≡◌, ◌<◌, ◌≤◌, ◌-◌, ◌^◌, ℕ, List, ◌++◌, length, take, drop, get_or, arith, refl, sym, ◌∙◌, ap, length-append, take-append-drop}
 use Rattle.std.specs.List.{flat_map}
-use Rattle.std.proofs.lemmas.List.{append-nil, drop_at, nil_from_length, take_at}
+use Rattle.std.proofs.lemmas.List.{drop_at, take_at}
 use Rattle.byteorder.specs.Endian.{big_bytes, big_number}
 use Rattle.sha2.specs.Sha256.{sha256}
 use Rattle.sha2.proofs.Facts256.{length-sha256}
 use Rattle.list_facts.proofs.Slices.{same_front_and_rest}
 use Rattle.scrub_frame.proofs.Bytes.{bytes-injective, bytes-number_at}
-use Rattle.scrub_run.specs.Entry.{EntryValue, entry_bytes, IsEntry}
-use Rattle.scrub_run.specs.Run.{run_magic, run_body, IsRun}
-use Rattle.scrub_run.proofs.Entries.{Continues, continues}
-
--- two lists of as many entries with the same bytes are the same
-same_entries : (xs ys : List EntryValue) → All IsEntry xs → All IsEntry ys → length xs ≡ length ys → flat_map entry_bytes xs ≡ flat_map entry_bytes ys → xs ≡ ys
-same_entries xs ys hx hy count e = sym (go.whole ∙ ap (λ t. xs ++ t) (nil_from_length go.more nothing) ∙ append-nil xs)
-  where
-    go : Continues xs ys []
-    go = continues xs ys [] hx hy (omega (arith, count)) (append-nil (flat_map entry_bytes xs) ∙ e)
-
-    nothing : length go.more ≡ 0
-    nothing = omega (arith, count, ap length go.whole, length-append xs go.more)
+use Rattle.scrub_run.specs.Entry.{EntryValue}
+use Rattle.scrub_run.specs.Run.{run_magic, IsRun}
+use Rattle.scrub_run.specs.steps.Parts.{entry_bytes, run_body}
 
 -- the whole decides the part before the digest
 pub same_body : (a b : List ℕ) → a ++ sha256 a ≡ b ++ sha256 b → a ≡ b
@@ -28,16 +18,6 @@ same_body a b e = (same_front_and_rest a b (sha256 a) (sha256 b) (omega (arith, 
 -- a head decides the count, and what follows it
 pub same_head : (n m : ℕ) (x y : List ℕ) → run_magic ++ (big_bytes 4 n ++ x) ≡ run_magic ++ (big_bytes 4 m ++ y) → (big_bytes 4 n ≡ big_bytes 4 m) × (x ≡ y)
 same_head n m x y e = same_front_and_rest (big_bytes 4 n) (big_bytes 4 m) x y refl (ap (drop 4) e)
-
--- a payload is the run of at most one list of entries
-pub one_run_lem : (payload : List ℕ) (xs ys : List EntryValue) → IsRun payload xs → IsRun payload ys → xs ≡ ys
-one_run_lem payload xs ys hx hy =
-    same_entries xs ys hx.entries_of_run.each hy.entries_of_run.each
-    (bytes-injective (length xs) (length ys) hx.entries_of_run.count hy.entries_of_run.count head.0) head.1
-  where
-    head : (big_bytes 4 (length xs) ≡ big_bytes 4 (length ys)) × (flat_map entry_bytes xs ≡ flat_map entry_bytes ys)
-    head = same_head (length xs) (length ys) (flat_map entry_bytes xs) (flat_map entry_bytes ys)
-        (same_body (run_body xs) (run_body ys) (sym hx.spelled ∙ hy.spelled))
 
 -- Bytes that are a text followed by its digest are cut into these two 32 bytes before their end.
 pub body_cut : (x s a d : List ℕ) → a ≡ take (length x - 32) x → d ≡ drop (length x - 32) x → x ≡ s ++ sha256 s → (a ≡ s) × (d ≡ sha256 s)

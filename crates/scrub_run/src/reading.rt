@@ -5,8 +5,9 @@ ghost use Rattle.std.specs.Prelude.{IfSome, IfNone, IsErrOf, length, slice_index
 ghost use Rattle.std.specs.List.{flat_map};
 ghost use Rattle.byteorder.specs.Endian.{big_bytes};
 ghost use Rattle.sha2.specs.Sha256.{sha256};
-ghost use Rattle.scrub_run.specs.Entry.{EntryValue, entry_bytes, IsEntry, IsBelow};
+ghost use Rattle.scrub_run.specs.Entry.{EntryValue, IsBelow};
 ghost use Rattle.scrub_run.specs.Run.{run_magic, RisesById, IsRun};
+ghost use Rattle.scrub_run.specs.steps.Parts.{entry_bytes, IsEntry};
 
 use crate::OutOfMemory;
 use crate::entry::Entry;

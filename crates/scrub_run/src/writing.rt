@@ -3,8 +3,8 @@
 ghost use Rattle.std.specs.Prelude.{◌≡◌, ◌*◌, ◌<◌, ◌≤◌, ◌++◌, ◌^◌, All, IfOk, OnErr, OnOk, length};
 ghost use Rattle.byteorder.specs.Endian.{big_bytes};
 ghost use Rattle.sha2.specs.Sha256.{sha256};
-ghost use Rattle.scrub_run.specs.Entry.{entry_bytes, IsEntry};
 ghost use Rattle.scrub_run.specs.Run.{run_bytes, run_magic, RisesById, IsRun};
+ghost use Rattle.scrub_run.specs.steps.Parts.{entry_bytes, IsEntry};
 
 use crate::OutOfMemory;
 use crate::entry::Entry;

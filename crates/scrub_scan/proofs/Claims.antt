@@ -7,7 +7,7 @@ use Rattle.scrub_frame.specs.declared.form.Form.{Form}
 use Rattle.scrub_frame.specs.declared.form.Form.TheVariants.{Plain}
 use Rattle.scrub_frame.specs.declared.frame.Head.{Head}
 use Rattle.scrub_frame.specs.Frame.{head, head_size, seal, mark, payload_start, frame_overhead}
-use Rattle.scrub_frame.proofs.Frames.{length-seal}
+use Rattle.scrub_frame.proofs.Frames.{length-seal, frame_in_parts}
 use Rattle.scrub_scan.specs.Extent.{Extent, FrameAt, HasGap}
 use Rattle.scrub_scan.specs.Standing.{IsClaimedAt, IsOnlyFrame, HasPlainFrame}
 use Rattle.scrub_scan.proofs.FrameBytes.{length-head_of, claimed_head}
@@ -52,9 +52,10 @@ claimed_frame x p h s b claim size is sealed between =
       has_frame = record { sixteen = claim.sixteen; short = omega (arith, size, claim.short) };
       fits = omega (arith, size, claim.fits);
       stands =
-          bytes_joined x.byte p (p + head_size) (head h.form h.uuid (length b))
+          subst (AreBytesAt x.byte p) (sym (frame_in_parts h.form h.uuid b))
+          (bytes_joined x.byte p (p + head_size) (head h.form h.uuid (length b))
           (seal h.form b ++ (b ++ (h.uuid ++ mark h.form)))
-          (omega (arith, length-head_of h.form h.uuid (length b) claim.sixteen)) start (rw is at middle);
+          (omega (arith, length-head_of h.form h.uuid (length b) claim.sixteen)) start (rw is at middle));
     }
 
 -- a plain one is there, if bytes of its length are

@@ -23,7 +23,7 @@ use Rattle.scrub_scan.specs.Tiling.{Joins, IsTiling}
 use Rattle.scrub_scan.specs.Findings.{tail, IsFindings}
 use Rattle.scrub_scan.specs.Scanned.{Scanned}
 use Rattle.scrub_scan.specs.AllFindings.{AreAllFindings}
-use Rattle.scrub_scan.proofs.FrameBytes.{length-head_of, bytes_front, from_payload}
+use Rattle.scrub_scan.proofs.FrameBytes.{length-head_of, bytes_front, from_payload, parts_stand}
 use Rattle.scrub_scan.proofs.Tilings.{advances}
 
 -- ---- frames
@@ -62,7 +62,7 @@ module _ (x : Extent) (p : ℕ) where
         short = k.has_frame.short;
         is =
             exactly x.byte p head_size (head f u (length b))
-            (bytes_front x.byte p (head f u (length b)) (seal f b ++ (b ++ (u ++ mark f))) k.stands) (sym lh);
+            (bytes_front x.byte p (head f u (length b)) (seal f b ++ (b ++ (u ++ mark f))) (parts_stand k)) (sym lh);
       }
 
       payload : payload_bytes ≡ b

@@ -220,7 +220,8 @@ impl Scanner {
         ensures found { (messages : List (List ℕ)) → Gathers batch.old messages [] → IfOk result (λ found.
             MatchOption found
             (NoFrameAt (target_of (D.image disk.now) target.now) start × Gathers batch.new messages [])
-            (λ m. IsScannedFrame (target_of (D.image disk.now) target.now) start trusts m messages batch.new)) }
+            (λ m. IsScannedFrame (target_of (D.image disk.now) target.now) start trusts m messages
+            batch.new)) }
         ensures fits { IfOk result (λ found. IfSome found (λ m.
             start + m.found.length + frame_overhead m.found.form ≤ target.now.pointer)) }
         ensures reads { IfOk result (λ found. ReadsFrameAt (D.image disk.now) target.now start

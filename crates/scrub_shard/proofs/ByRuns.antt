@@ -1,36 +1,30 @@
 -- If no extent is retired, a payload is lost exactly if no frame of the disk has what its locator asks for.
-use Rattle.std.proofs.Common.{◌≡◌, ◌↔◌, ◌<◌, ◌≤◌, ◌+◌, ◌-◌, ◌∷◌, [], ℕ, zero, suc, Bool, true, false, List, MatchBool, MatchOption, Option, None, Some, length, arith, refl, sym, ◌∙◌, ap, subst}
-use Rattle.std.specs.List.{All, Contains, cons_option, filter_map, range_with_len}
+use Rattle.std.proofs.Common.{◌≡◌, ◌⊎◌, inl, inr, ◌↔◌, ◌<◌, ◌≤◌, ◌+◌, ◌-◌, [], ℕ, zero, suc, Bool, true, false, List, MatchBool, MatchOption, Option, Some, length, arith, refl, sym, ◌∙◌, ap, subst}
+use Rattle.std.specs.List.{All, Contains, range_with_len}
 use Rattle.std.proofs.lemmas.Bool.{false≢true}
-use Rattle.std.proofs.lemmas.List.Elements.{All-append, All-cons, All-contains, All-head, All-nil, All-tail}
+use Rattle.std.proofs.lemmas.List.Elements.{All-contains}
 use Rattle.std.proofs.lemmas.List.FromFn.{get_or-range_with_len, length-range_with_len}
-use Rattle.std.proofs.lemmas.Option.{same_Some}
 use Rattle.scrub_disk.specs.Image.{Image}
 use Rattle.scrub_frame.specs.declared.locator.Locator.{Locator}
 use Rattle.scrub_super.specs.Plan.{PlanValue, pointer_of}
 use Rattle.scrub_super.specs.Planned.{extents_in_use}
 use Rattle.scrub_super.proofs.Plans.{all_kept, in_use_planned}
-use Rattle.scrub_scan.specs.declared.item.Item.{Item}
-use Rattle.scrub_scan.specs.declared.item.Item.TheVariants.{Chunk, Pad, Torn, Noise, Lost}
 use Rattle.scrub_scan.specs.declared.standing.Standing.{Standing}
-use Rattle.scrub_scan.specs.AllFindings.{extent_numbers}
-use Rattle.scrub_scan.specs.Scanned.{Scanned}
-use Rattle.scrub_scan.specs.Standing.{Stands}
 use Rattle.scrub_merge.specs.Binding.{BindingValue}
 use Rattle.scrub_check.specs.declared.statuses.checked.Checked.{Checked}
 use Rattle.scrub_check.specs.declared.statuses.status.Status.{Status}
-use Rattle.scrub_check.specs.declared.statuses.status.Status.TheVariants.{OutOfRange, Retired, PastPointer, Unreadable, NoFrame, WrongUuid, WrongLength, WrongDigest, Hidden, Sound}
+use Rattle.scrub_check.specs.declared.statuses.status.Status.TheVariants.{OutOfRange, Hidden, Sound}
 use Rattle.scrub_check.specs.Checked.{AreChecked, is_dangling}
 use Rattle.scrub_check.specs.ChunkRun.{StandsThere, standing_of}
 use Rattle.scrub_check.specs.Named.{named_by_shard}
-use Rattle.scrub_check.specs.Spares.{frame_of_item, frames, frames_in}
+use Rattle.scrub_check.specs.Spares.{frames}
 use Rattle.scrub_check.specs.Status.{HasStatus, HasStatusIn, HasStatusInRetired, is_retired}
 use Rattle.scrub_check.specs.WholeScan.{IsWholeScan}
 use Rattle.scrub_check.proofs.Payloads.{stands_there}
 use Rattle.scrub_loose.specs.Anywhere.{IsCrowded}
 use Rattle.scrub_loose.specs.Loose.{AreLoose, LooseValue}
 use Rattle.scrub_shard.specs.Shard.{IsMappedFrom, IsNowhere, IsOnNoExtent, Mapped, is_payload_lost}
-use Rattle.scrub_shard.proofs.Frames.{frames_stand}
+use Rattle.scrub_shard.proofs.Frames.{StandsPastZero, frames_there}
 use Rattle.scrub_shard.proofs.Lost.{not_dangling}
 use Rattle.scrub_shard.proofs.Nowhere.{lost, nowhere, whole_scan}
 
@@ -42,47 +36,6 @@ in_use extents e first below =
     subst (λ (xs : List ℕ). Contains xs e) (sym (all_kept extents))
     (e - 1, omega (arith, size, first, below), get_or-range_with_len 1 (extents - 1) (e - 1) e (omega (arith, first, below)) ∙ back)
 
--- ---- chunks of the tilings
-
-abbrev Behind : Standing → Type 0
-Behind s = 0 < s.extent
-
-of_item : (e : ℕ) (item : Item) (s : Standing) → 0 < e → frame_of_item e item ≡ Some s → Behind s
-of_item e (Chunk f start stop u n digest) s first is = subst Behind (same_Some _ s is) first
-of_item e (Pad start stop) s first is = absurd (nothing is)
-  where
-    nothing : None ≡ Some s → ⊥
-    nothing other = cc
-of_item e (Torn start stop) s first is = absurd (nothing is)
-  where
-    nothing : None ≡ Some s → ⊥
-    nothing other = cc
-of_item e (Noise start stop) s first is = absurd (nothing is)
-  where
-    nothing : None ≡ Some s → ⊥
-    nothing other = cc
-of_item e (Lost start stop) s first is = absurd (nothing is)
-  where
-    nothing : None ≡ Some s → ⊥
-    nothing other = cc
-
-of_items : (e : ℕ) (items : List Item) → 0 < e → All Behind (filter_map (frame_of_item e) items)
-of_items e [] first = All-nil Behind
-of_items e (item ∷ items) first = by (of_items e items first) (frame_of_item e item) refl
-  where
-    by : All Behind (filter_map (frame_of_item e) items) → (o : Option Standing) → frame_of_item e item ≡ o →
-        All Behind (cons_option o (filter_map (frame_of_item e) items))
-    by rest None is = rest
-    by rest (Some s) is = All-cons Behind s (filter_map (frame_of_item e) items) (of_item e item s first is) rest
-
-of_extents : (all : List Scanned) → All (λ (n : ℕ). 1 ≤ n) (extent_numbers all) → All Behind (frames all)
-of_extents [] first = All-nil Behind
-of_extents (f ∷ fs) first =
-    All-append Behind (frames_in f) (frames fs)
-    (of_items f.extent f.findings.items
-    (let one : 1 ≤ f.extent = All-head (λ (n : ℕ). 1 ≤ n) f.extent (extent_numbers fs) first in omega (arith, one)))
-    (of_extents fs (All-tail (λ (n : ℕ). 1 ≤ n) f.extent (extent_numbers fs) first))
-
 -- ---- locators that don't dangle
 
 -- extent 0 has no chunk that a locator names
@@ -91,20 +44,12 @@ not_first image plan l s sound status first =
     by (is_retired plan 0)
     (subst (λ (e : ℕ). MatchBool (is_retired plan e) (HasStatusInRetired image l s) (MatchOption (pointer_of plan e) (s ≡ OutOfRange) (λ w. HasStatus image w l s))) first status)
   where
-    in_retired : (t : Status) → is_dangling t ≡ false → HasStatusInRetired image l t → ⊥
-    in_retired OutOfRange fine h = false≢true (sym fine)
-    in_retired Retired fine h = false≢true (sym fine)
-    in_retired PastPointer fine h = h
-    in_retired Unreadable fine h = h
-    in_retired NoFrame fine h = h
-    in_retired WrongUuid fine h = h
-    in_retired WrongLength fine h = h
-    in_retired WrongDigest fine h = h
-    in_retired Hidden fine h = h
-    in_retired Sound fine h = h
+    in_retired : (t : Status) → (t ≡ Sound) ⊎ (t ≡ Hidden) → HasStatusInRetired image l t → ⊥
+    in_retired t (inl is) h = subst (λ (u : Status). HasStatusInRetired image l u) is h
+    in_retired t (inr is) h = subst (λ (u : Status). HasStatusInRetired image l u) is h
 
     by : (b : Bool) → MatchBool b (HasStatusInRetired image l s) (s ≡ OutOfRange) → ⊥
-    by true h = in_retired s sound h
+    by true h = in_retired s (not_dangling s sound) h
     by false h = false≢true (sym sound ∙ ap is_dangling h)
 
 module _ (given : Option (List Locator)) (image : Image) (m : Mapped) (mapped : IsMappedFrom given image m) (v : LooseValue)
@@ -143,8 +88,8 @@ module _ (given : Option (List Locator)) (image : Image) (m : Mapped) (mapped : 
         no_chunk = λ s among same.
             x.no_frame s
             (record {
-              behind = All-contains Behind (frames m.all) s (of_extents m.all numbers) among;
-              stands = All-contains (Stands image) (frames m.all) s (frames_stand image m.plan m.all whole) among;
+              behind = (let one : 1 ≤ s.extent = (there s among).1 in omega (arith, one));
+              stands = (there s among).0;
             })
             same;
         no_frame = λ s used same.
@@ -157,8 +102,8 @@ module _ (given : Option (List Locator)) (image : Image) (m : Mapped) (mapped : 
             same;
       })
     where
-      numbers : All (λ (n : ℕ). 1 ≤ n) (extent_numbers m.all)
-      numbers = subst (λ (ns : List ℕ). All (λ n. 1 ≤ n) ns) (sym whole.findings.extents) from_one
+      there : (s : Standing) → Contains (frames m.all) s → StandsPastZero image s
+      there s among = All-contains (StandsPastZero image) (frames m.all) s (frames_there image m.plan m.all whole) among
 
       behind : is_dangling c.status ≡ false → (n : ℕ) → c.locator.extent ≡ n → 0 < c.locator.extent
       behind sound zero e = absurd (not_first image m.plan c.locator c.status sound status e)

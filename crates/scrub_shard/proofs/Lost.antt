@@ -1,11 +1,11 @@
 -- Which locators have no payload: the first of them, and that all others have one that can be read.
-use Rattle.std.proofs.Common.{◌≡◌, ◌⊎◌, ◌<◌, ◌≤◌, ◌+◌, ◌==◌, ◌&&◌, ◌++◌, ◌∷◌, [], ℕ, Bool, true, false, not, List, MatchBool, Some, None, length, get_or, nat_lt, cond, if◌then◌else◌, arith, inl, inr, refl, sym, ap, subst}
+use Rattle.std.proofs.Common.{◌≡◌, ◌⊎◌, ◌<◌, ◌≤◌, ◌+◌, ◌==◌, ◌&&◌, ◌++◌, ◌∷◌, [], ℕ, suc, Bool, true, false, not, List, MatchBool, Some, None, length, get_or, nat_lt, cond, if◌then◌else◌, arith, inl, inr, refl, sym, ◌∙◌, ap, subst}
 use Rattle.std.proofs.Math.Path.{ap₂}
 use Rattle.std.specs.List.{All, filter, position, position_or_len}
 use Rattle.std.proofs.lemmas.Bool.{false≢true}
 use Rattle.std.proofs.lemmas.Bool.Decides.{nat_tests}
 use Rattle.std.proofs.lemmas.Option.{none-some, same_Some}
-use Rattle.std.proofs.lemmas.List.Elements.{All-append, All-contains_itself, All-filter, All-head, All-nil, All-tail}
+use Rattle.std.proofs.lemmas.List.Elements.{All-append, All-contains_itself, All-filter, All-nil}
 use Rattle.std.proofs.lemmas.List.Sums.{fails_before_first, passes_at_first}
 use Rattle.scrub_disk.specs.Image.{Image}
 use Rattle.scrub_super.specs.Plan.{PlanValue}
@@ -14,13 +14,14 @@ use Rattle.scrub_scan.specs.Scanned.{Scanned}
 use Rattle.scrub_scan.specs.Standing.{Stands}
 use Rattle.scrub_check.specs.declared.statuses.checked.Checked.{Checked}
 use Rattle.scrub_check.specs.declared.statuses.status.Status.{Status}
-use Rattle.scrub_check.specs.declared.statuses.status.Status.TheVariants.{OutOfRange, Retired, PastPointer, Unreadable, NoFrame, WrongUuid, WrongLength, WrongDigest, Hidden, Sound}
+use Rattle.scrub_check.specs.declared.statuses.status.Status.TheVariants.{Hidden, Sound}
 use Rattle.scrub_check.specs.Checked.{HaveStatuses, is_dangling}
 use Rattle.scrub_check.specs.ChunkRun.{StandsThere}
 use Rattle.scrub_check.specs.Spares.{asks_for_spares, copies_of, frames, is_copy_of, spares_of}
 use Rattle.scrub_check.specs.Status.{HasStatusIn}
 use Rattle.scrub_check.specs.WholeScan.{IsWholeScan}
 use Rattle.scrub_check.proofs.Payloads.{stands_there}
+use Rattle.scrub_check.proofs.StatusKinds.{status_kinds}
 use Rattle.scrub_loose.specs.Copies.{CopiesValue, copies_by}
 use Rattle.scrub_loose.specs.Loose.{AreCopies, AreLoose, LooseValue, copies_for, is_gone, loose_of}
 use Rattle.scrub_shard.specs.Shard.{asks_for_nothing, first_lost, is_payload_lost}
@@ -52,15 +53,24 @@ first_passes {X} p xs n d is = by (nat_lt (position_or_len p xs) (length xs)) re
         subst (λ (m : ℕ). (m < length xs) × (p (get_or xs m d) ≡ true)) (same_Some (position_or_len p xs) n e)
         (within, passes_at_first p xs d within)
 
--- two tests that agree on all elements have the same first
-lengths_agree : {X : Type 0} (p q : X → Bool) (xs : List X) → All (λ x. p x ≡ q x) xs → position_or_len p xs ≡ position_or_len q xs
-lengths_agree p q [] same = refl
-lengths_agree {X} p q (x ∷ xs) same =
-    (λ i. cond (not (All-head (λ (y : X). p y ≡ q y) x xs same i)) (1 + lengths_agree p q xs (All-tail (λ (y : X). p y ≡ q y) x xs same) i) 0)
+-- two tests that agree place by place, on two lists
+places : {X : Type 0} (p q : X → Bool) (xs ys : List X) → length xs ≡ length ys →
+    ((k : ℕ) (d : X) → k < length xs → p (get_or xs k d) ≡ q (get_or ys k d)) → position_or_len p xs ≡ position_or_len q ys
+places p q [] [] size same = refl
+places p q [] (y ∷ ys) size same = absurd (omega (arith, size))
+places p q (x ∷ xs) [] size same = absurd (omega (arith, size))
+places {X} p q (x ∷ xs) (y ∷ ys) size same =
+    let first : p x ≡ q y = same 0 x (omega arith) in
+    let rest : position_or_len p xs ≡ position_or_len q ys =
+    places p q xs ys (omega (arith, size)) (λ k d below. same (suc k) d (omega (arith, below))) in
+    λ i. cond (not (first i)) (1 + rest i) 0
 
-firsts_agree : {X : Type 0} (p q : X → Bool) (xs : List X) → All (λ x. p x ≡ q x) xs → position p xs ≡ position q xs
-firsts_agree p q xs same =
-    ap (λ (n : ℕ). cond (nat_lt n (length xs)) (Some n) None) (lengths_agree p q xs same)
+-- So they have the same first.
+pub same_place : {X : Type 0} (p q : X → Bool) (xs ys : List X) → length xs ≡ length ys →
+    ((k : ℕ) (d : X) → k < length xs → p (get_or xs k d) ≡ q (get_or ys k d)) → position p xs ≡ position q ys
+same_place p q xs ys size same =
+    let at : position_or_len p xs ≡ position_or_len q ys = places p q xs ys size same in
+    λ i. cond (nat_lt (at i) (size i)) (Some (at i)) None
 
 -- ---- the locators of an entry
 
@@ -75,7 +85,7 @@ have_copies image plan all own found are k d below =
 pub same_lost : (all : List Scanned) (loose : List Standing) (found : CopiesValue) (own : List Checked) →
     All (HasItsCopies all loose found) own → position (is_lost_by found) own ≡ first_lost all loose own
 same_lost all loose found own same =
-    firsts_agree (is_lost_by found) (is_payload_lost all loose) own
+    same_place (is_lost_by found) (is_payload_lost all loose) own own refl
     (λ k d below.
     ap
     (λ (ss : List Standing). not (asks_for_nothing (get_or own k d).locator) && (is_dangling (get_or own k d).status && (length ss == 0)))
@@ -83,16 +93,11 @@ same_lost all loose found own same =
 
 -- a locator that doesn't dangle is sound or hidden
 pub not_dangling : (s : Status) → is_dangling s ≡ false → (s ≡ Sound) ⊎ (s ≡ Hidden)
-not_dangling OutOfRange e = absurd (false≢true (sym e))
-not_dangling Retired e = absurd (false≢true (sym e))
-not_dangling PastPointer e = absurd (false≢true (sym e))
-not_dangling Unreadable e = absurd (false≢true (sym e))
-not_dangling NoFrame e = absurd (false≢true (sym e))
-not_dangling WrongUuid e = absurd (false≢true (sym e))
-not_dangling WrongLength e = absurd (false≢true (sym e))
-not_dangling WrongDigest e = absurd (false≢true (sym e))
-not_dangling Hidden e = inr refl
-not_dangling Sound e = inl refl
+not_dangling s e = elim (status_kinds s) [
+  | inl sound ↦ inl sound
+  | inr (inl hidden) ↦ inr hidden
+  | inr (inr dangles) ↦ absurd (false≢true (sym e ∙ dangles))
+]
 
 -- the loose frames of an image stand in it
 pub loose_frames_stand : (image : Image) (plan : PlanValue) (v : LooseValue) → AreLoose [] image plan v → All (Stands image) v.frames

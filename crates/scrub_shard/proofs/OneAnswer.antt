@@ -1,10 +1,11 @@
 -- There is one answer for each shard of an image, since what is found on it up to its shard map is unique.
 use Rattle.std.proofs.Common.{◌≡◌, ◌<◌, ◌∷◌, [], ℕ, Bool, true, false, List, MatchBool, Option, length, get_or, arith, inl, inr, refl, sym, ◌∙◌, ap, subst}
-use Rattle.std.proofs.Math.Path.{ap₂}
-use Rattle.std.specs.List.{AllZip, Contains, flat_map}
+use Rattle.std.specs.List.{Contains, flat_map}
 use Rattle.std.proofs.lemmas.Bool.{cases_lt}
 use Rattle.std.proofs.lemmas.List.{get_or_default}
 use Rattle.std.proofs.lemmas.Option.{none-some, same_Some}
+use Rattle.list_facts.proofs.Zips.{AllZip-same_seconds}
+use Rattle.list_facts.proofs.OneAnswers.{same_answer}
 use Rattle.scrub_disk.specs.Image.{Image, extent_bytes}
 use Rattle.scrub_frame.specs.declared.locator.Locator.{Locator}
 use Rattle.scrub_super.proofs.Laws.{one_choice_lem}
@@ -17,7 +18,7 @@ use Rattle.scrub_run.specs.Entry.{IsBelow}
 use Rattle.scrub_merge.specs.Binding.{BindingValue}
 use Rattle.scrub_merge.specs.ShardMap.{AreBindings}
 use Rattle.scrub_merge.proofs.Identifiers.{not_below_itself}
-use Rattle.scrub_merge.proofs.Maps.{one_shard_map_lem}
+use Rattle.scrub_merge.proofs.Maps.{bindings_of, one_shard_map_lem}
 use Rattle.scrub_check.specs.declared.statuses.checked.Checked.{Checked}
 use Rattle.scrub_check.specs.Checked.{is_dangling}
 use Rattle.scrub_check.specs.ChunkRun.{HasPayloadThere}
@@ -26,8 +27,8 @@ use Rattle.scrub_loose.specs.Loose.{LooseValue, copies_for}
 use Rattle.scrub_loose.proofs.OneLoose.{one_loose}
 use Rattle.scrub_check.proofs.Payloads.{one_payload}
 use Rattle.scrub_check.proofs.CheckedLists.{one_list_of_checked}
-use Rattle.scrub_found.proofs.OneIndex.{one_list_of_runs, read_runs_are_runs}
-use Rattle.scrub_found.proofs.GivenPlans.{one_plan_from}
+use Rattle.scrub_check.proofs.IndexRuns.{one_list_of_runs, read_runs_are_runs}
+use Rattle.scrub_found.proofs.GivenPlans.{the_plan_from}
 use Rattle.scrub_found.proofs.OneReader.{one_reader}
 use Rattle.scrub_shard.specs.Bytes.{BytesValue}
 use Rattle.scrub_shard.specs.Shard.{AreBytesFor, HasFirstPayload, IsAnswerBy, IsAnswerIn, IsEntryAnswer, IsBoundBy, IsMappedFrom, IsPayloadFor, IsShardAnswerFrom, Mapped, asks_for_nothing}
@@ -50,7 +51,7 @@ one_mapped given image s t x y = λ i. record {
     choice = one_choice_lem image s.choice t.choice x.choice y.choice
 
     plan : s.plan ≡ t.plan
-    plan = one_plan_from given [] t.choice s.plan t.plan (rw choice at x.plan) y.plan
+    plan = same_answer (the_plan_from given [] t.choice) s.plan t.plan (rw choice at x.plan) y.plan
 
     all : s.all ≡ t.all
     all = one_reader image t.plan s.all t.all (rw plan at x.all) y.all
@@ -112,19 +113,9 @@ module _ (image : Image) (all : List Scanned) (loose : List Standing) where
       asked true x y = x ∙ sym y
       asked false x y = by (is_dangling c.status) x y
 
-  one_list : (own : List Checked) (ps qs : List (List ℕ)) → AllZip (IsPayloadFor image all loose) own ps →
-      AllZip (IsPayloadFor image all loose) own qs → ps ≡ qs
-  one_list [] [] [] x y = refl
-  one_list [] [] (q ∷ qs) x y = absurd y
-  one_list [] (p ∷ ps) qs x y = absurd x
-  one_list (c ∷ cs) [] qs x y = absurd x
-  one_list (c ∷ cs) (p ∷ ps) [] x y = absurd y
-  one_list (c ∷ cs) (p ∷ ps) (q ∷ qs) x y =
-      ap₂ (λ (b : List ℕ) bs. b ∷ bs) (one_payload_for c p q x.0 y.0) (one_list cs ps qs x.1 y.1)
-
   one_bytes : (own : List Checked) (a b : List ℕ) → AreBytesFor image all loose own a → AreBytesFor image all loose own b → a ≡ b
   one_bytes own a b x y =
-      x.joined ∙ ap (flat_map (λ (p : List ℕ). p)) (one_list own x.payloads y.payloads x.each y.each) ∙ sym y.joined
+      x.joined ∙ ap (flat_map (λ (p : List ℕ). p)) (AllZip-same_seconds (IsPayloadFor image all loose) one_payload_for own x.payloads y.payloads x.each y.each) ∙ sym y.joined
 
 same_found : (a b : BytesValue) → a.bytes ≡ b.bytes → a.is_doubtful ≡ b.is_doubtful → a ≡ b
 same_found a b bytes doubt = λ i. record { bytes = bytes i; is_doubtful = doubt i }
@@ -145,7 +136,7 @@ one_by image all loose doubtful own (Found f) (Found g) x y =
 one_of_entry : (given : Option (List Locator)) (image : Image) (m : Mapped) (id : ShardId) (a b : ShardAnswer) (v w : BindingValue) → IsMappedFrom given image m →
     IsBoundBy m.bindings id v → IsEntryAnswer image m.plan m.all v a → IsBoundBy m.bindings id w → IsEntryAnswer image m.plan m.all w b → a ≡ b
 one_of_entry given image m id a b v w mapped bound x also y =
-    let same : w ≡ v = one_bound m.bindings id w v mapped.bindings.bindings_of_map also bound in
+    let same : w ≡ v = one_bound m.bindings id w v (bindings_of mapped.bindings) also bound in
     let z : IsEntryAnswer image m.plan m.all v b = subst (λ (u : BindingValue). IsEntryAnswer image m.plan m.all u b) same y in
     let own : z.own ≡ x.own = one_list_of_checked image m.plan (named_by_shard v) z.own x.own z.checked x.checked in
     let loose : z.loose ≡ x.loose = one_loose [] image m.plan z.loose x.loose z.are_loose x.are_loose in

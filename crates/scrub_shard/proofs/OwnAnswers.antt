@@ -1,6 +1,6 @@
 -- If no extent is retired, the answers by the superblock's own list of index runs are as those by the superblock.
-use Rattle.std.proofs.Common.{◌≡◌, ◌<◌, ◌+◌, ◌∷◌, [], ℕ, suc, Bool, true, false, not, cond, nat_lt, List, None, Some, length, map, get_or, arith, refl, sym, ◌∙◌, ap, subst}
-use Rattle.std.specs.List.{All, position, position_or_len}
+use Rattle.std.proofs.Common.{◌≡◌, ◌<◌, [], ℕ, Bool, true, false, List, None, Some, length, map, get_or, arith, refl, sym, ◌∙◌, ap, subst}
+use Rattle.std.specs.List.{All}
 use Rattle.std.proofs.lemmas.Bool.{false≢true}
 use Rattle.std.proofs.lemmas.List.{length-map}
 use Rattle.std.proofs.lemmas.List.Elements.{All-contains, All-contains_itself}
@@ -9,6 +9,7 @@ use Rattle.scrub_disk.specs.Image.{Image}
 use Rattle.scrub_frame.specs.declared.locator.Locator.{Locator}
 use Rattle.scrub_super.specs.Plan.{PlanValue}
 use Rattle.scrub_run.specs.declared.shard_id.ShardId.{ShardId}
+use Rattle.scrub_merge.proofs.Maps.{bindings_of}
 use Rattle.scrub_merge.specs.Binding.{BindingValue}
 use Rattle.scrub_check.specs.declared.named.Named.{Named}
 use Rattle.scrub_check.specs.declared.runs.RunState.TheVariants.{Read}
@@ -24,29 +25,9 @@ use Rattle.scrub_shard.specs.declared.shard.ShardAnswer.{ShardAnswer}
 use Rattle.scrub_shard.specs.declared.shard.ShardAnswer.TheVariants.{NoSuchShard, PayloadLost, Found}
 use Rattle.scrub_shard.proofs.ByRuns.{is_lost, on_none}
 use Rattle.scrub_shard.proofs.Contents.{bytes_are_asked_for}
+use Rattle.scrub_shard.proofs.Lost.{same_place}
 use Rattle.scrub_shard.proofs.OneAnswer.{one_bound, one_mapped}
 use Rattle.scrub_shard.proofs.OwnList.{same_bindings, same_locator}
-
--- ---- the first that passes
-
--- two tests that agree place by place, on two lists
-places : {X : Type 0} (p q : X → Bool) (xs ys : List X) → length xs ≡ length ys →
-    ((k : ℕ) (d : X) → k < length xs → p (get_or xs k d) ≡ q (get_or ys k d)) → position_or_len p xs ≡ position_or_len q ys
-places p q [] [] size same = refl
-places p q [] (y ∷ ys) size same = absurd (omega (arith, size))
-places p q (x ∷ xs) [] size same = absurd (omega (arith, size))
-places {X} p q (x ∷ xs) (y ∷ ys) size same =
-    let first : p x ≡ q y = same 0 x (omega arith) in
-    let rest : position_or_len p xs ≡ position_or_len q ys =
-    places p q xs ys (omega (arith, size)) (λ k d below. same (suc k) d (omega (arith, below))) in
-    λ i. cond (not (first i)) (1 + rest i) 0
-
--- so they have the same first
-same_place : {X : Type 0} (p q : X → Bool) (xs ys : List X) → length xs ≡ length ys →
-    ((k : ℕ) (d : X) → k < length xs → p (get_or xs k d) ≡ q (get_or ys k d)) → position p xs ≡ position q ys
-same_place p q xs ys size same =
-    let at : position_or_len p xs ≡ position_or_len q ys = places p q xs ys size same in
-    λ i. cond (nat_lt (at i) (size i)) (Some (at i)) None
 
 same_test : (a b : Bool) → (a ≡ true → b ≡ true) → (b ≡ true → a ≡ true) → a ≡ b
 same_test true b there back = sym (there refl)
@@ -105,7 +86,7 @@ module _ (image : Image) (m : Mapped) (mapped : IsMapped image m) (read : All (�
       (x : IsEntryAnswer image m.plan m.all b r) → (y : IsEntryAnswer image own.plan own.all c s) →
       first_lost m.all x.loose.frames x.own ≡ first_lost own.all y.loose.frames y.own
   same_firsts id b c r s bound also x y =
-      let entries : c ≡ b = one_bound m.bindings id c b mapped.bindings.bindings_of_map (in_mine id c also) bound in
+      let entries : c ≡ b = one_bound m.bindings id c b (bindings_of mapped.bindings) (in_mine id c also) bound in
       same_losses b x.own y.own x.loose y.loose x.checked
       (subst (λ (v : BindingValue). AreChecked image own.plan (named_by_shard v) y.own) entries y.checked) x.are_loose y.are_loose
 
@@ -127,7 +108,7 @@ are_alike image m mapped read sparse none id a b x y = by a b mine y.answer
         let there : IsBoundBy m.bindings id c.entry =
         subst (λ (n : Mapped). IsBoundBy n.bindings id c.entry) (one_mapped None image c.found m c.mapped mapped) c.bound in
         subst (λ (w : BindingValue). HaveContentsOf w.locators f.bytes)
-        (one_bound m.bindings id c.entry v mapped.bindings.bindings_of_map there bound) c.contents
+        (one_bound m.bindings id c.entry v (bindings_of mapped.bindings) there bound) c.contents
 
     other_contents : (g : BytesValue) → IsShardAnswerFrom (Some m.plan.runs) image id (Found g) → (v : BindingValue) → IsBoundBy m.bindings id v →
         HaveContentsOf v.locators g.bytes
@@ -135,7 +116,7 @@ are_alike image m mapped read sparse none id a b x y = by a b mine y.answer
         let c : HaveContentsOfEntryFrom (Some m.plan.runs) image id g.bytes = bytes_are_asked_for (Some m.plan.runs) image id g z in
         let there : IsBoundBy m.bindings id c.entry = in_mine image m mapped read sparse none c.found c.mapped id c.entry c.bound in
         subst (λ (w : BindingValue). HaveContentsOf w.locators g.bytes)
-        (one_bound m.bindings id c.entry v mapped.bindings.bindings_of_map there bound) c.contents
+        (one_bound m.bindings id c.entry v (bindings_of mapped.bindings) there bound) c.contents
 
     by : (r s : ShardAnswer) → IsAnswerIn image m id r →
         IsAnswerIn image y.found id s → AreAlike m id r s
@@ -161,6 +142,6 @@ are_alike image m mapped read sparse none id a b x y = by a b mine y.answer
       same_doubt =
           q.2.answer.2
           ∙ ap (λ (v : BindingValue). v.doubtful)
-          (one_bound m.bindings id q.0 p.0 mapped.bindings.bindings_of_map (in_mine image m mapped read sparse none y.found y.mapped id q.0 q.1) p.1)
+          (one_bound m.bindings id q.0 p.0 (bindings_of mapped.bindings) (in_mine image m mapped read sparse none y.found y.mapped id q.0 q.1) p.1)
           ∙ sym p.2.answer.2;
     }

@@ -16,7 +16,7 @@ use Rattle.scrub_super.proofs.PlansFit.{plan_fits}
 use Rattle.scrub_run.specs.declared.shard_id.ShardId.{ShardId}
 use Rattle.scrub_run.specs.Entry.{EntryValue}
 use Rattle.scrub_merge.specs.Binding.{BindingValue, Runs}
-use Rattle.scrub_merge.proofs.Maps.{one_shard_map_lem}
+use Rattle.scrub_merge.proofs.Maps.{bindings_of, one_shard_map_lem}
 use Rattle.scrub_check.specs.declared.named.Named.{Named}
 use Rattle.scrub_check.specs.declared.runs.RunState.{RunState}
 use Rattle.scrub_check.specs.declared.runs.RunState.TheVariants.{Read, NotARun}
@@ -27,7 +27,7 @@ use Rattle.scrub_check.specs.Named.{named_by_shard}
 use Rattle.scrub_check.specs.Runs.{HasRunIn, NamesChunkIn}
 use Rattle.scrub_check.specs.Status.{HasStatusIn, is_retired}
 use Rattle.scrub_check.proofs.Payloads.{lost_in, read_in, within}
-use Rattle.scrub_found.proofs.OneIndex.{one_list_of_runs, read_runs_are_runs}
+use Rattle.scrub_check.proofs.IndexRuns.{one_list_of_runs, read_runs_are_runs}
 use Rattle.scrub_loose.specs.Anywhere.{IsCrowded}
 use Rattle.scrub_shard.specs.Bytes.{BytesValue}
 use Rattle.scrub_shard.specs.Shard.{HasBytesByOwnList, HaveContentsOf, HaveContentsOfEntryFrom, IsBoundBy, IsEntryAnswer, IsMapped, IsMappedFrom, IsShardAnswer, IsShardAnswerFrom, IsOnNoExtent, Mapped, first_lost, is_payload_lost}
@@ -187,12 +187,12 @@ module _ (image : Image) (m : Mapped) (mapped : IsMapped image m) (read : All (�
           let c : HaveContentsOfEntryFrom None image id f.bytes = bytes_are_asked_for None image id f x in
           let there : IsBoundBy m.bindings id c.entry = subst (λ (n : Mapped). IsBoundBy n.bindings id c.entry) (one_mapped None image c.found m c.mapped mapped) c.bound in
           subst (λ (v : BindingValue). HaveContentsOf v.locators f.bytes)
-          (one_bound m.bindings id c.entry b mapped.bindings.bindings_of_map there bound) c.contents
+          (one_bound m.bindings id c.entry b (bindings_of mapped.bindings) there bound) c.contents
 
       -- an entry by the own list is this one
       same_entry : (own : Mapped) → IsMappedFrom (Some m.plan.runs) image own → (v : BindingValue) → IsBoundBy own.bindings id v → v ≡ b
       same_entry own listed v there =
-          one_bound m.bindings id v b mapped.bindings.bindings_of_map
+          one_bound m.bindings id v b (bindings_of mapped.bindings)
           (subst (λ (bs : List BindingValue). IsBoundBy bs id v) (same_bindings image m own mapped listed read) there) bound
 
       lost_there : (own : Mapped) → IsMappedFrom (Some m.plan.runs) image own → (number : ℕ) → IsEntryAnswer image own.plan own.all b (PayloadLost number) → ⊥

@@ -1,5 +1,5 @@
-//! The bytes of one shard of a disk, or of all its shards: the payloads of a shard's chunks, each from its own
-//! place, from a spare or from a loose copy.
+//! The bytes of one shard of a disk, or of all its shards: the payloads of a shard's chunks, each from its
+//! own place, from a spare or from a loose copy.
 #![tactic(auto)]
 
 pub mod archiving;

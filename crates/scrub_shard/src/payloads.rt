@@ -1,5 +1,5 @@
-//! The payloads for the locators of a shard: each from the locator's own place, or else from its first spare, or
-//! else from its first loose copy. An empty payload is read nowhere.
+//! The payloads for the locators of a shard: each from the locator's own place, or else from its first spare,
+//! or else from its first loose copy. An empty payload is read nowhere.
 
 ghost use Rattle.std.specs.Prelude.{◌≡◌, All, IfOk};
 ghost use Rattle.std.specs.List.{list_any, position};

@@ -14,8 +14,8 @@ use std::alloc::Global;
 use std::sync::Wait;
 use std::thread::Threads;
 
-/// Scans a disk by this many workers beside the caller, and returns what is said of its superblocks, and which
-/// extents each of them took.
+/// Scans a disk by this many workers beside the caller, and returns what is said of its superblocks, and
+/// which extents each of them took.
 pub(crate) fn scan_with_remarks<'d, D: PageSource, G: Gate, R: Threads + Wait + Sync>(
     rt: &R,
     alloc: Global,

@@ -22,7 +22,8 @@ ghost use Rattle.scrub_shard.specs.Bytes.{BytesValue};
 ghost use Rattle.scrub_shard.specs.Shard.{AreAlike, EachRunIsRead, HasBytesByOwnList, HaveContentsOfEntry};
 ghost use Rattle.scrub_shard.specs.Shard.{HaveContentsOfEntryFrom, IsEntryAnswer, IsLostInEntry};
 ghost use Rattle.scrub_shard.specs.Shard.{IsLostInEntryFrom, IsMapped};
-ghost use Rattle.scrub_shard.specs.Shard.{IsMappedFrom, IsOnNoExtent, IsShardAnswer, IsShardAnswerFrom, Mapped};
+ghost use Rattle.scrub_shard.specs.Shard.{IsMappedFrom, IsOnNoExtent, IsShardAnswer, IsShardAnswerFrom};
+ghost use Rattle.scrub_shard.specs.Shard.{Mapped};
 ghost use Rattle.scrub_shard.specs.Shard.{NoExtentIsCrowded, is_payload_lost};
 ghost use Rattle.scrub_shard.specs.steps.Payloads.{HasPayloadUnlessLost, IsAnswerWith};
 ghost use Rattle.scrub_shard.specs.declared.shard.ShardAnswer.{ShardAnswer};
@@ -89,8 +90,8 @@ impl ShardBytes {
 pub enum ShardAnswer {
     /// The shard map has no such shard: its newest readable entry says deleted, or no readable run has one.
     NoSuchShard,
-    /// The payload for the locator of this number, from 0 in the order of the entry, is lost: the locator asks
-    /// for bytes, dangles and has no copy, neither a spare nor a loose one. It is the first such.
+    /// The payload for the locator of this number, from 0 in the order of the entry, is lost: the locator
+    /// asks for bytes, dangles and has no copy, neither a spare nor a loose one. It is the first such.
     PayloadLost(usize),
     /// The payloads of all its locators.
     Found(ShardBytes),
@@ -179,10 +180,10 @@ fn shard_of<R: Threads + Sync, D: PageSource>(
 }
 
 /// Reads a shard of a disk, by its newest entry in the index runs that can be read, with what is said of the
-/// superblocks, and returns which extents the caller and each worker took. It scans as `scrub` does, with this
-/// many workers (0 to 64) beside the caller. The bytes of the extents in use are read once more if a locator of
-/// the entry dangles, asks for bytes and has no spare. The only fault is `OutOfMemory`, returned once every
-/// started worker has ended.
+/// superblocks, and returns which extents the caller and each worker took. It scans as `scrub` does, with
+/// this many workers (0 to 64) beside the caller. The bytes of the extents in use are read once more if a
+/// locator of the entry dangles, asks for bytes and has no spare. The only fault is `OutOfMemory`, returned
+/// once every started worker has ended.
 pub fn read_shard<D: PageSource, G: Gate, R: Threads + Wait + Sync>(
     rt: &R,
     alloc: Global,
@@ -201,9 +202,9 @@ pub fn read_shard<D: PageSource, G: Gate, R: Threads + Wait + Sync>(
     Ok((ShardReading { answer, remarks }, takings))
 }
 
-/// Reads a shard of a disk, as `read_shard` does, but as if one superblock counted that lists these index runs,
-/// newest first and fewer than 2^32, retires nothing, and has each write pointer at its extent's end. What is in
-/// extent 0 doesn't matter, so nothing is said of superblocks.
+/// Reads a shard of a disk, as `read_shard` does, but as if one superblock counted that lists these index
+/// runs, newest first and fewer than 2^32, retires nothing, and has each write pointer at its extent's end.
+/// What is in extent 0 doesn't matter, so nothing is said of superblocks.
 pub fn read_shard_by_runs<D: PageSource, G: Gate, R: Threads + Wait + Sync>(
     rt: &R,
     alloc: Global,
@@ -244,8 +245,8 @@ pub fn bytes_are_as_the_entry_says()
 {}
 
 /// A law: the payload for a locator is lost exactly if it is the first of its entry whose length and SHA-256
-/// aren't those of no bytes, which dangles, and whose length and SHA-256 no chunk in the tiling of an extent in
-/// use has, and no frame at any byte of an extent in use that isn't crowded.
+/// aren't those of no bytes, which dangles, and whose length and SHA-256 no chunk in the tiling of an extent
+/// in use has, and no frame at any byte of an extent in use that isn't crowded.
 pub fn a_lost_payload_is_nowhere()
     ensures by_superblock { (image : Image) (id : ShardId) (number : ℕ) →
         IsShardAnswer image id (PayloadLost number) ↔ IsLostInEntry image id number }
@@ -271,9 +272,9 @@ pub fn a_lost_payload_is_on_no_extent()
         (is_payload_lost m.all loose.frames c ≡ true) ↔ IsOnNoExtent image c.locator }
 {}
 
-/// A law: if each index run of the superblock that counts is read, then with this list of runs given the shard
-/// map is the same, and each locator that is sound or hidden is one of these; and if no extent is crowded,
-/// each shard that has bytes has bytes, with the same lengths and SHA-256.
+/// A law: if each index run of the superblock that counts is read, then with this list of runs given the
+/// shard map is the same, and each locator that is sound or hidden is one of these; and if no extent is
+/// crowded, each shard that has bytes has bytes, with the same lengths and SHA-256.
 pub fn the_own_list_gives_each_shard()
     ensures map { (image : Image) (m own : Mapped) → IsMapped image m → EachRunIsRead m →
         IsMappedFrom (Some m.plan.runs) image own → own.bindings ≡ m.bindings }
@@ -281,8 +282,8 @@ pub fn the_own_list_gives_each_shard()
         IsMappedFrom (Some m.plan.runs) image own → (l : Locator) (s t : Status) →
         HasStatusIn image m.plan l s → HasStatusIn image own.plan l t → is_dangling s ≡ false →
         is_dangling t ≡ false }
-    ensures bytes { (image : Image) (m : Mapped) → IsMapped image m → EachRunIsRead m → NoExtentIsCrowded image →
-        (id : ShardId) (found : BytesValue) → IsShardAnswer image id (Found found) →
+    ensures bytes { (image : Image) (m : Mapped) → IsMapped image m → EachRunIsRead m →
+        NoExtentIsCrowded image → (id : ShardId) (found : BytesValue) → IsShardAnswer image id (Found found) →
         HasBytesByOwnList image m id found }
 {}
 

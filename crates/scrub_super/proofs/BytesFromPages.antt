@@ -1,32 +1,33 @@
 -- The search in extent 0 from its last page to its first: the bytes from a page on, and what is found there.
-use Rattle.std.proofs.Common.{◌≡◌, ◌<◌, ◌≤◌, ◌+◌, ◌*◌, ◌-◌, ◌/◌, ℕ, List, [], Bool, true, false, eqb, filter, is_none, not, length, take, drop, get_or, set, arith, refl, sym, ◌∙◌, ap, subst, Option, Some, None, inl, inr, MatchOption, option_map, min, length-append, length-take}
+use Rattle.std.proofs.Common.{◌≡◌, ◌<◌, ◌≤◌, ◌+◌, ◌*◌, ◌-◌, ◌/◌, ℕ, List, [], Bool, false, eqb, filter, is_none, not, length, length-set, take, drop, get_or, set, arith, refl, sym, ◌∙◌, ap, subst, Option, Some, None, inl, inr, MatchOption, option_map, min, length-append, length-take}
 use Rattle.std.specs.List.{range_with_len}
-use Rattle.std.proofs.lemmas.Bool.{cases_lt, le-ltb}
+use Rattle.std.proofs.lemmas.Bool.{cases_lt, le-ltb, lt-ltb}
 use Rattle.std.proofs.lemmas.Option.{same_Some, none-some}
-use Rattle.std.proofs.lemmas.Grind.{get_or-set_at}
-use Rattle.std.proofs.lemmas.List.{get_or_append_left, get_or-set_other, get_or-take}
+use Rattle.std.proofs.lemmas.Grind.{get_or-set_at, same_number_lists}
+use Rattle.std.proofs.lemmas.List.{get_or_append_left, get_or-set_other, get_or-take, length-take-le}
 use Rattle.std.proofs.lemmas.List.Prefix.{front_from_reads}
 use Rattle.std.proofs.Math.Nat.{mul-le-mul_right, mul-div_cancel}
 use Rattle.scrub_disk.specs.declared.geometry.Geometry.{Geometry}
 use Rattle.list_facts.proofs.Filters.{filter_range-agree}
+use Rattle.scrub_disk.specs.Buffered.{pages_without}
 use Rattle.scrub_disk.specs.Image.{Image, image_byte, extent_bytes, unreadable_pages}
 use Rattle.scrub_disk.proofs.HeldBytes.{byte-page, byte-unreadable}
 use Rattle.scrub_super.specs.declared.bytes_from.BytesFrom.{BytesFrom}
 use Rattle.scrub_super.specs.declared.choosing.Newest.{Newest}
 use Rattle.scrub_super.specs.declared.choosing.RecordsSeen.{RecordsSeen}
+use Rattle.scrub_super.specs.declared.choosing.Search.{Search}
 use Rattle.scrub_super.specs.declared.choosing.Searched.{Searched}
 use Rattle.scrub_super.specs.Contents.{Contents}
 use Rattle.scrub_super.specs.Record.{AreContents, BeginsWithRecord, record_bytes}
 use Rattle.scrub_super.specs.Chosen.{IsChoice, RecordStandsAt}
-use Rattle.scrub_super.specs.steps.BytesFrom.{longest_record, AreBytesFrom, HasFoundFrom, HoldsFrom, IsReadInFront}
+use Rattle.scrub_super.specs.steps.BytesFrom.{longest_record, AreBytesFrom, HasFoundFrom, HoldsBytesFrom, IsReadInFront, IsSearchedFrom}
 use Rattle.scrub_super.specs.steps.RecordsSeen.{StandsFrom, AreSeenFrom, AddsRecord}
 use Rattle.scrub_super.proofs.Choices.{choice_at, choice_without}
 use Rattle.scrub_super.proofs.Fronts.{head_sizes}
 use Rattle.scrub_super.proofs.Listed.{count_in, few_listed}
 use Rattle.scrub_super.proofs.OneRecord.{one_record_lem}
-use Rattle.scrub_super.proofs.RecordParts.{length_record}
+use Rattle.scrub_super.proofs.RecordParts.{length_record, some_bytes}
 use Rattle.scrub_super.proofs.RecordsSeenSteps.{found_none, found_more}
-use Rattle.scrub_super.proofs.Standing.{some_bytes}
 
 -- no record is longer than the longest
 length_most : {g : Geometry} {c : Contents} → AreContents g c → length (record_bytes g c) ≤ longest_record g
@@ -37,7 +38,7 @@ length_most {g} {c} h =
 
 module _ {image : Image} {q : ℕ} {bytes : List ℕ} (h : AreBytesFrom image q bytes) where
   -- it is on the page,
-  stands_of_bytes : {c : Contents} → BeginsWithRecord image.geometry bytes c → RecordStandsAt image q c
+  pub stands_of_bytes : {c : Contents} → BeginsWithRecord image.geometry bytes c → RecordStandsAt image q c
   stands_of_bytes {c} b = record {
     within = below;
     contents = b.contents;
@@ -57,14 +58,14 @@ module _ {image : Image} {q : ℕ} {bytes : List ℕ} (h : AreBytesFrom image q 
             (omega (
               arith,
               enough,
-              some_bytes image c,
+              some_bytes image.geometry c,
               h.within,
               mul-le-mul_right {m = image.geometry.pages} {n = q} image.geometry.page high,
             ))
       ]
 
   -- and they begin with that on the page
-  bytes_of_stands : {c : Contents} → RecordStandsAt image q c → BeginsWithRecord image.geometry bytes c
+  pub bytes_of_stands : {c : Contents} → RecordStandsAt image q c → BeginsWithRecord image.geometry bytes c
   bytes_of_stands {c} s = record {
     contents = s.contents;
     rest = drop (length (record_bytes image.geometry c)) bytes;
@@ -139,7 +140,7 @@ module _ {image : Image} {q : ℕ} {bytes : List ℕ} (h : AreBytesFrom image q 
 -- ---- reading the bytes
 
 -- what is held are the bytes from the page on
-pub held_bytes : {image : Image} {q : ℕ} {held : BytesFrom} {bytes : List ℕ} → HoldsFrom image q held →
+pub held_bytes : {image : Image} {q : ℕ} {held : BytesFrom} {bytes : List ℕ} → HoldsBytesFrom image q held →
     bytes ≡ take held.length held.bytes.items → AreBytesFrom image q bytes
 held_bytes {image} {q} {held} {bytes} h is = rw is (record {
   within = rw long h.within;
@@ -155,13 +156,15 @@ held_bytes {image} {q} {held} {bytes} h is = rw is (record {
 -- nothing is held after the last page
 pub none_held : (image : Image) {n : ℕ} {held : BytesFrom} → n ≡ image.geometry.pages →
     length held.bytes.items ≡ image.geometry.page + min (longest_record image.geometry) (extent_bytes image.geometry) →
-    held.length ≡ 0 → HoldsFrom image n held
+    held.length ≡ 0 → HoldsBytesFrom image n held
 none_held image {n} {held} hn room none = record {
   room = room;
   short = omega (arith, none);
   within = omega (arith, none, end);
   there = λ k hk. absurd (omega (arith, hk, none));
   enough = λ few. le-ltb_none (n * image.geometry.page + held.length) (omega (arith, end));
+  whole = λ some. absurd (omega (arith, some, none));
+  page_is = λ within. absurd (omega (arith, within, hn));
 }
   where
     end : n * image.geometry.page ≡ extent_bytes image.geometry
@@ -177,12 +180,12 @@ next_row image q hq =
     omega (arith, mul-le-mul_right {m = q + 1} {n = image.geometry.pages} image.geometry.page (omega (arith, hq)))
 
 -- one page down: the page is read in front of the bytes that are kept
-module _ {image : Image} {q : ℕ} {old new : BytesFrom} (h : HoldsFrom image (q + 1) old) (hq : q < image.geometry.pages)
+module _ {image : Image} {q : ℕ} {old new : BytesFrom} (h : HoldsBytesFrom image (q + 1) old) (hq : q < image.geometry.pages)
     (same : length new.bytes.items ≡ length old.bytes.items) where
   -- if it can be read
   pub page_read : {kept : ℕ} → kept ≡ min old.length (length old.bytes.items - image.geometry.page) →
       new.length ≡ image.geometry.page + kept →
-      IsReadInFront image q kept old.bytes.items new.bytes.items → HoldsFrom image q new
+      IsReadInFront image q kept old.bytes.items new.bytes.items → HoldsBytesFrom image q new
   page_read {kept} hk hn read = record {
     room = same ∙ h.room;
     short = omega (arith, hn, hk, same, h.room);
@@ -200,19 +203,31 @@ module _ {image : Image} {q : ℕ} {old new : BytesFrom} (h : HoldsFrom image (q
         let all : kept ≡ old.length = omega (arith, few, hn, hk, h.room, h.within) in
         let place : q * page + new.length ≡ (q + 1) * page + old.length = omega (arith, hn, all) in
         ap (image_byte image 0) place ∙ h.enough (omega (arith, few, hn, all));
+    whole = λ _. omega (arith, hn);
+    page_is = λ _. rw (lt-ltb 0 new.length (omega (arith, hn, image.geometry.page_least))) (read.readable ∙ ap Some front);
   }
     where
       page : ℕ
       page = image.geometry.page
 
+      long : length (take page new.bytes.items) ≡ page
+      long = length-take-le page new.bytes.items (omega (arith, same, h.room))
+
+      front : read.bytes ≡ take page new.bytes.items
+      front =
+          same_number_lists read.bytes (take page new.bytes.items) (read.size ∙ sym long)
+          (λ k hk. sym (read.front k (omega (arith, hk, read.size))) ∙ sym (get_or-take page new.bytes.items k 0 (omega (arith, hk, read.size))))
+
   -- if it can't
-  pub page_lost : image.page 0 q ≡ None → new.length ≡ 0 → HoldsFrom image q new
+  pub page_lost : image.page 0 q ≡ None → new.length ≡ 0 → HoldsBytesFrom image q new
   page_lost unreadable none = record {
     room = same ∙ h.room;
     short = omega (arith, none);
     within = omega (arith, none, next_row image q hq);
     there = λ k here. absurd (omega (arith, here, none));
     enough = λ few. byte-unreadable image 0 (q * image.geometry.page + new.length) (rw at_page unreadable);
+    whole = λ some. absurd (omega (arith, some, none));
+    page_is = λ _. rw none unreadable;
   }
     where
       at_page : (q * image.geometry.page + new.length) / image.geometry.page ≡ q
@@ -271,24 +286,34 @@ nothing_searched image {n} {f} hn newest records is = record {
     beyond q m low s = omega (arith, low, hn, s.1.within)
 
 -- the marks of all pages say which are unreadable
-pub unreadable_by_marks : (image : Image) (readable : List Bool) → length readable ≡ image.geometry.pages →
-    ((q : ℕ) → q < image.geometry.pages → is_none (image.page 0 q) ≡ not (get_or readable q false)) →
-    filter (λ q. not (get_or readable q false)) (range_with_len 0 (length readable)) ≡ unreadable_pages image 0
-unreadable_by_marks image readable count marks =
-    ap (λ n. filter (λ q. not (get_or readable q false)) (range_with_len 0 n)) count
-    ∙ filter_range-agree (λ q. not (get_or readable q false)) (λ q. is_none (image.page 0 q)) 0 image.geometry.pages
-    (λ q low high. sym (marks q (omega (arith, high))))
+pub unreadable_by_marks : {image : Image} {s : Search} → IsSearchedFrom image 0 s →
+    pages_without s.readable.items ≡ unreadable_pages image 0
+unreadable_by_marks {image} {s} h =
+    ap (λ n. filter (λ q. not (get_or s.readable.items q false)) (range_with_len 0 n)) h.count
+    ∙ filter_range-agree (λ q. not (get_or s.readable.items q false)) (λ q. is_none (image.page 0 q)) 0 image.geometry.pages
+    (λ q low high. sym (h.marks q (omega arith) (omega (arith, high))))
 
--- one more page is marked
-pub one_marked : (image : Image) (readable : List Bool) {p n : ℕ} (mark : Bool) → p ≡ n + 1 → n < length readable →
-    is_none (image.page 0 n) ≡ not mark →
-    ((q : ℕ) → p ≤ q → q < image.geometry.pages → is_none (image.page 0 q) ≡ not (get_or readable q false)) →
-    (q : ℕ) → n ≤ q → q < image.geometry.pages → is_none (image.page 0 q) ≡ not (get_or (set readable n mark) q false)
-one_marked image readable {p} {n} mark hp here is before q low high = elim (cases_lt n q) [
-  | inl above ↦
-      before q (omega (arith, above, hp)) high
-      ∙ ap not (sym (get_or-set_other readable n q mark false (λ e. omega (arith, e, above))))
-  | inr same ↦
-      let e : q ≡ n = omega (arith, same, low) in
-      ap (λ m. is_none (image.page 0 m)) e ∙ is ∙ ap not (sym (get_or-set_at readable n q mark false e here))
-]
+-- one more page was searched
+pub searched_more : {image : Image} {q : ℕ} {old new : Search} (mark : Bool) → IsSearchedFrom image (q + 1) old →
+    q < image.geometry.pages → HoldsBytesFrom image q new.held → is_none (image.page 0 q) ≡ not mark →
+    new.readable.items ≡ set old.readable.items q mark → HasFoundFrom image q new.found →
+    new.found.seen.records ≤ old.found.seen.records + 1 → IsSearchedFrom image q new
+searched_more {image} {q} {old} {new} mark before here held is marked found few = record {
+  held = held;
+  found = found;
+  few = omega (arith, few, before.few);
+  count = ap length marked ∙ length-set old.readable.items q mark ∙ before.count;
+  marks = λ r low high. rw marked (by_page r low high);
+}
+  where
+    by_page : (r : ℕ) → q ≤ r → r < image.geometry.pages →
+        is_none (image.page 0 r) ≡ not (get_or (set old.readable.items q mark) r false)
+    by_page r low high = elim (cases_lt q r) [
+      | inl above ↦
+          before.marks r (omega (arith, above)) high
+          ∙ ap not (sym (get_or-set_other old.readable.items q r mark false (λ e. omega (arith, e, above))))
+      | inr same ↦
+          let e : r ≡ q = omega (arith, same, low) in
+          ap (λ m. is_none (image.page 0 m)) e ∙ is
+          ∙ ap not (sym (get_or-set_at old.readable.items q r mark false e (omega (arith, here, before.count))))
+    ]

@@ -1,7 +1,7 @@
 -- A record, put together from what was read of it.
 use Rattle.std.proofs.Common.{◌≡◌, ◌<◌, ◌≤◌, ◌+◌, ◌*◌, ◌-◌, ◌^◌, ℕ, List, [], length, take, drop, get_or, arith, refl, sym, subst, ◌∙◌, ap, length-drop, All, Option, Some, None, IfSome, option_map}
 use Rattle.std.specs.List.{flat_map}
-use Rattle.std.specs.Option.{unwrap_or}
+use Rattle.std.specs.Option.{option_map_or, unwrap_or}
 use Rattle.std.proofs.lemmas.List.{take_all, length-take-le, nil_from_length}
 use Rattle.std.proofs.lemmas.Grind.{same_number_lists}
 use Rattle.byteorder.specs.Endian.{big_bytes, big_number}
@@ -14,6 +14,7 @@ use Rattle.scrub_frame.specs.Locator.{locator_bytes, IsLocator}
 use Rattle.scrub_frame.proofs.Bytes.{bytes-number, number-take}
 use Rattle.scrub_frame.proofs.Locators.{fields_read, same_locators}
 use Rattle.scrub_frame.specs.Frame.{digest_size}
+use Rattle.scrub_super.specs.declared.kind.RecordKind.TheVariants.{Ssb1, Ssb2}
 use Rattle.scrub_super.specs.Pages.{kind_of}
 use Rattle.scrub_super.specs.Contents.{Contents, retired_in}
 use Rattle.scrub_super.specs.Planned.{AreRetired}
@@ -21,7 +22,7 @@ use Rattle.scrub_super.specs.Record.{BeginsWithRecord}
 use Rattle.scrub_super.specs.steps.Limits.{ArePointers}
 use Rattle.scrub_super.specs.steps.RecordRead.{record_head_size, retired_count, runs_place, digest_place, pointer_bytes, retired_bytes, run_locator_bytes, kind_by, IsHead, BeginsWithSome, number_in, SpellExtents}
 use Rattle.scrub_super.proofs.BytesInParts.{four_parts}
-use Rattle.scrub_super.proofs.Listed.{AreSmall, count_in, pointers_in, small_count, small_pointers, small_listed, same_numbers, same_listed}
+use Rattle.scrub_super.proofs.Listed.{AreSmall, count_in, pointers_in, small_pointers, small_listed, same_numbers, same_listed}
 use Rattle.scrub_super.proofs.RecordParts.{body_behind, AreRecordParts, record_of_parts, is_head, known_parts}
 
 -- ---- numbers and locators, by the bytes that spell them
@@ -226,19 +227,14 @@ record_found {g} x {n} {r} {k} bytes head at enough hps hts hbody hrest limit wi
       digest_is = (rw (hrest, hbody, at) at digest) ∙ ap sha256 (sym whole);
     })
 
--- a list of retired extents has fewer than 2^16
-pub small_some : {g : Geometry} {x : List ℕ} {n r : ℕ} {k : Option ℕ} → BeginsWithSome g x n r k →
-    retired_count k < 2 ^ 16
-small_some {g} some = rw some.listed at (small_count g some.contents.retired some.begins.contents.retired)
+-- a record is of the second kind if it has a number of retired extents
+pub kind_counted : (o : Option (List ℕ)) → kind_by (option_map length o) ≡ option_map_or (λ _. Ssb2) o Ssb1
+kind_counted None = refl
+kind_counted (Some xs) = refl
 
--- a record is of the second kind if its head has a number of retired extents
 pub known_kind : {g : Geometry} {x : List ℕ} {n r : ℕ} {k : Option ℕ} (some : BeginsWithSome g x n r k) →
     kind_by k ≡ kind_of some.contents
-known_kind some = rw (← some.listed) (by some.contents.retired)
-  where
-    by : (o : Option (List ℕ)) → kind_by (option_map length o) ≡ kind_of (record some.contents { retired = o })
-    by None = refl
-    by (Some xs) = refl
+known_kind some = rw (← some.listed) (kind_counted some.contents.retired)
 
 -- what was read from the parts of a record are its contents
 pub contents_read : {g : Geometry} {x ws : List ℕ} {o : Option (List ℕ)} {rs : List Locator} {n r : ℕ} {k : Option ℕ} →

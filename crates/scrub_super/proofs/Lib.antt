@@ -17,9 +17,7 @@ pub mod PlanParts
 pub mod Resets
 pub mod GivenRuns
 -- the records of extent 0, and the one that is used
-pub mod Standing
 pub mod RecordsSeenSteps
-pub mod Steps
 pub mod Choices
 pub mod BytesFromPages
 pub mod Laws

@@ -13,11 +13,12 @@ use Rattle.scrub_super.specs.declared.pages.Rank.TheVariants.{Tie, Counts, Older
 use Rattle.scrub_super.specs.declared.pages.SuperblockPage.{SuperblockPage}
 use Rattle.scrub_super.specs.declared.pages.SuperblockPage.TheVariants.{Lost, Record, Damaged, Stray, Held}
 use Rattle.scrub_super.specs.Contents.{Contents}
+use Rattle.scrub_super.specs.Record.{record_bytes}
 use Rattle.scrub_super.specs.Chosen.{RecordStandsAt, newest_records}
 use Rattle.scrub_super.specs.Pages.{AreHeldBytes, AreSuperblockPages, HasLooseLetters, HasStrayByte, IsHeldByte, IsRank, IsRecordless, IsSuperblockPage, is_odd, kind_of}
 use Rattle.scrub_super.proofs.Fronts.{one_magic}
 use Rattle.scrub_super.proofs.Laws.{one_list_of_records, one_record_on_page}
-use Rattle.scrub_super.proofs.Standing.{some_bytes}
+use Rattle.scrub_super.proofs.RecordParts.{some_bytes}
 
 -- no byte of an unreadable page can be read
 module _ (image : Image) (q : ℕ) (lost : image.page 0 q ≡ None) where
@@ -32,7 +33,7 @@ module _ (image : Image) (q : ℕ) (lost : image.page 0 q ≡ None) where
   lost_record : {c : Contents} → RecordStandsAt image q c → ⊥
   lost_record {c} s =
       let e : q * image.geometry.page + 0 ≡ q * image.geometry.page = omega arith in
-      no_first_byte (rw e at (s.stands 0 (omega (arith, some_bytes image c))))
+      no_first_byte (rw e at (s.stands 0 (omega (arith, some_bytes image.geometry c))))
 
   lost_recordless : {bytes : List ℕ} → IsRecordless image q bytes → ⊥
   lost_recordless {bytes} u = none-some bytes (sym lost ∙ u.readable)
@@ -66,15 +67,18 @@ one_rank {n = n} same x y =
     ∙ ap (rank_among y.0) same
     ∙ sym y.2
 
-one_record_known : (image : Image) (q : ℕ) (j k : RecordKind) (n m : ℕ) (a b : Rank) (s t : Bool) →
-    IsSuperblockPage image q (Record j n a s) → IsSuperblockPage image q (Record k m b t) → Record j n a s ≡ Record k m b t
-one_record_known image q j k n m a b s t x y =
+one_record_known : (image : Image) (q : ℕ) (j k : RecordKind) (n m d e : ℕ) (a b : Rank) (s t : Bool) →
+    IsSuperblockPage image q (Record j n d a s) → IsSuperblockPage image q (Record k m e b t) →
+    Record j n d a s ≡ Record k m e b t
+one_record_known image q j k n m d e a b s t x y =
     let same : x.0 ≡ y.0 = one_record_on_page image q x.0 y.0 x.1 y.1 in
     let kinds : j ≡ k = x.2 ∙ ap kind_of same ∙ sym y.2 in
-    let generations : n ≡ m = x.3 ∙ ap (λ e. e.generation) same ∙ sym y.3 in
-    let ranks : a ≡ b = one_rank generations x.4 y.4 in
-    let strays : s ≡ t = one_stray image q s t (same_bytes image q x.5.1 y.5.1) x.5.2 y.5.2 in
-    λ i. Record (kinds i) (generations i) (ranks i) (strays i)
+    let generations : n ≡ m = x.3 ∙ ap (λ c. c.generation) same ∙ sym y.3 in
+    let ends : d ≡ e =
+    x.4 ∙ ap (λ c. q * image.geometry.page + length (record_bytes image.geometry c)) same ∙ sym y.4 in
+    let ranks : a ≡ b = one_rank generations x.5 y.5 in
+    let strays : s ≡ t = one_stray image q s t (same_bytes image q x.6.1 y.6.1) x.6.2 y.6.2 in
+    λ i. Record (kinds i) (generations i) (ends i) (ranks i) (strays i)
 
 -- letters that a page begins with are loose or not
 other_letters : {image : Image} {q : ℕ} {xs ys : List ℕ} (kind : RecordKind) → xs ≡ ys →
@@ -86,23 +90,23 @@ other_letters {image} {q} kind e l = subst (λ zs. HasLooseLetters image q zs ki
 lost_alone : (image : Image) (q : ℕ) (b : SuperblockPage) → image.page 0 q ≡ None → IsSuperblockPage image q b →
     Lost ≡ b
 lost_alone image q Lost x y = refl
-lost_alone image q (Record k n r t) x y = absurd (lost_record image q x y.1)
+lost_alone image q (Record k n d r t) x y = absurd (lost_record image q x y.1)
 lost_alone image q (Damaged k) x y = absurd (lost_recordless image q x y.1)
 lost_alone image q Stray x y = absurd (lost_recordless image q x y.1)
 lost_alone image q Held x y = absurd (lost_recordless image q x y.1)
 
-record_alone : (image : Image) (q : ℕ) (b : SuperblockPage) (j : RecordKind) (n : ℕ) (a : Rank) (s : Bool) →
-    IsSuperblockPage image q (Record j n a s) → IsSuperblockPage image q b → Record j n a s ≡ b
-record_alone image q Lost j n a s x y = absurd (lost_record image q y x.1)
-record_alone image q (Record k m r t) j n a s x y = one_record_known image q j k n m a r s t x y
-record_alone image q (Damaged k) j n a s x y = absurd (y.1.no_record (x.0, x.1))
-record_alone image q Stray j n a s x y = absurd (y.1.no_record (x.0, x.1))
-record_alone image q Held j n a s x y = absurd (y.1.no_record (x.0, x.1))
+record_alone : (image : Image) (q : ℕ) (b : SuperblockPage) (j : RecordKind) (n d : ℕ) (a : Rank) (s : Bool) →
+    IsSuperblockPage image q (Record j n d a s) → IsSuperblockPage image q b → Record j n d a s ≡ b
+record_alone image q Lost j n d a s x y = absurd (lost_record image q y x.1)
+record_alone image q (Record k m e r t) j n d a s x y = one_record_known image q j k n m d e a r s t x y
+record_alone image q (Damaged k) j n d a s x y = absurd (y.1.no_record (x.0, x.1))
+record_alone image q Stray j n d a s x y = absurd (y.1.no_record (x.0, x.1))
+record_alone image q Held j n d a s x y = absurd (y.1.no_record (x.0, x.1))
 
 damaged_alone : (image : Image) (q : ℕ) (b : SuperblockPage) (j : RecordKind) → IsSuperblockPage image q (Damaged j) →
     IsSuperblockPage image q b → Damaged j ≡ b
 damaged_alone image q Lost j x y = absurd (lost_recordless image q y x.1)
-damaged_alone image q (Record k m r t) j x y = absurd (x.1.no_record (y.0, y.1))
+damaged_alone image q (Record k m e r t) j x y = absurd (x.1.no_record (y.0, y.1))
 damaged_alone image q (Damaged k) j x y =
     ap Damaged (one_magic j k (sym x.2.letters ∙ ap (take 4) (same_bytes image q x.1.readable y.1.readable) ∙ y.2.letters))
 damaged_alone image q Stray j x y = absurd (y.2 j (other_letters j (same_bytes image q x.1.readable y.1.readable) x.2))
@@ -111,7 +115,7 @@ damaged_alone image q Held j x y = absurd (y.2 j (other_letters j (same_bytes im
 stray_alone : (image : Image) (q : ℕ) (b : SuperblockPage) → IsSuperblockPage image q Stray →
     IsSuperblockPage image q b → Stray ≡ b
 stray_alone image q Lost x y = absurd (lost_recordless image q y x.1)
-stray_alone image q (Record k m r t) x y = absurd (x.1.no_record (y.0, y.1))
+stray_alone image q (Record k m e r t) x y = absurd (x.1.no_record (y.0, y.1))
 stray_alone image q (Damaged k) x y = absurd (x.2 k (other_letters k (same_bytes image q y.1.readable x.1.readable) y.2))
 stray_alone image q Stray x y = refl
 stray_alone image q Held x y = absurd (x.3 (subst (AreHeldBytes image q) (same_bytes image q y.1.readable x.1.readable) y.3))
@@ -119,7 +123,7 @@ stray_alone image q Held x y = absurd (x.3 (subst (AreHeldBytes image q) (same_b
 held_alone : (image : Image) (q : ℕ) (b : SuperblockPage) → IsSuperblockPage image q Held →
     IsSuperblockPage image q b → Held ≡ b
 held_alone image q Lost x y = absurd (lost_recordless image q y x.1)
-held_alone image q (Record k m r t) x y = absurd (x.1.no_record (y.0, y.1))
+held_alone image q (Record k m e r t) x y = absurd (x.1.no_record (y.0, y.1))
 held_alone image q (Damaged k) x y = absurd (x.2 k (other_letters k (same_bytes image q y.1.readable x.1.readable) y.2))
 held_alone image q Stray x y = absurd (y.3 (subst (AreHeldBytes image q) (same_bytes image q x.1.readable y.1.readable) x.3))
 held_alone image q Held x y = refl
@@ -127,7 +131,7 @@ held_alone image q Held x y = refl
 pub one_superblock_page : (image : Image) (q : ℕ) (a b : SuperblockPage) → IsSuperblockPage image q a →
     IsSuperblockPage image q b → a ≡ b
 one_superblock_page image q Lost b x y = lost_alone image q b x y
-one_superblock_page image q (Record k n r s) b x y = record_alone image q b k n r s x y
+one_superblock_page image q (Record k n d r s) b x y = record_alone image q b k n d r s x y
 one_superblock_page image q (Damaged k) b x y = damaged_alone image q b k x y
 one_superblock_page image q Stray b x y = stray_alone image q b x y
 one_superblock_page image q Held b x y = held_alone image q b x y
@@ -146,9 +150,9 @@ page_overlooks_none : (image : Image) (q k b : ℕ) (page : SuperblockPage) (byt
     image.page 0 q ≡ Some bytes → slice_get bytes k ≡ Some b → ¬ (b ≡ 0) →
     IsHeldByte image (q * image.geometry.page + k) ⊎ IsTrue (is_odd page)
 page_overlooks_none image q k b Lost bytes x readable is nonzero = absurd (none-some bytes (sym x ∙ readable))
-page_overlooks_none image q k b (Record j n r true) bytes x readable is nonzero = inr refl
-page_overlooks_none image q k b (Record j n r false) bytes x readable is nonzero =
-    inl (subst (AreHeldBytes image q) (same_bytes image q x.5.1 readable) x.5.2 k b is nonzero)
+page_overlooks_none image q k b (Record j n d r true) bytes x readable is nonzero = inr refl
+page_overlooks_none image q k b (Record j n d r false) bytes x readable is nonzero =
+    inl (subst (AreHeldBytes image q) (same_bytes image q x.6.1 readable) x.6.2 k b is nonzero)
 page_overlooks_none image q k b (Damaged j) bytes x readable is nonzero = inr refl
 page_overlooks_none image q k b Stray bytes x readable is nonzero = inr refl
 page_overlooks_none image q k b Held bytes x readable is nonzero =

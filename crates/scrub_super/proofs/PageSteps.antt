@@ -1,107 +1,59 @@
--- What is found on each page of extent 0, what is seen from it, and how far records reach, one page at a time.
-use Rattle.std.proofs.Common.{◌≡◌, ◌<◌, ◌≤◌, ◌+◌, ◌*◌, ◌-◌, ◌↔◌, ℕ, suc, List, [], ◌∷◌, ◌++◌, All, Bool, true, false, not, IsTrue, length, drop, get_or, set, arith, refl, sym, subst, ◌∙◌, ap, Option, Some, None, IfSome, IfNone, inl, inr, max, min, slice_get, length-append, length-drop, nat_lt}
-use Rattle.std.specs.List.{between}
-use Rattle.std.proofs.lemmas.Bool.{cases_lt, cases_eq, false≢true, ltb-true, lt-ltb}
-use Rattle.std.proofs.lemmas.List.{get_or-drop, length-take, get_or-set_same, get_or-set_other, get_or_append_left, get_or_push}
+-- What is seen of each page of extent 0, and how far records reach, one page at a time.
+use Rattle.std.proofs.Common.{◌≡◌, ◌<◌, ◌≤◌, ◌+◌, ◌*◌, ◌-◌, ◌↔◌, ℕ, suc, List, [], ◌∷◌, ◌++◌, Bool, true, false, not, IsTrue, length, take, get_or, set, arith, refl, sym, ◌∙◌, ap, Some, None, inl, inr, max, min, slice_get, length-append, length-set, length-take, nat_lt, if◌then◌else◌}
+use Rattle.std.proofs.lemmas.Bool.{cases_lt, cases_eq, false≢true, le-ltb, ltb-true, lt-ltb}
+use Rattle.std.proofs.lemmas.List.{get_or-set_same, get_or-set_other, get_or_append_left, get_or_push}
 use Rattle.std.proofs.lemmas.Option.{slice_get_within, slice_get-get_or, get_or_from_slice_get}
-use Rattle.std.proofs.Math.Nat.{le-max_left, le-max_right, max-eq_left, max-eq_right, min-eq_left, min-eq_right, min-le_left, mul-le-mul_right, suc-mul}
-use Rattle.scrub_disk.specs.declared.geometry.Geometry.{Geometry}
+use Rattle.std.proofs.Math.Nat.{le-max_left, le-max_right, max-eq_left, max-eq_right, min-eq_left, mul-le-mul_right, suc-mul}
 use Rattle.scrub_disk.specs.Image.{Image}
-use Rattle.scrub_disk.specs.Buffered.{IsBuffered}
-use Rattle.scrub_disk.specs.steps.NextUnreadable.{IsNextUnreadable}
-use Rattle.scrub_frame.specs.Frame.{digest_size}
-use Rattle.scrub_super.specs.declared.choosing.RecordsSeen.{RecordsSeen}
-use Rattle.scrub_super.specs.declared.kind.RecordKind.{RecordKind}
+use Rattle.scrub_super.specs.declared.bytes_from.BytesFrom.{BytesFrom}
+use Rattle.scrub_super.specs.declared.pages.PageRecord.{PageRecord}
+use Rattle.scrub_super.specs.declared.pages.SeenPage.{SeenPage}
 use Rattle.scrub_super.specs.declared.pages.SuperblockPage.{SuperblockPage}
-use Rattle.scrub_super.specs.declared.extent_zero.PageRecord.{PageRecord}
-use Rattle.scrub_super.specs.Contents.{Contents}
-use Rattle.scrub_super.specs.Record.{BeginsWithRecord}
-use Rattle.scrub_super.specs.steps.RecordRead.{BeginsWithSome, digest_place, kind_by, record_head_size, retired_count}
-use Rattle.scrub_super.specs.steps.RecordsSeen.{AddsRecord, AreSeenFrom, StandsFrom}
-use Rattle.scrub_super.specs.Pages.{AreHeldBytes, AreSuperblockPages, HasStrayByte, IsHeldByte, IsSuperblockPage}
-use Rattle.scrub_super.specs.steps.PagesFound.{AreFoundOnPages, IsFoundOf, IsFoundOnPage, IsKnownOfPage, IsRecordReach, image_with}
+use Rattle.scrub_super.specs.Pages.{AreHeldBytes, HasStrayByte, IsHeldByte, IsSuperblockPage}
+use Rattle.scrub_super.specs.steps.BytesFrom.{HoldsBytesFrom}
+use Rattle.scrub_super.specs.steps.PagesFound.{IsFoundOnPage, IsKnownOfPage, IsRecordReach, IsSeenPage, IsUsedTo}
 use Rattle.scrub_super.proofs.Laws.{one_record_on_page}
-use Rattle.scrub_super.proofs.Found.{known_kind}
-use Rattle.scrub_super.proofs.RecordParts.{length_record}
-use Rattle.scrub_super.proofs.RecordsSeenSteps.{found_none, found_more}
-use Rattle.scrub_super.proofs.Standing.{stands_of_front, front_of_stands}
-
--- ---- what is found
-
--- the record, from its head
-pub found_by_head : {g : Geometry} {x y : List ℕ} {start size n r to : ℕ} {k : Option ℕ} {kind : RecordKind} →
-    y ≡ x → BeginsWithSome g y n r k → size ≡ digest_place g r k → kind ≡ kind_by k → to ≡ start + size + digest_size →
-    (c : Contents) × BeginsWithRecord g x c × IsFoundOf g start c (record { kind = kind; generation = n; to = to })
-found_by_head hx some at hk ht = (
-  some.contents,
-  rw hx at some.begins,
-  record {
-    kind = hk ∙ known_kind some;
-    generation = sym some.generation;
-    to =
-        omega (
-          arith,
-          ht,
-          length_record some.begins.contents,
-          at,
-          some.count,
-          ap record_head_size some.listed,
-          ap retired_count some.listed,
-        );
-  },
-)
-
--- what is found in the bytes from a page on is what is found at the page
-pub found_at_page : {image : Image} {bytes : List ℕ} {readable : List Bool} {q s size : ℕ} (o : Option PageRecord) →
-    size ≡ image.geometry.page → IsBuffered image 0 bytes readable → IsNextUnreadable readable q s →
-    IfSome o (λ f. (c : Contents) × BeginsWithRecord image.geometry (between (q * size) (s * size) bytes) c × IsFoundOf image.geometry (q * size) c f) →
-    IfNone o ((c : Contents) → BeginsWithRecord image.geometry (between (q * size) (s * size) bytes) c → ⊥) →
-    IsFoundOnPage image q o
-found_at_page (Some f) hs h up some none =
-    let found = rw hs at some in
-    (found.0, stands_of_front h up found.1, found.2)
-found_at_page None hs h up some none = λ x. (rw hs at none) x.0 (front_of_stands h up x.1)
-
--- one more page is written down
-pub found_more_at : (image : Image) (found : List (Option PageRecord)) {p q n : ℕ} (o : Option PageRecord) → p ≡ q + 1 →
-    length found ≡ n → q < n → IsFoundOnPage image q o →
-    ((r : ℕ) → p ≤ r → r < n → IsFoundOnPage image r (get_or found r None)) →
-    (r : ℕ) → q ≤ r → r < n → IsFoundOnPage image r (get_or (set found q o) r None)
-found_more_at image found {p} {q} {n} o hp hn here at later r low high = elim (cases_eq r q) [
-  | inl e ↦ rw (e, get_or-set_same found q o None (omega (arith, here, hn))) at_here
-  | inr other ↦ rw (get_or-set_other found q r o None other) (later r (omega (arith, low, other, hp)) high)
-]
-  where
-    at_here : IsFoundOnPage image q o
-    at_here = at
 
 -- ---- what is seen
 
-module _ {image : Image} {found : List (Option PageRecord)} {p q : ℕ} (hp : p ≡ q + 1) (are : AreFoundOnPages image found)
-    (here : q < length found) where
-  on_page : IsFoundOnPage image q (get_or found q None)
-  on_page = are.each q (omega (arith, are.count))
+-- the bytes of the page that was read last, none if it can't be read
+pub page_seen : {image : Image} {q : ℕ} {held : BytesFrom} {bytes : List ℕ} → HoldsBytesFrom image q held →
+    q < image.geometry.pages → bytes ≡ take (min image.geometry.page held.length) held.bytes.items →
+    (empty : Bool) → IsTrue empty ↔ (length bytes ≡ 0) → image.page 0 q ≡ (if not empty then Some bytes else None)
+page_seen {image} {q} {held} {bytes} h here is empty e = elim (cases_lt 0 held.length) [
+  | inl some ↦ filled some empty e
+  | inr none ↦ lost (omega (arith, none)) empty e
+]
+  where
+    many : length bytes ≡ min image.geometry.page held.length
+    many = omega (arith, ap length is, length-take (min image.geometry.page held.length) held.bytes.items, h.short)
 
-  -- If a record was found on page q, what is seen from q on is that record and what is seen after q.
-  pub seen_more : {f : PageRecord} {old new : RecordsSeen} → get_or found q None ≡ Some f →
-      AddsRecord old new q f.generation → AreSeenFrom (StandsFrom image) p old → AreSeenFrom (StandsFrom image) q new
-  seen_more {f} is adds seen =
-      found_more f.generation (at.0, at.1, sym at.2.generation)
-      (λ m t. sym t.2
-      ∙ ap (λ (c : Contents). c.generation) (one_record_on_page image q t.0 at.0 t.1 at.1)
-      ∙ sym at.2.generation)
-      (rw hp at seen) adds
-    where
-      at : IsFoundOnPage image q (Some f)
-      at = rw is at on_page
+    filled : 0 < held.length → (b : Bool) → IsTrue b ↔ (length bytes ≡ 0) →
+        image.page 0 q ≡ (if not b then Some bytes else None)
+    filled some true e = absurd (omega (arith, e.0 refl, many, some, image.geometry.page_least))
+    filled some false e =
+        (rw (lt-ltb 0 held.length some) at (h.page_is here))
+        ∙ ap Some (sym (is ∙ ap (λ n. take n held.bytes.items) (min-eq_left (h.whole some))))
 
-  -- If no record was found on page q, what is seen from q on is what is seen after q.
-  pub seen_none : {seen : RecordsSeen} → get_or found q None ≡ None → AreSeenFrom (StandsFrom image) p seen →
-      AreSeenFrom (StandsFrom image) q seen
-  seen_none is before = found_none (λ m t. at (t.0, t.1)) (rw hp at before)
-    where
-      at : IsFoundOnPage image q None
-      at = rw is at on_page
+    lost : held.length ≡ 0 → (b : Bool) → IsTrue b ↔ (length bytes ≡ 0) →
+        image.page 0 q ≡ (if not b then Some bytes else None)
+    lost none true e = rw none at (h.page_is here)
+    lost none false e = absurd (false≢true (e.1 (omega (arith, many, none))))
+
+-- one more page is seen
+pub seen_more : (image : Image) (pages : List SeenPage) {p q n : ℕ} (page : SeenPage) → p ≡ q + 1 → length pages ≡ n → q < n →
+    IsSeenPage image q page →
+    ((r : ℕ) (seen : SeenPage) → p ≤ r → slice_get pages r ≡ Some seen → IsSeenPage image r seen) →
+    (r : ℕ) (seen : SeenPage) → q ≤ r → slice_get (set pages q page) r ≡ Some seen → IsSeenPage image r seen
+seen_more image pages {p} {q} {n} page hp hn here is later r seen low at = elim (cases_eq r q) [
+  | inl e ↦
+      rw (e, sym (get_or_from_slice_get (set pages q page) r seen page at) ∙ ap (λ m. get_or (set pages q page) m page) e ∙ get_or-set_same pages q page page (omega (arith, here, hn))) is
+  | inr other ↦
+      let within : r < length pages = omega (arith, slice_get_within (set pages q page) r seen at, length-set pages q page) in
+      let there : get_or pages r seen ≡ seen =
+      sym (get_or-set_other pages q r page seen other) ∙ get_or_from_slice_get (set pages q page) r seen seen at in
+      later r seen (omega (arith, low, other, hp)) (slice_get-get_or pages r seen within ∙ ap Some there)
+]
 
 -- ---- how far records reach
 
@@ -186,73 +138,33 @@ module _ (q : ℕ) {image : Image} {reach : ℕ} (r : IsRecordReach image (q + 1
       first : q * image.geometry.page + 0 ≡ q * image.geometry.page
       first = omega arith
 
-  module _ (bytes : List ℕ) {start held : ℕ} (hs : start ≡ q * image.geometry.page) (fits : length bytes ≤ image.geometry.page)
-      (at_most : held ≡ min (reach - start) (length bytes)) where
-    -- past the reach are the bytes from `held` on
-    past : (k : ℕ) → held ≤ k → k < length bytes → reach ≤ q * image.geometry.page + k
-    past k high within = elim (cases_lt (reach - start) (length bytes)) [
-      | inl short ↦
-          omega (arith, hs, high, at_most, min-eq_left {n = reach - start} {m = length bytes} (omega (arith, short)))
-      | inr long ↦
-          absurd
-          (omega (arith, high, within, at_most, min-eq_right {n = length bytes} {m = reach - start} long))
-    ]
-
-    pub zeros_held : All (λ b. b ≡ 0) (drop held bytes) → AreHeldBytes image q bytes
-    zeros_held zeros k b is nonzero = elim (cases_lt k held) [
-      | inl front ↦
-          held_below k (omega (arith, hs, front, at_most, min-le_left (reach - start) (length bytes)))
-      | inr back ↦
-          let within : k < length bytes = slice_get_within bytes k b is in
-          let behind : k - held < length (drop held bytes) = omega (arith, within, back, length-drop held bytes) in
-          let there : held + (k - held) ≡ k = omega (arith, back) in
-          absurd
-          (nonzero (sym (get_or_from_slice_get bytes k b 0 is) ∙ sym (get_or-drop held bytes (k - held) 0 ∙ ap (λ n. get_or bytes n 0) there) ∙ zeros (k - held) 0 behind))
-    ]
-
-    pub held_zeros : AreHeldBytes image q bytes → All (λ b. b ≡ 0) (drop held bytes)
-    held_zeros are j d here = elim (cases_eq (get_or (drop held bytes) j d) 0) [
-      | inl zero ↦ zero
-      | inr other ↦
-          let within : held + j < length bytes = omega (arith, here, length-drop held bytes) in
-          let h : IsHeldByte image (q * image.geometry.page + (held + j)) =
-          are (held + j) (get_or bytes (held + j) d) (slice_get-get_or bytes (held + j) d within) (λ zero. other (get_or-drop held bytes j d ∙ zero)) in
-          absurd
-          (omega (arith, below_held (held + j) (omega (arith, within, fits)) h, past (held + j) (omega arith) within))
-    ]
-
-    -- so a test of these bytes says whether the page has a stray byte
-    pub stray_by : {rest : List ℕ} (zero : Bool) → rest ≡ drop held bytes → IsTrue zero ↔ All (λ b. b ≡ 0) rest →
-        HasStrayByte image q bytes (not zero)
-    stray_by true e is = zeros_held (subst (All (λ b. b ≡ 0)) e (is.0 refl))
-    stray_by false e is = λ are. false≢true (is.1 (subst (All (λ b. b ≡ 0)) (sym e) (held_zeros are)))
-
--- a part of so many bytes has no more
-pub part_fits : (bytes : List ℕ) (start : ℕ) {part : List ℕ} {size page : ℕ} → part ≡ between start (start + size) bytes → size ≡ page →
-    length part ≤ page
-part_fits bytes start {part} {size} hp hs =
-    omega (
-      arith,
-      ap length hp,
-      length-take (start + size - start) (drop start bytes),
-      min-le_left (start + size - start) (length (drop start bytes)),
-      hs,
-    )
+  -- The page has a stray byte if its last byte other than zero is past the reach.
+  stray_by : {bytes : List ℕ} {start used : ℕ} → start ≡ q * image.geometry.page → length bytes ≤ image.geometry.page →
+      IsUsedTo bytes used → HasStrayByte image q bytes (nat_lt (reach - start) used)
+  stray_by {bytes} {start} {used} hs fits to = elim (cases_lt (reach - start) used) [
+    | inl past ↦
+        rw (lt-ltb (reach - start) used past) (λ (are : AreHeldBytes image q bytes).
+        let within : used - 1 < length bytes = omega (arith, past, to.within) in
+        let held = are (used - 1) (get_or bytes (used - 1) 0) (slice_get-get_or bytes (used - 1) 0 within) (to.last (omega (arith, past))) in
+        absurd (omega (arith, below_held (used - 1) (omega (arith, within, fits)) held, past, hs)))
+    | inr short ↦
+        rw (le-ltb (reach - start) used short) (λ k b is nonzero. elim (cases_lt k used) [
+          | inl low ↦ held_below k (omega (arith, low, short, hs))
+          | inr high ↦
+              absurd
+              (nonzero (sym (get_or_from_slice_get bytes k b 0 is) ∙ to.zeros k high (slice_get_within bytes k b is)))
+        ])
+  ]
 
 -- what is known of a page from the reach of the records up to it
-pub known_of : {image : Image} {bytes part : List ℕ} {readable : List Bool} {q start size reach : ℕ} {stray : Bool} →
-    IsBuffered image 0 bytes readable → q < image.geometry.pages →
-    size ≡ image.geometry.page → start ≡ q * size → part ≡ between start (start + size) bytes →
-    IsRecordReach image (q + 1) reach → HasStrayByte image q part stray →
-    IsKnownOfPage image q part (get_or readable q false) (nat_lt start reach) stray
-known_of {image} {q = q} {start} {reach = reach} h here hs ht hp r stray = record {
-  bytes_are = rw (hp, ht, hs) (h.pages q here);
-  held_is = rw begins (first_held q r);
-  stray_is = stray;
+pub known_of : {image : Image} {q start reach past : ℕ} {page : SeenPage} → IsSeenPage image q page →
+    start ≡ q * image.geometry.page → past ≡ reach - start → IsRecordReach image (q + 1) reach →
+    IsKnownOfPage image q page (nat_lt start reach) (nat_lt past page.used)
+known_of {q = q} seen hs hp r = record {
+  seen = seen;
+  held_is = rw hs (first_held q r);
+  stray_is = rw hp (stray_by q r hs seen.fits seen.used);
 }
-  where
-    begins : start ≡ q * image.geometry.page
-    begins = rw hs at ht
 
 -- ---- what the pages hold
 
@@ -275,19 +187,3 @@ each_more image old {new} {q} page hq hn each here r p is = elim (cases_lt r q) 
   where
     there : get_or (old ++ page ∷ []) r p ≡ p
     there = rw hn at (get_or_from_slice_get new r p p is)
-
--- ---- what is found in memory is in the image
-
-module _ {image : Image} {g : Geometry} {xs bytes : List ℕ} {ys readable : List Bool} {found : List (Option PageRecord)}
-    (hg : g ≡ image.geometry) (hx : xs ≡ bytes) (hy : ys ≡ readable) (h : IsBuffered image 0 bytes readable) where
-  -- If what was found is right in each image that has these bytes in extent 0, it is right in this one.
-  pub found_on : ((page : ℕ → ℕ → Option (List ℕ)) → IsBuffered (image_with g page) 0 xs ys → AreFoundOnPages (image_with g page) found) →
-      AreFoundOnPages image found
-  found_on all = (rw (hg, hx, hy) at all) image.page h
-
-  -- If the list of pages is right in each image that has these bytes in extent 0, it is right in this one.
-  pub pages_on : {zs : List (Option PageRecord)} {seen : RecordsSeen} {pages : List SuperblockPage} → zs ≡ found →
-      AreFoundOnPages image found → AreSeenFrom (StandsFrom image) 0 seen →
-      ((page : ℕ → ℕ → Option (List ℕ)) → IsBuffered (image_with g page) 0 xs ys → AreFoundOnPages (image_with g page) zs → AreSeenFrom (StandsFrom (image_with g page)) 0 seen → AreSuperblockPages (image_with g page) pages) →
-      AreSuperblockPages image pages
-  pages_on hz are see all = (rw (hg, hx, hy, hz) at all) image.page h are see

@@ -118,8 +118,8 @@ some_page image q = by_bytes (image.page 0 q) refl
             (page : SuperblockPage) × IsSuperblockPage image q page
         by_record (inl x) =
             let rank = some_rank image x.0.generation in (
-              Record (kind_of x.0) x.0.generation rank.0 stray.0,
-              (x.0, x.1, refl, refl, rank.1, (bytes, readable, stray.1)),
+              Record (kind_of x.0) x.0.generation (q * image.geometry.page + length (record_bytes image.geometry x.0)) rank.0 stray.0,
+              (x.0, x.1, refl, refl, refl, rank.1, (bytes, readable, stray.1)),
             )
         by_record (inr none) = by_letters (decided_letters image q bytes Ssb1) (decided_letters image q bytes Ssb2)
           where

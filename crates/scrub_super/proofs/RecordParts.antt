@@ -1,5 +1,5 @@
 -- The parts of the bytes that begin with a record, by its own numbers and by those in a head.
-use Rattle.std.proofs.Common.{◌≡◌, ◌+◌, ◌*◌, ◌-◌, ℕ, List, ◌++◌, [], length, take, drop, arith, append_assoc, length-append, sym, ◌∙◌, ap, Option, Some, None, option_map}
+use Rattle.std.proofs.Common.{◌≡◌, ◌≤◌, ◌+◌, ◌*◌, ◌-◌, ℕ, List, ◌++◌, [], length, take, drop, arith, append_assoc, length-append, sym, ◌∙◌, ap, Option, Some, None, option_map}
 use Rattle.std.specs.List.{flat_map}
 use Rattle.byteorder.specs.Endian.{big_bytes}
 use Rattle.sha2.specs.Sha256.{sha256}
@@ -9,8 +9,8 @@ use Rattle.scrub_frame.specs.Locator.{locator_bytes}
 use Rattle.scrub_frame.proofs.Locators.{length-locators}
 use Rattle.scrub_frame.specs.Frame.{digest_size}
 use Rattle.scrub_super.specs.Contents.{Contents, retired_in}
-use Rattle.scrub_super.specs.Record.{record_body, record_bytes, AreContents, BeginsWithRecord}
-use Rattle.scrub_super.specs.steps.RecordRead.{head_bytes, record_head_size, retired_count, digest_place, IsHead}
+use Rattle.scrub_super.specs.Record.{record_bytes, AreContents, BeginsWithRecord}
+use Rattle.scrub_super.specs.steps.RecordRead.{record_body, head_bytes, record_head_size, retired_count, digest_place, IsHead}
 use Rattle.scrub_super.proofs.BytesInParts.{AreParts, parts_of, whole_of, body_of}
 use Rattle.scrub_super.proofs.Fronts.{length_head, one_head}
 use Rattle.scrub_super.proofs.Listed.{count_in, length_pointers, length_retired, pointers_in, small_count}
@@ -69,6 +69,11 @@ module _ {g : Geometry} {x : List ℕ} {c : Contents} (b : BeginsWithRecord g x 
     small = small_count g c.retired b.contents.retired;
     spelled = record_parts.head_is;
   }
+
+-- a record has at least 32 bytes
+pub some_bytes : (g : Geometry) (c : Contents) → 32 ≤ length (record_bytes g c)
+some_bytes g c =
+    omega (arith, length-append (record_body g c) (sha256 (record_body g c)), length-sha256 (record_body g c))
 
 -- the length of the record of some contents
 pub length_record : {g : Geometry} {c : Contents} → AreContents g c →

@@ -1,5 +1,5 @@
 -- What the pages of extent 0 are depends on that extent alone: images that have the same one have the same superblocks.
-use Rattle.std.proofs.Common.{◌≡◌, ◌<◌, ◌*◌, ℕ, List, Bool, true, false, arith, sym, ◌∙◌, ap, Option}
+use Rattle.std.proofs.Common.{◌≡◌, ◌<◌, ◌+◌, ◌*◌, ℕ, List, Bool, true, false, arith, length, sym, ◌∙◌, ap, Option}
 use Rattle.std.proofs.Math.Path.{subst₂}
 use Rattle.std.proofs.lemmas.Option.{slice_get_within}
 use Rattle.scrub_disk.specs.declared.geometry.Geometry.{Geometry}
@@ -75,8 +75,15 @@ same_letters {a} {b} s {q} h = record {
 same_superblock_page : {a b : Image} → SameExtent 0 a b → (q : ℕ) (page : SuperblockPage) → q < a.geometry.pages →
     IsSuperblockPage b q page → IsSuperblockPage a q page
 same_superblock_page s q Lost within h = same_page s within h
-same_superblock_page s q (Record kind generation rank stray) within h =
-    (h.0, same_record s h.1, h.2, h.3, same_rank s generation rank h.4, (h.5.0, same_page s within h.5.1, same_stray s q h.5.0 stray h.5.2))
+same_superblock_page s q (Record kind generation to rank stray) within h = (
+  h.0,
+  same_record s h.1,
+  h.2,
+  h.3,
+  h.4 ∙ ap (λ g. q * g.page + length (record_bytes g h.0)) s.geometry,
+  same_rank s generation rank h.5,
+  (h.6.0, same_page s within h.6.1, same_stray s q h.6.0 stray h.6.2),
+)
 same_superblock_page s q (Damaged kind) within h = (h.0, same_recordless s within h.1, same_letters s h.2)
 same_superblock_page s q Stray within h =
     (h.0, same_recordless s within h.1, (λ kind letters. h.2 kind (same_letters (SameExtent-sym s) letters)), same_stray s q h.0 true h.3)

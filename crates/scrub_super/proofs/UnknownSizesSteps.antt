@@ -14,8 +14,8 @@ use Rattle.scrub_disk.specs.declared.geometry.Geometry.{Geometry}
 use Rattle.scrub_super.specs.declared.unknown_sizes.FoundRecord.{FoundRecord}
 use Rattle.scrub_super.specs.declared.kind.RecordKind.{RecordKind}
 use Rattle.scrub_super.specs.Contents.{Contents}
-use Rattle.scrub_super.specs.Record.{record_body, record_bytes, BeginsWithRecord}
-use Rattle.scrub_super.specs.steps.RecordRead.{BeginsWithSome, kind_by}
+use Rattle.scrub_super.specs.Record.{record_bytes, BeginsWithRecord}
+use Rattle.scrub_super.specs.steps.RecordRead.{record_body, BeginsWithSome, kind_by}
 use Rattle.scrub_super.specs.Pages.{kind_of}
 use Rattle.scrub_super.specs.Blocks.{IsMarked, byte_left}
 use Rattle.scrub_super.specs.steps.BlocksRead.{AreBlockMarks, IsReadableTo, BeginsInPlace, TellsRecord}

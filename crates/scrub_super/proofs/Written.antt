@@ -10,9 +10,9 @@ use Rattle.scrub_frame.specs.Locator.{locator_bytes}
 use Rattle.scrub_super.specs.declared.head.Head.{Head}
 use Rattle.scrub_super.specs.Contents.{Contents, retired_in}
 use Rattle.scrub_super.specs.Planned.{AreRetired}
-use Rattle.scrub_super.specs.Record.{record_body, record_bytes, AreContents, BeginsWithRecord}
+use Rattle.scrub_super.specs.Record.{record_bytes, AreContents, BeginsWithRecord}
 use Rattle.scrub_super.specs.steps.Limits.{ArePointers}
-use Rattle.scrub_super.specs.steps.RecordRead.{body_size, digest_place, head_bytes, record_head_size, retired_count}
+use Rattle.scrub_super.specs.steps.RecordRead.{record_body, body_size, digest_place, head_bytes, record_head_size, retired_count}
 use Rattle.scrub_super.proofs.Fronts.{length_head}
 use Rattle.scrub_super.proofs.Listed.{count_in, small_count, length_listed, length_numbers}
 use Rattle.scrub_super.proofs.RecordParts.{body_behind, body_is}

@@ -62,12 +62,13 @@ pub record HasLooseLetters (image : Image) (q : ℕ) (bytes : List ℕ) (kind : 
   pub letters : take 4 bytes ≡ magic_of kind
   pub loose : ¬ IsHeldByte image (q * image.geometry.page)
 
--- what page q of extent 0 is: lost; a record with kind, generation and rank, and with or without a stray byte after it; damaged,
--- if no record begins there and it has loose letters; or else stray or held, with or without a stray byte
+-- what page q of extent 0 is: lost; a record with kind, generation, end and rank, and with or without a stray byte after it;
+-- damaged, if no record begins there and it has loose letters; or else stray or held, with or without a stray byte
 abbrev pub IsSuperblockPage : Image → ℕ → SuperblockPage → Type 0
 IsSuperblockPage image q Lost = image.page 0 q ≡ None
-IsSuperblockPage image q (Record kind generation rank stray) =
-    (c : Contents) × RecordStandsAt image q c × (kind ≡ kind_of c) × (generation ≡ c.generation) × IsRank image generation rank ×
+IsSuperblockPage image q (Record kind generation to rank stray) =
+    (c : Contents) × RecordStandsAt image q c × (kind ≡ kind_of c) × (generation ≡ c.generation) ×
+    (to ≡ q * image.geometry.page + len (record_bytes image.geometry c)) × IsRank image generation rank ×
     ((bytes : List ℕ) × (image.page 0 q ≡ Some bytes) × HasStrayByte image q bytes stray)
 IsSuperblockPage image q (Damaged kind) = (bytes : List ℕ) × IsRecordless image q bytes × HasLooseLetters image q bytes kind
 IsSuperblockPage image q Stray =
@@ -83,7 +84,7 @@ is_damaged _ = false
 -- the page has a stray byte, and isn't damaged
 abbrev pub is_stray : SuperblockPage → Bool
 is_stray Stray = true
-is_stray (Record kind generation rank stray) = stray
+is_stray (Record kind generation to rank stray) = stray
 is_stray _ = false
 
 -- the page is damaged or stray

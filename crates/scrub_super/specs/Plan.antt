@@ -1,9 +1,10 @@
 -- The contents of a plan, and how it follows from the superblock that counts, or from there being none.
-use Rattle.std.specs.Prelude.{◌≡◌, ◌-◌, ◌*◌, ◌==◌, ℕ, List, [], All, Bool, true, Option, None, if◌then◌else◌, is_some, replicate, slice_get}
+use Rattle.std.specs.Prelude.{◌≡◌, ◌-◌, ◌*◌, ◌==◌, ℕ, List, [], All, Bool, true, Option, None, if◌then◌else◌, filter, is_some, not, replicate, slice_get}
+use Rattle.std.specs.List.{list_any, range_with_len}
 use Rattle.std.specs.Option.{option_map_or}
 use Rattle.scrub_disk.specs.declared.geometry.Geometry.{Geometry}
 use Rattle.scrub_frame.specs.declared.locator.Locator.{Locator}
-use Rattle.scrub_super.specs.Planned.{ArePlanned, AreRetired, extents_in_use, is_in_use}
+use Rattle.scrub_super.specs.Planned.{ArePlanned, AreRetired, is_in_use}
 use Rattle.scrub_super.specs.steps.Limits.{ArePointers, AreRunLocators}
 use Rattle.scrub_super.specs.Contents.{retired_in}
 use Rattle.scrub_super.specs.Chosen.{Choice}
@@ -37,7 +38,9 @@ pointer_of plan e = if e == 0 then None else slice_get plan.pointers (e - 1)
 abbrev pub plan_of : Choice → PlanValue
 plan_of choice = record {
   geometry = choice.geometry;
-  planned = extents_in_use choice.geometry.extents (option_map_or retired_in choice.superblock []);
+  planned =
+      filter (λ e. not (list_any (λ r. r == e) (option_map_or retired_in choice.superblock [])))
+      (range_with_len 1 (choice.geometry.extents - 1));
   retired = option_map_or retired_in choice.superblock [];
   pointers =
       option_map_or (λ c. c.pointers) choice.superblock

@@ -13,18 +13,15 @@ use Rattle.scrub_frame.specs.Locator.{locator_bytes, IsLocator}
 use Rattle.scrub_super.specs.Contents.{Contents, retired_in}
 use Rattle.scrub_super.specs.Planned.{AreChunkExtents}
 
--- all of a record before the digest: the magic, the generation, the disk's sizes, the number of index runs and, if retired
--- extents are listed, that of these; then the write pointers, the retired extents, and the locators
-abbrev pub record_body : Geometry → Contents → List ℕ
-record_body g c =
-    codes (option_map_or (λ _. "SSB2") c.retired "SSB1") ++ big_bytes 8 c.generation
+-- the record of these contents: the magic, the generation, the disk's sizes, the number of index runs and, if retired extents are
+-- listed, that of these; then the write pointers, the retired extents, the locators, and the digest of all before it
+abbrev pub record_bytes : Geometry → Contents → List ℕ
+record_bytes g c =
+    let body = codes (option_map_or (λ _. "SSB2") c.retired "SSB1") ++ big_bytes 8 c.generation
     ++ big_bytes 4 g.page ++ big_bytes 4 g.pages ++ big_bytes 4 g.extents
     ++ big_bytes 2 (len c.runs) ++ option_map_or (λ extents. big_bytes 2 (len extents)) c.retired []
-    ++ flat_map (big_bytes 4) c.pointers ++ flat_map (big_bytes 4) (retired_in c) ++ flat_map locator_bytes c.runs
-
--- the record of these contents, with the digest of all before it
-abbrev pub record_bytes : Geometry → Contents → List ℕ
-record_bytes g c = record_body g c ++ sha256 (record_body g c)
+    ++ flat_map (big_bytes 4) c.pointers ++ flat_map (big_bytes 4) (retired_in c) ++ flat_map locator_bytes c.runs in
+    body ++ sha256 body
 
 -- contents within the limits of a geometry, which a record can hold: one pointer for each extent but extent 0, none past
 -- the extent's end, and at most 32 index runs

@@ -50,12 +50,12 @@ fn read_in_front<D: PageSource>(disk: &D, page: u32, kept: usize, buffer: &mut [
 }
 
 impl BytesFrom {
-    ghost use Rattle.scrub_super.specs.steps.BytesFrom.{HoldsFrom};
+    ghost use Rattle.scrub_super.specs.steps.BytesFrom.{HoldsBytesFrom};
 
     /// None, as after the last page.
     pub fn new(alloc: Global, geometry: Geometry) -> Result<BytesFrom, OutOfMemory>
         ensures { IfOk result (λ held. (page : ℕ → ℕ → Option (List ℕ)) →
-            HoldsFrom (image_with geometry page) geometry.pages held) }
+            HoldsBytesFrom (image_with geometry page) geometry.pages held) }
     {
         let size = geometry.page() as usize + longest_in_extent(geometry);
         Ok(BytesFrom {
@@ -68,8 +68,8 @@ impl BytesFrom {
     /// Returns whether it is readable.
     pub fn read<D: PageSource>(&mut self, disk: &D, page: u32) -> bool
         requires in_pages { page < (D.image disk.now).geometry.pages }
-        requires held { HoldsFrom (D.image disk.now) (page + 1) self.old }
-        ensures held { HoldsFrom (D.image disk.now) page self.new }
+        requires held { HoldsBytesFrom (D.image disk.now) (page + 1) self.old }
+        ensures held { HoldsBytesFrom (D.image disk.now) page self.new }
         ensures readable { is_none ((D.image disk.now).page 0 page) ≡ not result }
     {
         let size = disk.geometry().page() as usize;
@@ -88,5 +88,14 @@ impl BytesFrom {
         ensures { result.now ≡ take self.now.length self.now.bytes.items }
     {
         &self.bytes[..self.length]
+    }
+
+    /// The bytes of the page itself, none if it is unreadable.
+    pub fn page(&self, geometry: Geometry) -> &[u8]
+        requires { self.now.length ≤ length self.now.bytes.items }
+        ensures { result.now ≡ take (min geometry.page self.now.length) self.now.bytes.items }
+    {
+        let size = geometry.page() as usize;
+        &self.bytes[..size.min(self.length)]
     }
 }

@@ -1,20 +1,19 @@
 //! Reads extent 0 and chooses the superblock that counts.
 
 ghost use Rattle.std.specs.Prelude.{◌≡◌, ◌↔◌, ◌+◌, ◌<◌, ◌≤◌, ◌^◌, ℕ, List, Option, None, Some, IfOk, IsTrue};
-ghost use Rattle.std.specs.Prelude.{length, option_map};
-ghost use Rattle.scrub_disk.specs.Buffered.{pages_without};
-ghost use Rattle.scrub_disk.specs.Image.{Image, unreadable_pages as image_unreadable_pages};
-ghost use Rattle.scrub_disk.specs.steps.NextUnreadable.{IsNextUnreadable};
+ghost use Rattle.std.specs.Prelude.{option_map};
+ghost use Rattle.scrub_disk.specs.Image.{Image};
 ghost use Rattle.scrub_super.specs.Contents.{Contents};
 ghost use Rattle.scrub_super.specs.Chosen.{Choice, IsChoice, RecordStandsAt};
 ghost use Rattle.scrub_super.specs.Pages.{IsRank};
 ghost use Rattle.scrub_super.specs.Plan.{PlanValue, plan_of};
 ghost use Rattle.scrub_super.specs.declared.pages.Rank.{Rank};
 ghost use Rattle.scrub_super.specs.steps.ByConditions.{IsChoiceByConditions, IsRankByConditions};
-ghost use Rattle.scrub_super.specs.steps.BytesFrom.{HasFoundFrom};
+ghost use Rattle.scrub_super.specs.steps.BytesFrom.{IsSearchedFrom};
 
 use crate::bytes_from::BytesFrom;
 use crate::chosen::Chosen;
+use crate::pages::PageRecord;
 use crate::record::read_record;
 use crate::superblock::Superblock;
 use scrub_disk::{Geometry, OutOfMemory, PageSource, unreadable_pages};
@@ -40,7 +39,7 @@ ghost use Rattle.scrub_super.specs.steps.PagesFound.{image_with};
 ghost use Rattle.scrub_super.specs.steps.RecordsSeen.{AddsRecord};
 
 /// Adds one more record, on a lower page than those before.
-pub(crate) fn with_record(seen: RecordsSeen, page: u32, generation: u64) -> RecordsSeen
+fn with_record(seen: RecordsSeen, page: u32, generation: u64) -> RecordsSeen
     requires { seen.records + 1 < 2 ^ 32 }
     ensures { AddsRecord seen result page generation }
 {
@@ -63,18 +62,6 @@ pub(crate) fn with_record(seen: RecordsSeen, page: u32, generation: u64) -> Reco
     }
 }
 
-/// The end of the readable pages from a page on; `next_end` is the end of those from the next page on.
-pub(crate) fn readable_end(readable: &[bool], page: usize, next_end: usize) -> usize
-    requires in_pages { page < length readable.now }
-    requires next { IsNextUnreadable readable.now (page + 1) next_end }
-    ensures { IsNextUnreadable readable.now page result }
-{
-    if !readable[page] {
-        return page;
-    }
-    next_end
-}
-
 /// Whether the newest record is the one on this page.
 fn is_newest(seen: RecordsSeen, page: u32) -> bool
     ensures { IsTrue result ↔ (option_map (λ b. b.page) seen.newest ≡ Some page) }
@@ -87,13 +74,14 @@ fn is_newest(seen: RecordsSeen, page: u32) -> bool
 
 /// What was found so far: the records, and the superblock of the newest one.
 #[derive(Drop)]
-struct Searched {
-    seen: RecordsSeen,
+pub(crate) struct Searched {
+    pub seen: RecordsSeen,
     superblock: Option<Superblock>,
 }
 
 impl Searched {
     ghost use Rattle.scrub_super.specs.steps.BytesFrom.{AreBytesFrom, HasFoundFrom};
+    ghost use Rattle.scrub_super.specs.steps.PagesFound.{IsFoundOnPage};
 
     /// Nothing was found.
     fn new() -> Searched
@@ -110,72 +98,109 @@ impl Searched {
         }
     }
 
-    /// Adds the record that the bytes from a page on begin with, if they do. The page is lower than those
-    /// before.
+    /// Adds the record that the bytes from a page on begin with, if they do, and returns what is kept of it.
+    /// The page is lower than those before.
     fn add_page(
         &mut self,
         alloc: Global,
         bytes: &[u8],
         page: u32,
         geometry: Geometry,
-    ) -> Result<(), OutOfMemory>
+    ) -> Result<Option<PageRecord>, OutOfMemory>
         requires { self.old.seen.records + 1 < 2 ^ 32 }
+        ensures on_page { (pages : ℕ → ℕ → Option (List ℕ)) →
+            AreBytesFrom (image_with geometry pages) page bytes.now →
+            IfOk result (IsFoundOnPage (image_with geometry pages) page) }
         ensures found { (pages : ℕ → ℕ → Option (List ℕ)) →
             AreBytesFrom (image_with geometry pages) page bytes.now →
             HasFoundFrom (image_with geometry pages) (page + 1) self.old →
             IfOk result (λ _. HasFoundFrom (image_with geometry pages) page self.new) }
-        ensures few { IfOk result (λ _. self.new.seen.records ≤ self.old.seen.records + 1) }
+        ensures few { self.new.seen.records ≤ self.old.seen.records + 1 }
     {
         let Some(superblock) = read_record(alloc, bytes, geometry)? else {
-            return Ok(());
+            return Ok(None);
         };
+        let record = PageRecord::of(geometry, page, &superblock);
         self.seen = with_record(self.seen, page, superblock.generation());
         if !is_newest(self.seen, page) {
-            return Ok(());
+            return Ok(Some(record));
         }
         self.superblock = Some(superblock);
-        Ok(())
+        Ok(Some(record))
     }
 }
 
-/// Searches extent 0 for records, from the last page to the first. Returns what was found, and which pages
-/// are readable.
-fn search<D: PageSource>(alloc: Global, disk: &D) -> Result<(Searched, Vec<bool>), OutOfMemory>
-    ensures found { IfOk result (λ s. HasFoundFrom (D.image disk.now) 0 s.0) }
-    ensures few { IfOk result (λ s. length s.1.items ≤ 65536) }
-    ensures unreadable { IfOk result (λ s.
-        pages_without s.1.items ≡ image_unreadable_pages (D.image disk.now) 0) }
-{
-    let geometry = disk.geometry();
-    let mut held = BytesFrom::new(alloc, geometry)?;
-    let mut readable = vec![in alloc; false; geometry.pages() as usize]?;
-    let mut search = Searched::new();
-    for page in (0..geometry.pages()).rev() {
-        readable[page as usize] = held.read(disk, page);
-        search.add_page(alloc, held.as_slice(), page, geometry)?;
-    }
-    Ok((search, readable))
+/// The search of extent 0 for records, from its last page to its first.
+#[derive(Drop)]
+pub(crate) struct Search {
+    /// The bytes from the page on that was read last.
+    pub held: BytesFrom,
+    /// For each page from that one on, whether it is readable.
+    readable: Vec<bool>,
+    pub found: Searched,
 }
 
-/// The choice that follows from what was found.
-fn choice_of<D: PageSource>(disk: &D, search: Searched, bad_pages: Vec<u32>) -> Chosen
-    requires found { HasFoundFrom (D.image disk.now) 0 search }
-    requires unreadable { bad_pages.items ≡ image_unreadable_pages (D.image disk.now) 0 }
-    ensures { IsChoice (D.image disk.now) result }
+impl Search {
+    ghost use Rattle.scrub_super.specs.steps.PagesFound.{IsFoundOnPage};
+
+    /// No page was read.
+    pub fn new<D: PageSource>(alloc: Global, disk: &D) -> Result<Search, OutOfMemory>
+        ensures { IfOk result (IsSearchedFrom (D.image disk.now) (D.image disk.now).geometry.pages) }
+    {
+        let geometry = disk.geometry();
+        let held = BytesFrom::new(alloc, geometry)?;
+        let readable = vec![in alloc; false; geometry.pages() as usize]?;
+        let found = Searched::new();
+        Ok(Search {
+            held,
+            readable,
+            found,
+        })
+    }
+
+    /// Reads the page before those that were read. Returns what is kept of the record that begins on it, if
+    /// there is one.
+    pub fn read<D: PageSource>(
+        &mut self,
+        alloc: Global,
+        disk: &D,
+        page: u32,
+    ) -> Result<Option<PageRecord>, OutOfMemory>
+        requires in_pages { page < (D.image disk.now).geometry.pages }
+        requires searched { IsSearchedFrom (D.image disk.now) (page + 1) self.old }
+        ensures searched { IfOk result (λ _. IsSearchedFrom (D.image disk.now) page self.new) }
+        ensures found { IfOk result (IsFoundOnPage (D.image disk.now) page) }
+    {
+        self.readable[page as usize] = self.held.read(disk, page);
+        self.found
+            .add_page(alloc, self.held.as_slice(), page, disk.geometry())
+    }
+}
+
+/// The choice that follows from a search of all pages.
+pub(crate) fn choice_of<D: PageSource>(
+    alloc: Global,
+    disk: &D,
+    search: Search,
+) -> Result<Chosen, OutOfMemory>
+    requires { IsSearchedFrom (D.image disk.now) 0 search }
+    ensures { IfOk result (IsChoice (D.image disk.now)) }
 {
     let geometry = disk.geometry();
-    match (search.seen.newest, search.superblock) {
+    let bad_pages = unreadable_pages(alloc, &search.readable)?;
+    let found = search.found;
+    match (found.seen.newest, found.superblock) {
         (Some(newest), Some(superblock)) => {
-            Chosen::by(
+            Ok(Chosen::by(
                 geometry,
                 superblock,
                 newest.page,
-                search.seen.records,
+                found.seen.records,
                 newest.tie,
                 bad_pages,
-            )
+            ))
         }
-        _ => Chosen::without(geometry, bad_pages),
+        _ => Ok(Chosen::without(geometry, bad_pages)),
     }
 }
 
@@ -186,9 +211,11 @@ fn choice_of<D: PageSource>(disk: &D, search: Searched, bad_pages: Vec<u32>) -> 
 pub fn choose<D: PageSource>(alloc: Global, disk: &D) -> Result<Chosen, OutOfMemory>
     ensures { IfOk result (IsChoice (D.image disk.now)) }
 {
-    let (search, readable) = search(alloc, disk)?;
-    let bad_pages = unreadable_pages(alloc, &readable)?;
-    Ok(choice_of(disk, search, bad_pages))
+    let mut search = Search::new(alloc, disk)?;
+    for page in (0..disk.geometry().pages()).rev() {
+        search.read(alloc, disk, page)?;
+    }
+    choice_of(alloc, disk, search)
 }
 
 /// A law: at most one record begins on a page of extent 0, and an image has at most one choice.

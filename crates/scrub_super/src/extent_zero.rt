@@ -1,99 +1,44 @@
-//! Judges each page of extent 0 by itself: where records begin, how far they reach, and what the other pages
-//! hold. `choosing` picks the record that counts.
+//! Judges each page of extent 0, by what is seen of it and by how far records reach. `choosing` finds the
+//! records, and picks the one that counts.
 
-ghost use Rattle.std.specs.Prelude.{◌≡◌, ◌+◌, ◌*◌, ◌<◌, ◌≤◌, ◌^◌, ◌⊎◌, ℕ, List, Option, IfOk, IfSome, IfNone};
-ghost use Rattle.std.specs.Prelude.{IsTrue, Some, drop, length, slice_get, slice_range};
-ghost use Rattle.scrub_disk.specs.Limits.{max_extent_bytes};
-ghost use Rattle.scrub_disk.specs.Buffered.{IsBuffered};
+ghost use Rattle.std.specs.Prelude.{◌≡◌, ◌+◌, ◌*◌, ◌<◌, ◌⊎◌, ℕ, List, IfOk, IsTrue, Some, slice_get};
 ghost use Rattle.scrub_disk.specs.Image.{Image};
 ghost use Rattle.scrub_super.specs.Contents.{Contents};
-ghost use Rattle.scrub_super.specs.Record.{BeginsWithRecord};
 ghost use Rattle.scrub_super.specs.Chosen.{IsChoice, RecordStandsAt};
 ghost use Rattle.scrub_super.specs.Pages.{AreSuperblockPages, IsHeldByte, IsRank, IsSuperblockPage, is_odd};
-ghost use Rattle.scrub_super.specs.steps.PagesFound.{AreFoundOnPages, IsFoundOf, IsFoundOnPage};
-ghost use Rattle.scrub_super.specs.steps.PagesFound.{IsKnownOfPage, IsRecordReach, image_with};
+ghost use Rattle.scrub_super.specs.steps.BytesFrom.{IsSearchedFrom};
+ghost use Rattle.scrub_super.specs.steps.PagesFound.{AreSeenPages, IsFoundOnPage, IsKnownOfPage};
+ghost use Rattle.scrub_super.specs.steps.PagesFound.{IsRecordReach, IsSeenPage};
 ghost use Rattle.scrub_super.specs.steps.RecordsSeen.{AreSeenFrom, StandsFrom};
 ghost use Rattle.scrub_super.specs.declared.pages.SuperblockPage.{SuperblockPage};
 
-use crate::choosing::{RecordsSeen, readable_end, with_record};
+use crate::choosing::{RecordsSeen, Search, choice_of};
 use crate::chosen::Chosen;
-use crate::head::body_len;
 use crate::kind::RecordKind;
-use crate::pages::{Rank, SuperblockPage, has_stray_byte, page_without_record};
-use crate::record::{read_record, record_at};
-use crate::superblock::Superblock;
-use scrub_disk::{
-    BufferedExtent, Geometry, OutOfMemory, PageSource, read_extent, unreadable_pages,
-};
-use scrub_frame::DIGEST_BYTES;
+use crate::pages::{PageRecord, Rank, SeenPage, SuperblockPage, page_without_record, used_len};
+use scrub_disk::{OutOfMemory, PageSource};
 use std::alloc::Global;
 
-/// The record that begins on a page of extent 0.
-#[derive(Clone, Copy)]
-pub(crate) struct PageRecord {
-    pub kind: RecordKind,
-    pub generation: u64,
-    /// The byte of extent 0 after its last one.
-    pub to: usize,
-}
-
-/// The record that begins at byte `start` and ends at or before byte `end`, if there is one.
-fn found_at(bytes: &[u8], start: usize, end: usize, geometry: Geometry) -> Option<PageRecord>
-    requires within { (start ≤ end) × (end ≤ length bytes.now) }
-    requires fits { length bytes.now ≤ max_extent_bytes }
-    ensures found { IfSome result (λ f. (c : Contents) ×
-        BeginsWithRecord geometry (slice_range bytes.now start end) c × IsFoundOf geometry start c f) }
-    ensures none { IfNone result ((c : Contents) →
-        ¬ BeginsWithRecord geometry (slice_range bytes.now start end) c) }
-{
-    let head = record_at(&bytes[start..end], geometry)?;
-    Some(PageRecord {
-        kind: RecordKind::of(head.retired),
-        generation: head.generation,
-        to: start + body_len(geometry, head) + DIGEST_BYTES,
-    })
-}
-
-/// The record at each page of extent 0, if there is one. Each page is judged by itself.
-fn find_all(
+/// Reads the page before those that were read, and sees what is on it.
+fn see_page<D: PageSource>(
     alloc: Global,
-    bytes: &[u8],
-    readable: &[bool],
-    geometry: Geometry,
-) -> Result<Vec<Option<PageRecord>>, OutOfMemory>
-    requires bytes { length bytes.now ≡ geometry.page * geometry.pages }
-    requires pages { length readable.now ≡ geometry.pages }
-    ensures count { IfOk result (λ found. length found.items ≡ geometry.pages) }
-    ensures found { IfOk result (λ found. (page : ℕ → ℕ → Option (List ℕ)) →
-        IsBuffered (image_with geometry page) 0 bytes.now readable.now →
-        AreFoundOnPages (image_with geometry page) found.items) }
+    disk: &D,
+    search: &mut Search,
+    page: u32,
+) -> Result<SeenPage, OutOfMemory>
+    requires in_pages { page < (D.image disk.now).geometry.pages }
+    requires searched { IsSearchedFrom (D.image disk.now) (page + 1) search.old }
+    ensures searched { IfOk result (λ _. IsSearchedFrom (D.image disk.now) page search.new) }
+    ensures seen { IfOk result (IsSeenPage (D.image disk.now) page) }
 {
-    let size = geometry.page() as usize;
-    let mut found = vec![in alloc; None; readable.len()]?;
-    // The end of the readable pages from this one on.
-    let mut end = readable.len();
-    for page in (0..readable.len()).rev() {
-        end = readable_end(readable, page, end);
-        found[page] = found_at(bytes, page * size, end * size, geometry);
-    }
-    Ok(found)
-}
-
-/// The newest of the records that were found, and their number.
-fn seen_in(found: &[Option<PageRecord>]) -> RecordsSeen
-    requires { length found.now ≤ 65536 }
-    ensures { (image : Image) → AreFoundOnPages image found.now → AreSeenFrom (StandsFrom image) 0 result }
-{
-    let mut seen = RecordsSeen {
-        newest: None,
-        records: 0,
-    };
-    for page in (0..found.len()).rev() {
-        if let Some(record) = found[page] {
-            seen = with_record(seen, page as u32, record.generation);
-        }
-    }
-    seen
+    let found = search.read(alloc, disk, page)?;
+    let bytes = search.held.page(disk.geometry());
+    Ok(SeenPage {
+        found,
+        is_readable: !bytes.is_empty(),
+        letters: RecordKind::at(bytes),
+        used: used_len(bytes),
+    })
 }
 
 /// The rank of a record of this generation among the others.
@@ -109,26 +54,19 @@ fn rank_of(seen: RecordsSeen, generation: u64) -> Rank
 }
 
 /// What a page holds.
-fn page_of(
-    bytes: &[u8],
-    is_readable: bool,
-    is_held: bool,
-    is_stray: bool,
-    found: Option<PageRecord>,
-    seen: RecordsSeen,
-) -> SuperblockPage
-    ensures { (image : Image) (q : ℕ) → IsKnownOfPage image q bytes.now is_readable is_held is_stray →
-        IsFoundOnPage image q found → AreSeenFrom (StandsFrom image) 0 seen →
-        IsSuperblockPage image q result }
+fn page_of(page: SeenPage, is_held: bool, is_stray: bool, seen: RecordsSeen) -> SuperblockPage
+    ensures { (image : Image) (q : ℕ) → IsKnownOfPage image q page is_held is_stray →
+        AreSeenFrom (StandsFrom image) 0 seen → IsSuperblockPage image q result }
 {
-    match found {
+    match page.found {
         Some(record) => SuperblockPage::Record {
             kind: record.kind,
             generation: record.generation,
+            to: record.to,
             rank: rank_of(seen, record.generation),
             is_stray,
         },
-        None => page_without_record(bytes, is_readable, is_held, is_stray),
+        None => page_without_record(&page, is_held, is_stray),
     }
 }
 
@@ -143,89 +81,35 @@ fn reach_with(reach: usize, found: Option<PageRecord>) -> usize
     }
 }
 
-/// What each page of extent 0 holds, from the records that were found.
-fn pages_of(
+/// What each page of extent 0 holds, from what was seen of them.
+fn pages_of<D: PageSource>(
     alloc: Global,
-    bytes: &[u8],
-    readable: &[bool],
-    found: &[Option<PageRecord>],
+    disk: &D,
+    seen_pages: &[SeenPage],
     seen: RecordsSeen,
-    geometry: Geometry,
 ) -> Result<Vec<SuperblockPage>, OutOfMemory>
-    requires bytes { length bytes.now ≡ geometry.page * geometry.pages }
-    requires pages { length readable.now ≡ geometry.pages }
-    requires count { length found.now ≡ geometry.pages }
-    ensures { IfOk result (λ pages. (page : ℕ → ℕ → Option (List ℕ)) →
-        IsBuffered (image_with geometry page) 0 bytes.now readable.now →
-        AreFoundOnPages (image_with geometry page) found.now →
-        AreSeenFrom (StandsFrom (image_with geometry page)) 0 seen →
-        AreSuperblockPages (image_with geometry page) pages.items) }
+    requires pages { AreSeenPages (D.image disk.now) seen_pages.now }
+    requires records { AreSeenFrom (StandsFrom (D.image disk.now)) 0 seen }
+    ensures { IfOk result (λ pages. AreSuperblockPages (D.image disk.now) pages.items) }
 {
-    let size = geometry.page() as usize;
-    let mut pages = Vec::with_capacity(alloc, found.len())?;
+    let size = disk.geometry().page() as usize;
+    let mut pages = Vec::with_capacity(alloc, seen_pages.len())?;
     // How far the records up to this page reach.
     let mut reach = 0;
-    for page in 0..found.len() {
+    for page in 0..seen_pages.len() {
         let start = page * size;
-        let part = &bytes[start..start + size];
-        reach = reach_with(reach, found[page]);
+        let seen_page = seen_pages[page];
+        reach = reach_with(reach, seen_page.found);
         let is_held = start < reach;
-        let is_stray = has_stray_byte(part, start, reach);
-        let held = page_of(part, readable[page], is_held, is_stray, found[page], seen);
-        pages.push(held)?;
+        let is_stray = reach.saturating_sub(start) < seen_page.used;
+        pages.push(page_of(seen_page, is_held, is_stray, seen))?;
     }
     Ok(pages)
 }
 
-/// Parses the record at a page.
-fn superblock_at(
-    alloc: Global,
-    bytes: &[u8],
-    page: u32,
-    geometry: Geometry,
-) -> Result<Superblock, OutOfMemory>
-    requires within { page * geometry.page ≤ length bytes.now }
-    requires stands { (c : Contents) × BeginsWithRecord geometry (drop (page * geometry.page) bytes.now) c }
-    ensures { IfOk result (BeginsWithRecord geometry (drop (page * geometry.page) bytes.now)) }
-{
-    let start = page as usize * geometry.page() as usize;
-    match read_record(alloc, &bytes[start..], geometry)? {
-        Some(superblock) => Ok(superblock),
-        None => unreachable!(),
-    }
-}
-
-/// The choice that follows from the records in extent 0.
-fn chosen_by<D: PageSource>(
-    alloc: Global,
-    disk: &D,
-    extent: &BufferedExtent,
-    seen: RecordsSeen,
-) -> Result<Chosen, OutOfMemory>
-    requires buffered { IsBuffered (D.image disk.now) 0 extent.now.bytes.items extent.now.readable.items }
-    requires seen { AreSeenFrom (StandsFrom (D.image disk.now)) 0 seen }
-    ensures { IfOk result (IsChoice (D.image disk.now)) }
-{
-    let geometry = disk.geometry();
-    let bad_pages = unreadable_pages(alloc, &extent.readable)?;
-    let Some(newest) = seen.newest else {
-        return Ok(Chosen::without(geometry, bad_pages));
-    };
-    let superblock = superblock_at(alloc, &extent.bytes, newest.page, geometry)?;
-    Ok(Chosen::by(
-        geometry,
-        superblock,
-        newest.page,
-        seen.records,
-        newest.tie,
-        bad_pages,
-    ))
-}
-
 /// The superblock that counts on a disk, as `choose` finds it, and what each page of extent 0 holds, from
-/// page 0 on. Each page of extent 0 is read once. Each record is hashed once, and the one that counts is
-/// hashed again when it is parsed. Memory: a buffer for extent 0, a mark for each page, the list of unreadable
-/// pages, the records found by page, one superblock, and the answer.
+/// page 0 on. Each page of extent 0 is read once, from the last to the first. Memory: that of `choose`, what
+/// is seen of each page, and the answer.
 pub fn choose_with_pages<D: PageSource>(
     alloc: Global,
     disk: &D,
@@ -233,19 +117,21 @@ pub fn choose_with_pages<D: PageSource>(
     ensures choice { IfOk result (λ r. IsChoice (D.image disk.now) r.0) }
     ensures pages { IfOk result (λ r. AreSuperblockPages (D.image disk.now) r.1.items) }
 {
-    let geometry = disk.geometry();
-    let extent = read_extent(alloc, disk, 0)?;
-    let found = find_all(alloc, &extent.bytes, &extent.readable, geometry)?;
-    let seen = seen_in(&found);
-    let pages = pages_of(
-        alloc,
-        &extent.bytes,
-        &extent.readable,
-        &found,
-        seen,
-        geometry,
-    )?;
-    let chosen = chosen_by(alloc, disk, &extent, seen)?;
+    let mut search = Search::new(alloc, disk)?;
+    let unseen = SeenPage {
+        found: None,
+        is_readable: false,
+        letters: None,
+        used: 0,
+    };
+    let pages = disk.geometry().pages();
+    let mut seen_pages = vec![in alloc; unseen; pages as usize]?;
+    for page in (0..pages).rev() {
+        let seen_page = see_page(alloc, disk, &mut search, page)?;
+        seen_pages[page as usize] = seen_page;
+    }
+    let pages = pages_of(alloc, disk, &seen_pages, search.found.seen)?;
+    let chosen = choice_of(alloc, disk, search)?;
     Ok((chosen, pages))
 }
 

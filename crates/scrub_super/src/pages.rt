@@ -1,13 +1,18 @@
 //! What a page of extent 0 holds: a superblock record, the rest of one, a damaged one, or anything else.
 
-ghost use Rattle.std.specs.Prelude.{◌≡◌, ◌↔◌, ◌≤◌, ◌+◌, ◌*◌, ℕ, All, IsTrue, MatchOption, length};
+ghost use Rattle.std.specs.Prelude.{◌≡◌, ◌↔◌, ◌*◌, ℕ, IsTrue, MatchOption};
 ghost use Rattle.scrub_disk.specs.Image.{Image};
-ghost use Rattle.scrub_super.specs.Pages.{HasLooseLetters, HasRecord, HasStrayByte, IsHeldByte};
+ghost use Rattle.scrub_super.specs.Pages.{HasLooseLetters, HasRecord, IsHeldByte};
 ghost use Rattle.scrub_super.specs.Pages.{IsSuperblockPage, is_damaged, is_stray};
-ghost use Rattle.scrub_super.specs.steps.PagesFound.{IsKnownOfPage, IsRecordReach};
+ghost use Rattle.scrub_super.specs.Record.{AreContents};
+ghost use Rattle.scrub_super.specs.steps.PagesFound.{IsFoundOf, IsKnownOfPage, IsSeenPage, IsUsedTo};
 ghost use Rattle.scrub_super.specs.declared.kind.RecordKind.{RecordKind};
 
+use crate::head::{body_len, head_of};
 use crate::kind::RecordKind;
+use crate::superblock::Superblock;
+use scrub_disk::Geometry;
+use scrub_frame::DIGEST_BYTES;
 
 /// How new a record is, compared with the other records of its disk.
 #[derive(Debug, Clone, Copy, PartialEq, Eq)]
@@ -31,6 +36,8 @@ pub enum SuperblockPage {
     Record {
         kind: RecordKind,
         generation: u64,
+        /// The byte of extent 0 after its last one.
+        to: usize,
         rank: Rank,
         /// Whether a byte of the page is stray.
         is_stray: bool,
@@ -67,52 +74,73 @@ impl SuperblockPage {
     }
 }
 
-/// Whether all bytes are zero.
-fn are_zero(bytes: &[u8]) -> bool
-    ensures { IsTrue result ↔ All (λ b. b ≡ 0) bytes.now }
-{
-    for byte in bytes {
-        if *byte != 0 {
-            return false;
-        }
-    }
-    true
+/// What is kept of the record that begins on a page.
+#[derive(Clone, Copy)]
+pub(crate) struct PageRecord {
+    pub kind: RecordKind,
+    pub generation: u64,
+    /// The byte of extent 0 after its last one.
+    pub to: usize,
 }
 
-/// Whether a byte of a page is stray. The page begins at byte `start` of extent 0, and the records that begin
-/// on it or before it reach up to byte `reach`.
-pub(crate) fn has_stray_byte(bytes: &[u8], start: usize, reach: usize) -> bool
-    ensures { (image : Image) (q : ℕ) → start ≡ q * image.geometry.page →
-        length bytes.now ≤ image.geometry.page →
-        IsRecordReach image (q + 1) reach → HasStrayByte image q bytes.now result }
+impl PageRecord {
+    /// What is kept of the record of a superblock.
+    pub fn of(geometry: Geometry, page: u32, superblock: &Superblock) -> PageRecord
+        requires { AreContents geometry superblock.now }
+        ensures { IsFoundOf geometry (page * geometry.page) superblock.now result }
+    {
+        let head = head_of(superblock);
+        let start = page as usize * geometry.page() as usize;
+        PageRecord {
+            kind: RecordKind::of(head.retired),
+            generation: head.generation,
+            to: start + body_len(geometry, head) + DIGEST_BYTES,
+        }
+    }
+}
+
+/// What is seen of a page by itself.
+#[derive(Clone, Copy)]
+pub(crate) struct SeenPage {
+    pub found: Option<PageRecord>,
+    pub is_readable: bool,
+    /// The kind whose letters it begins with.
+    pub letters: Option<RecordKind>,
+    /// How many bytes it has up to the last one that isn't zero.
+    pub used: usize,
+}
+
+/// How many bytes there are up to the last one that isn't zero.
+pub(crate) fn used_len(bytes: &[u8]) -> usize
+    ensures { IsUsedTo bytes.now result }
 {
-    let held = reach.saturating_sub(start).min(bytes.len());
-    !are_zero(&bytes[held..])
+    for place in (0..bytes.len()).rev() {
+        if bytes[place] != 0 {
+            return place + 1;
+        }
+    }
+    0
 }
 
 /// The kind whose letters a page begins with, if no record holds them.
-fn loose_letters(bytes: &[u8], is_held: bool) -> Option<RecordKind>
-    ensures { (image : Image) (q : ℕ) → IsTrue is_held ↔ IsHeldByte image (q * image.geometry.page) →
-        MatchOption result ((kind : RecordKind) → ¬ HasLooseLetters image q bytes.now kind)
-        (HasLooseLetters image q bytes.now) }
+fn loose_letters(page: &SeenPage, is_held: bool) -> Option<RecordKind>
+    ensures { (image : Image) (q : ℕ) (seen : IsSeenPage image q page.now) →
+        IsTrue is_held ↔ IsHeldByte image (q * image.geometry.page) →
+        MatchOption result ((kind : RecordKind) → ¬ HasLooseLetters image q seen.bytes kind)
+        (HasLooseLetters image q seen.bytes) }
 {
-    if is_held { None } else { RecordKind::at(bytes) }
+    if is_held { None } else { page.letters }
 }
 
 /// What a page holds if no record begins on it.
-pub(crate) fn page_without_record(
-    bytes: &[u8],
-    is_readable: bool,
-    is_held: bool,
-    is_stray: bool,
-) -> SuperblockPage
-    ensures { (image : Image) (q : ℕ) → IsKnownOfPage image q bytes.now is_readable is_held is_stray →
+pub(crate) fn page_without_record(page: &SeenPage, is_held: bool, is_stray: bool) -> SuperblockPage
+    ensures { (image : Image) (q : ℕ) → IsKnownOfPage image q page.now is_held is_stray →
         ¬ HasRecord image q → IsSuperblockPage image q result }
 {
-    if !is_readable {
+    if !page.is_readable {
         return SuperblockPage::Lost;
     }
-    if let Some(kind) = loose_letters(bytes, is_held) {
+    if let Some(kind) = loose_letters(page, is_held) {
         return SuperblockPage::Damaged { kind };
     }
     if is_stray {

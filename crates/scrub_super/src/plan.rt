@@ -1,6 +1,7 @@
 //! The plan of a scan: what to scan, and what the superblock says about it. `scrub_scan` follows it.
 
-ghost use Rattle.std.specs.Prelude.{◌≡◌, ◌==◌, ◌<◌, ◌≤◌, ◌-◌, ◌*◌, ◌^◌, All, Contains, IfOk, List, Some, length};
+ghost use Rattle.std.specs.Prelude.{◌≡◌, ◌==◌, ◌<◌, ◌≤◌, ◌-◌, ◌*◌, ◌^◌, All, Contains, IfOk, List};
+ghost use Rattle.std.specs.Prelude.{Some, length};
 ghost use Rattle.std.specs.Prelude.{true};
 ghost use Rattle.std.specs.List.{list_any};
 ghost use Rattle.std.specs.List.Sorted.{IsStrictlyIncreasing};
@@ -90,9 +91,9 @@ impl Plan {
         }
     }
 
-    /// The plan by index runs that are given, newest first, and fewer than 2^32, whatever is in extent 0: that
-    /// of a disk on which one superblock counts that lists these runs, retires nothing, and has each write
-    /// pointer at its extent's end.
+    /// The plan by index runs that are given, newest first, and fewer than 2^32, whatever is in extent 0:
+    /// that of a disk on which one superblock counts that lists these runs, retires nothing, and has each
+    /// write pointer at its extent's end.
     pub fn listing(
         alloc: Global,
         geometry: Geometry,
@@ -253,8 +254,8 @@ fn all_in_use(alloc: Global, extents: u32, retired: &[u32]) -> Result<Vec<u32>, 
     Ok(in_use)
 }
 
-/// A law: the plan by given index runs is the one that follows from a superblock that lists these runs, retires
-/// nothing, and has each write pointer at its extent's end.
+/// A law: the plan by given index runs is the one that follows from a superblock that lists these runs,
+/// retires nothing, and has each write pointer at its extent's end.
 pub fn a_plan_by_given_runs()
     ensures { (choice : Choice) (runs : List Locator) → ListsRuns choice runs →
         plan_of choice ≡ plan_listing choice.geometry runs }

@@ -12,9 +12,10 @@ ghost use Rattle.scrub_frame.specs.Locator.{IsLocator};
 ghost use Rattle.scrub_disk.specs.declared.geometry.Geometry.{Geometry};
 ghost use Rattle.scrub_super.specs.Contents.{Contents};
 ghost use Rattle.scrub_super.specs.Planned.{AreRetired};
-ghost use Rattle.scrub_super.specs.Record.{BeginsWithRecord, record_body, record_bytes};
+ghost use Rattle.scrub_super.specs.Record.{BeginsWithRecord, record_bytes};
 ghost use Rattle.scrub_super.specs.steps.Limits.{ArePointers};
-ghost use Rattle.scrub_super.specs.steps.RecordRead.{BeginsWithSome, SpellExtents, body_size, digest_place};
+ghost use Rattle.scrub_super.specs.steps.RecordRead.{record_body, BeginsWithSome, SpellExtents};
+ghost use Rattle.scrub_super.specs.steps.RecordRead.{body_size, digest_place};
 ghost use Rattle.scrub_super.specs.steps.RecordRead.{number_in, pointer_bytes, retired_bytes};
 ghost use Rattle.scrub_super.specs.steps.RecordRead.{retired_count, run_locator_bytes};
 

@@ -5,7 +5,8 @@ ghost use Rattle.std.specs.Ordering.{nat_cmp};
 ghost use Rattle.std.specs.List.{count_by, filter_map};
 ghost use Rattle.std.specs.List.Sorted.{IsStrictlySortedBy};
 ghost use Rattle.scrub_check.specs.Chunks.{place_of, chunks};
-ghost use Rattle.scrub_check.specs.steps.ChunkUuids.{number_of, AddsNumbers, AreSixteen, AreUuidsOf, is_twin_by};
+ghost use Rattle.scrub_check.specs.steps.ChunkUuids.{number_of, AddsNumbers, AreSixteen, AreUuidsOf};
+ghost use Rattle.scrub_check.specs.steps.ChunkUuids.{is_twin_by};
 
 use crate::lists::chunks::place_of;
 use crate::lists::place::Place;
@@ -17,8 +18,8 @@ use std::marker::Model;
 use std::thread::Threads;
 use uuid::Uuid;
 
-/// The UUIDs of chunks as numbers, rising; one that several chunks have is there as often. Numbers are compared
-/// at once, UUIDs byte by byte.
+/// The UUIDs of chunks as numbers, rising; one that several chunks have is there as often. Numbers are
+/// compared at once, UUIDs byte by byte.
 #[derive(Drop)]
 pub struct ChunkUuids {
     numbers: Vec<u128>,

@@ -1,5 +1,5 @@
-//! The lists that are drawn from all named locators, without a list of all of them. See `checked` in `statuses`
-//! for one of them with their statuses.
+//! The lists that are drawn from all named locators, without a list of all of them. See `checked` in
+//! `statuses` for one of them with their statuses.
 
 ghost use Rattle.std.specs.Prelude.{IfOk, List};
 ghost use Rattle.scrub_check.specs.Checked.{AreChecked};
@@ -49,7 +49,8 @@ fn check_unsound<R: Threads + Sync, D: PageSource>(
     known: Vec<Option<Status>>,
 ) -> Result<Vec<Checked>, OutOfMemory>
     requires { AreKnownBefore (D.image scan.now.disk.now) scan.now.plan.now others.items known.items }
-    ensures { IfOk result (λ v. AreChecked (D.image scan.now.disk.now) scan.now.plan.now others.items v.items) }
+    ensures { IfOk result (λ v.
+        AreChecked (D.image scan.now.disk.now) scan.now.plan.now others.items v.items) }
 {
     check_others(rt, alloc, scan, &others, known)
 }

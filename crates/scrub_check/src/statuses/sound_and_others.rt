@@ -60,8 +60,8 @@ impl SoundAndOthers {
 
     /// Puts one more locator to these, by what is known of it.
     fn put(&mut self, one: Named, known: Option<Status>) -> Result<(), OutOfMemory>
-        ensures { (image : Image) (plan : PlanValue) (named : List Named) → IsApart image plan named self.old →
-            IsKnownBefore image plan one known →
+        ensures { (image : Image) (plan : PlanValue) (named : List Named) →
+            IsApart image plan named self.old → IsKnownBefore image plan one known →
             OnOk result (IsApart image plan (named ++ one ∷ []) self.new) }
     {
         if is_known_sound(known) {

@@ -48,7 +48,8 @@ fn found_geometry<'a, I: Images>(
     images: &mut I,
 ) -> Result<(Geometry, Opened<I::Image>), Fault<'a>>
     ensures geometry { MatchResult result
-        (λ r. AreSizesFound (I.known images.old name.entry.now) (I.known_map images.old) map.entry (Certain r.0))
+        (λ r. AreSizesFound (I.known images.old name.entry.now) (I.known_map images.old) map.entry
+        (Certain r.0))
         (IsFoundFault (I.known images.old name.entry.now) (I.known_map images.old) map.entry name.entry) }
     ensures map { IfOk result (λ r. IsMapNamed (I.known_map images.new) map.entry r.1.map) }
     ensures raw { IfOk result (λ r.

@@ -9,7 +9,8 @@ ghost use Rattle.scrub_disk.specs.Parted.{image_of};
 ghost use Rattle.scrub_frame.specs.Locator.{IsLocator};
 ghost use Rattle.scrub_super.specs.steps.Limits.{AreRunLocators};
 ghost use Rattle.scrub_cli.specs.DiskGeometry.{AreSizesFoundBy};
-ghost use Rattle.scrub_cli.specs.GivenRuns.{GiveRuns, IsBadRunFault, IsGivenBy, IsLoadedWithRuns, IsNoRunFault};
+ghost use Rattle.scrub_cli.specs.GivenRuns.{GiveRuns, IsBadRunFault, IsGivenBy, IsLoadedWithRuns};
+ghost use Rattle.scrub_cli.specs.GivenRuns.{IsNoRunFault};
 ghost use Rattle.scrub_cli.specs.GivenRuns.{IsRunsFault, NameRuns, NamesRunPlace, is_of_place, with_one};
 ghost use Rattle.scrub_cli.specs.KnownFiles.{IsKnownAs};
 ghost use Rattle.scrub_cli.specs.Rescue.{IsMapNamed};
@@ -27,7 +28,8 @@ use std::thread::Threads;
 
 /// Whether a disk of these sizes has this place, and it isn't in extent 0.
 fn may_have_run(geometry: Geometry, extent: u32, offset: u32) -> bool
-    ensures { IsTrue result ↔ ((1 ≤ extent) × (extent < geometry.extents) × (offset < extent_bytes geometry)) }
+    ensures { IsTrue result ↔
+        ((1 ≤ extent) × (extent < geometry.extents) × (offset < extent_bytes geometry)) }
 {
     0 < extent && extent < geometry.extents && offset < geometry.extent_bytes()
 }

@@ -1,5 +1,5 @@
-//! The lines of the error stream for what is said beside a manifest or the bytes of a shard. For those beside an
-//! archive see `shards`.
+//! The lines of the error stream for what is said beside a manifest or the bytes of a shard. For those beside
+//! an archive see `shards`.
 
 ghost use Rattle.std.specs.Prelude.{◌≡◌, ◌++◌, IfOk, OnOk, string_bytes};
 ghost use Rattle.scrub_cli.specs.Remarks.{shard_lines, superblock_line, superblock_lines};

@@ -1,14 +1,10 @@
 -- How the code compares the bytes of a page.
-use Rattle.std.specs.Prelude.{◌≡◌, ◌<◌, ◌≤◌, ◌==◌, ◌+◌, ◌&&◌, ◌||◌, ℕ, ⊤, List, Bool, true, false, not, nat_lt, Option, Some, None, MatchOption, drop, max, slice_index, slice_index_or, if◌then◌else◌}
-use Rattle.std.specs.Prelude.{length as len}
+use Rattle.std.specs.Prelude.{◌≡◌, ◌<◌, ◌≤◌, ◌==◌, ◌&&◌, ◌||◌, ℕ, Bool, true, false, not, nat_lt, Option, Some, None, MatchOption, max, slice_index, slice_index_or, if◌then◌else◌}
 use Rattle.std.specs.Option.{option_map_or}
 use Rattle.scrub_disk.specs.declared.buffered_extent.BufferedExtent.{BufferedExtent}
-use Rattle.scrub_disk.specs.declared.geometry.Geometry.{Geometry}
 use Rattle.scrub_disk.specs.Image.{Image, image_byte}
 use Rattle.scrub_super.specs.declared.pages.SuperblockPage.{SuperblockPage}
 use Rattle.scrub_super.specs.declared.pages.SuperblockPage.TheVariants.{Record}
-use Rattle.scrub_super.specs.Contents.{Contents}
-use Rattle.scrub_super.specs.Record.{BeginsWithRecord, record_bytes}
 
 -- two bytes are the same, or neither can be read
 abbrev pub is_same_byte : Option ℕ → Option ℕ → Bool
@@ -53,14 +49,7 @@ IsLeastWithin low high P least =
     MatchOption least ((p : ℕ) → low ≤ p → p < high → ¬ P p)
     (λ p. (low ≤ p) × (p < high) × P p × ((q : ℕ) → low ≤ q → q < p → ¬ P q))
 
--- how far records reach with the page that begins at byte `start`: to the end of the record of a page with one, if that is
--- farther
-abbrev pub IsReachWith : Geometry → List ℕ → ℕ → SuperblockPage → ℕ → ℕ → Type 0
-IsReachWith g bytes start (Record kind generation rank stray) reach new =
-    (c : Contents) × BeginsWithRecord g (drop start bytes) c × (new ≡ max reach (start + len (record_bytes g c)))
-IsReachWith g bytes start _ reach new = new ≡ reach
-
--- where the page says that a record begins on it, the bytes from there on begin with one
-abbrev pub BeginsAsSaid : Geometry → List ℕ → SuperblockPage → Type 0
-BeginsAsSaid g bytes (Record kind generation rank stray) = (c : Contents) × BeginsWithRecord g bytes c
-BeginsAsSaid g bytes _ = ⊤
+-- how far records reach with a page: to the end of the record that begins on it, if that is farther
+abbrev pub reach_with : ℕ → SuperblockPage → ℕ
+reach_with reach (Record kind generation to rank stray) = max reach to
+reach_with reach _ = reach

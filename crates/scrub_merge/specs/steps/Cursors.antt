@@ -17,6 +17,10 @@ use Rattle.scrub_merge.specs.ShardMap.{IsShardMap}
 abbrev pub id_cmp : ShardId → ShardId → Ordering
 id_cmp a b = slice_cmp nat_cmp a.0 b.0
 
+-- a lost run comes before the run with this number, so it is newer
+abbrev pub LostBefore : Runs → ℕ → Type 0
+LostBefore runs number = (k : ℕ) × (k < number) × (slice_get runs k ≡ Some None)
+
 -- the binding doesn't say that its shard was deleted
 abbrev pub has_locator : BindingValue → Bool
 has_locator b = not (length b.locators == 0)

@@ -9,7 +9,7 @@ use Rattle.scrub_check.specs.steps.LocatorIndex.{AreBarredExtents}
 use Rattle.scrub_loose.specs.Copies.{CopiesValue, loose_by}
 use Rattle.scrub_loose.specs.Loose.{LooseValue, loose_of}
 use Rattle.scrub_reclaim.specs.declared.doubts.Doubt.{Doubt}
-use Rattle.scrub_reclaim.specs.Doubts.{crowded_now, loose_doubt}
+use Rattle.scrub_reclaim.specs.Doubts.{crowded_now, first_doubt, loose_doubt}
 use Rattle.scrub_reclaim.specs.Room.{is_closed}
 
 -- the copies are kept of a disk with these loose frames: the spares of each named locator and its loose copies, no other loose
@@ -22,7 +22,7 @@ pub record AreKept (all : List Scanned) (checked : List Checked) (loose : LooseV
 
 -- the doubt that the loose copies of a named locator make, by the copies that are kept, and by the frames that stay
 abbrev pub loose_doubts_by : CopiesValue → List Standing → Checked → List Doubt
-loose_doubts_by v stay c = loose_doubt c.owner (loose_by v c) (spares_by stay c)
+loose_doubts_by v stay c = first_doubt (loose_doubt c.owner) (loose_by v c) (spares_by stay c)
 
 -- the extents that hold a loose frame that is kept, and the crowded ones
 abbrev pub closed_by : CopiesValue → List ℕ

@@ -12,9 +12,9 @@ use Rattle.scrub_report.specs.Json.{natural, list, with_keys}
 use Rattle.scrub_report.specs.declared.listed.Listed.{Listed}
 use Rattle.scrub_report.specs.declared.report.LaterTexts.{LaterTexts}
 use Rattle.scrub_scan.specs.Scanned.{Scanned}
-use Rattle.scrub_report.specs.steps.Values.{geometry_data, locator_data, row_data}
+use Rattle.scrub_report.specs.steps.Values.{candidate_data, extent_data, geometry_data, ids_data, row_data, shared_data, super_data}
 use Rattle.scrub_run.specs.declared.shard_id.ShardId.{ShardId}
-use Rattle.scrub_report.specs.Report.{ids_data, candidate_data, extent_data, numbers_data, place_data, shared_data, super_data}
+use Rattle.scrub_report.specs.Report.{locator_data, numbers_data, place_data}
 
 -- the JSON tokens that a value is written in
 abbrev pub value_tokens : Data → List Token

@@ -1,14 +1,21 @@
--- The values of an object's members, as the code keeps them, and what they are as JSON.
-use Rattle.std.specs.Prelude.{List, [], ◌∷◌, codes, cond, map}
-use Rattle.serde_json.specs.Data.{Data, boolean, object, string}
+-- The values of an object's members, as the code keeps them, what they are as JSON, and the objects of the report's lists.
+use Rattle.std.specs.Prelude.{ℕ, List, [], ◌∷◌, Option, codes, map, option_map}
+use Rattle.hex.specs.Hex.{encode_lower}
+use Rattle.uuid.specs.Text.{hyphenated_text, lower}
+use Rattle.serde_json.specs.Data.{Data, boolean, string}
 use Rattle.scrub_disk.specs.declared.geometry.Geometry.{Geometry}
+use Rattle.scrub_frame.specs.declared.locator.Locator.{Locator}
+use Rattle.scrub_super.specs.Chosen.{Choice}
 use Rattle.scrub_scan.specs.declared.item.Item.{Item}
 use Rattle.scrub_scan.specs.Line.{line_of}
-use Rattle.scrub_check.specs.declared.statuses.checked.Checked.{Checked}
-use Rattle.scrub_check.specs.Checked.{is_hidden}
+use Rattle.scrub_scan.specs.Scanned.{Scanned}
+use Rattle.scrub_run.specs.declared.shard_id.ShardId.{ShardId}
+use Rattle.scrub_check.specs.declared.lists.place.SharedPlace.{SharedPlace}
+use Rattle.scrub_check.specs.declared.runs.RunState.{RunState}
+use Rattle.scrub_check.specs.Candidates.{CandidateValue}
 use Rattle.scrub_report.specs.Json.{list, natural, natural_or_null, with_keys}
-use Rattle.scrub_report.specs.Report.{candidate_data, dangling_data, ids_data, locator_members, numbers_data, place_data, run_data, shared_data, super_data}
-use Rattle.scrub_found.specs.Texts.{owner_text, state_text, status_text, uuid_text}
+use Rattle.scrub_report.specs.Report.{locator_data, numbers_data, place_data}
+use Rattle.scrub_found.specs.Texts.{owner_text, state_text, status_text}
 use Rattle.scrub_report.specs.declared.keys.KeyValue.{KeyValue}
 use Rattle.scrub_report.specs.declared.keys.KeyValue.TheVariants as key
 use Rattle.scrub_found.specs.declared.runs.RunRow.{RunRow}
@@ -32,23 +39,58 @@ value_data (Flag b) = boolean b
 value_data (Owner o) = string (owner_text o)
 value_data (Status s) = string (status_text s)
 value_data (State s) = string (state_text s)
-value_data (Uuid u) = string (uuid_text u)
+value_data (Uuid u) = string (hyphenated_text lower u)
 value_data (Numbers ns) = numbers_data ns.now
 value_data (Items items) = items_data items.now
+
+-- the value of `broken` and of `doubtful`
+abbrev pub ids_data : List ShardId → Data
+ids_data ids = list (map (λ (id : ShardId). string (encode_lower id.0)) ids)
+
+-- one of `candidates`
+abbrev pub candidate_data : CandidateValue → Data
+candidate_data c = with_keys (
+    (codes "extent", natural c.extent) ∷
+    (codes "free", natural c.free) ∷
+    (codes "keep", numbers_data (map (λ k. k.start) c.chunks)) ∷ [])
+
+-- one of `extents`, with its live bytes
+abbrev pub extent_data : ℕ → Scanned → Data
+extent_data live f = with_keys (
+    (codes "bad", numbers_data f.findings.bad_pages) ∷
+    (codes "extent", natural f.extent) ∷
+    (codes "items", items_data f.findings.items) ∷
+    (codes "live", natural live) ∷
+    (codes "pointer", natural f.pointer) ∷
+    (codes "tail", natural f.findings.tail_count) ∷
+    (codes "tail_at", natural_or_null f.findings.tail_first) ∷ [])
+
+-- one of `runs`
+abbrev pub run_data : Locator → Option ℕ → RunState → Data
+run_data locator entries state = with_keys (
+    (codes "entries", natural_or_null entries) ∷
+    (codes "extent", natural locator.extent) ∷
+    (codes "offset", natural locator.offset) ∷
+    (codes "state", string (state_text state)) ∷ [])
 
 -- one of `runs`, by its row
 abbrev pub row_data : RunRow → Data
 row_data r = run_data r.locator r.entries r.state
 
--- one of `hidden`: a locator and its owner
-abbrev pub hidden_data : Checked → Data
-hidden_data c = object (locator_members c)
+-- one of `shared`
+abbrev pub shared_data : SharedPlace → Data
+shared_data p = with_keys ((codes "count", natural p.count) ∷ (codes "extent", natural p.extent) ∷ (codes "offset", natural p.offset) ∷ [])
 
--- the value of a hidden or of a dangling locator, by its status
-abbrev pub locator_data : Checked → Data
-locator_data c = cond (is_hidden c.status) (hidden_data c) (dangling_data c)
+-- the value of `super`
+abbrev pub super_data : Choice → Data
+super_data choice = with_keys (
+    (codes "bad", numbers_data choice.bad_pages) ∷
+    (codes "generation", natural_or_null (option_map (λ c. c.generation) choice.superblock)) ∷
+    (codes "page", natural_or_null choice.page) ∷
+    (codes "records", natural choice.records) ∷
+    (codes "tie", boolean choice.tie) ∷ [])
 
--- the value of `geometry`: how many extents a disk has, how many bytes a page, and how many pages an extent
+-- the value of `geometry`
 abbrev pub geometry_data : Geometry → Data
 geometry_data g = with_keys ((codes "extents", natural g.extents) ∷ (codes "page", natural g.page) ∷ (codes "pages", natural g.pages) ∷ [])
 

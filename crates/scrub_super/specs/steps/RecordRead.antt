@@ -1,14 +1,24 @@
 -- Steps of reading a record: its head, and what that says of the whole record.
-use Rattle.std.specs.Prelude.{◌≡◌, ◌<◌, ◌≤◌, ◌+◌, ◌*◌, ◌-◌, ◌^◌, ℕ, List, [], ◌∷◌, ◌++◌, Option, Some, None, drop, take, option_map, slice_index}
+use Rattle.std.specs.Prelude.{◌≡◌, ◌<◌, ◌≤◌, ◌+◌, ◌*◌, ◌-◌, ◌^◌, ℕ, List, [], ◌∷◌, ◌++◌, Option, Some, None, codes, drop, take, option_map, slice_index}
 use Rattle.std.specs.Prelude.{length as len}
+use Rattle.std.specs.List.{flat_map}
 use Rattle.std.specs.Option.{option_map_or, unwrap_or}
 use Rattle.byteorder.specs.Endian.{big_bytes, big_number}
 use Rattle.scrub_disk.specs.declared.geometry.Geometry.{Geometry}
 use Rattle.scrub_super.specs.declared.kind.RecordKind.{RecordKind}
 use Rattle.scrub_super.specs.declared.kind.RecordKind.TheVariants.{Ssb1, Ssb2}
-use Rattle.scrub_super.specs.Contents.{Contents}
+use Rattle.scrub_frame.specs.Locator.{locator_bytes}
+use Rattle.scrub_super.specs.Contents.{Contents, retired_in}
 use Rattle.scrub_super.specs.Record.{BeginsWithRecord}
 use Rattle.scrub_super.specs.Pages.{magic_of}
+
+-- all of a record before the digest
+abbrev pub record_body : Geometry → Contents → List ℕ
+record_body g c =
+    codes (option_map_or (λ _. "SSB2") c.retired "SSB1") ++ big_bytes 8 c.generation
+    ++ big_bytes 4 g.page ++ big_bytes 4 g.pages ++ big_bytes 4 g.extents
+    ++ big_bytes 2 (len c.runs) ++ option_map_or (λ extents. big_bytes 2 (len extents)) c.retired []
+    ++ flat_map (big_bytes 4) c.pointers ++ flat_map (big_bytes 4) (retired_in c) ++ flat_map locator_bytes c.runs
 
 -- the digit that ends the magic: that of `SSB1`, or of `SSB2` if retired extents are listed
 abbrev pub digit_of : Option ℕ → ℕ

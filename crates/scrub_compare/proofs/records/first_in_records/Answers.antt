@@ -6,20 +6,13 @@ use Rattle.scrub_disk.specs.declared.geometry.Geometry.{Geometry}
 use Rattle.scrub_disk.specs.Image.{extent_bytes}
 use Rattle.scrub_disk.proofs.PagesRead.{page_fits}
 use Rattle.scrub_super.specs.declared.pages.SuperblockPage.TheVariants.{Lost}
+use Rattle.scrub_super.specs.steps.PagesFound.{IsRecordReach}
 use Rattle.scrub_compare.specs.Written.{IsWrittenInRecords}
 use Rattle.scrub_compare.specs.steps.Changes.{IsLeastWithin}
 use Rattle.scrub_compare.proofs.ChangedBytes.{same_past}
 use Rattle.scrub_compare.proofs.Least.{found_here, least_of_all, none_more}
-use Rattle.scrub_compare.proofs.Reaches.{reach_page, record_page_least, said}
+use Rattle.scrub_compare.proofs.Reaches.{reach_page, record_page_least}
 use Rattle.scrub_compare.proofs.records.first_in_records.Goals as goal
-
-pub reach_with-requires-clause-said : goal.reach_with-requires-clause-said
-reach_with-requires-clause-said g c =
-    let after = g.E.PageSource.image c.args.after.now in
-    let q = c.loop-page.page in
-    let held = get_or c.args.pages.now q Lost in
-    rw (c.deref.ensures.value, c.page-size.ensures, c.geometry-geometry.ensures)
-    (said after q c.in_ok-new.ensures held (c.requires.held.each q held (slice_get-get_or c.args.pages.now q Lost c.loop-page-test.true)))
 
 pub returns-then-is_some : goal.returns-then-is_some
 returns-then-is_some g c =
@@ -29,13 +22,13 @@ returns-then-is_some g c =
     let per = after.geometry.page in
     let held = get_or c.args.pages.now q Lost in
     let stands = c.requires.held.each q held (slice_get-get_or c.args.pages.now q Lost c.loop-page-test.true) in
-    let size : c.page-size.result ≡ per = c.page-size.ensures ∙ ap (λ (h : Geometry). h.page) c.geometry-geometry.ensures in
+    let size : c.page-size.result ≡ per = c.page-size.ensures ∙ ap (λ (h : Geometry). h.page) c.geometry.ensures in
     let inside : q < after.geometry.pages = omega (arith, c.loop-page-test.true, c.requires.held.count) in
-    let reached = reach_page after q c.in_ok-new.ensures held stands c.loop-page.reach c.in_ok-reach.reach
-    (rw (c.deref.ensures.value, c.page-size.ensures, c.geometry-geometry.ensures) at c.in_ok-reach.ensures) c.loop-page.invariant.reach in
+    let reached : IsRecordReach after (q + 1) c.reach_with-reach.result =
+    rw c.reach_with-reach.ensures (reach_page after q held stands c.loop-page.invariant.reach) in
     let least : IsLeastWithin (q * per) (q * per + per) (IsWrittenInRecords before after) c.first_in_page-first.result =
     record_page_least before after c.requires.sizes c.in_ok-old.old c.in_ok-new.new c.in_ok-old.ensures c.in_ok-new.ensures q c.page-size.result
-    c.in_ok-reach.reach c.first_in_page-first.result size inside reached c.first_in_page-first.ensures in
+    c.reach_with-reach.result c.first_in_page-first.result size inside reached c.first_in_page-first.ensures in
     least_of_all (IsWrittenInRecords before after) (extent_bytes before.geometry) c.first_in_page-first.result
     (λ p past w. same_past before after 0 p c.requires.sizes past w.0)
     (found_here (IsWrittenInRecords before after) 0 (q * per) (q * per + per) c.loop-page.invariant.none (extent_bytes before.geometry) c.first_in_page-first.result
@@ -50,13 +43,13 @@ loop-page-preserved g c =
     let per = after.geometry.page in
     let held = get_or c.args.pages.now q Lost in
     let stands = c.requires.held.each q held (slice_get-get_or c.args.pages.now q Lost c.loop-page-test.true) in
-    let size : c.page-size.result ≡ per = c.page-size.ensures ∙ ap (λ (h : Geometry). h.page) c.geometry-geometry.ensures in
+    let size : c.page-size.result ≡ per = c.page-size.ensures ∙ ap (λ (h : Geometry). h.page) c.geometry.ensures in
     let inside : q < after.geometry.pages = omega (arith, c.loop-page-test.true, c.requires.held.count) in
-    let reached = reach_page after q c.in_ok-new.ensures held stands c.loop-page.reach c.in_ok-reach.reach
-    (rw (c.deref.ensures.value, c.page-size.ensures, c.geometry-geometry.ensures) at c.in_ok-reach.ensures) c.loop-page.invariant.reach in
+    let reached : IsRecordReach after (q + 1) c.reach_with-reach.result =
+    rw c.reach_with-reach.ensures (reach_page after q held stands c.loop-page.invariant.reach) in
     let least : IsLeastWithin (q * per) (q * per + per) (IsWrittenInRecords before after) c.first_in_page-first.result =
     record_page_least before after c.requires.sizes c.in_ok-old.old c.in_ok-new.new c.in_ok-old.ensures c.in_ok-new.ensures q c.page-size.result
-    c.in_ok-reach.reach c.first_in_page-first.result size inside reached c.first_in_page-first.ensures in
+    c.reach_with-reach.result c.first_in_page-first.result size inside reached c.first_in_page-first.ensures in
     record {
       reach = reached;
       none = λ p low high.

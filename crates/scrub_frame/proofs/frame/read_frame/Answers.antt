@@ -3,7 +3,7 @@ use Rattle.std.proofs.Common.{arith, ◌≡◌, ◌+◌, ◌-◌, ℕ, List, ◌
 use Rattle.list_facts.proofs.Slices.{ne_false, ne_true}
 use Rattle.scrub_frame.specs.declared.form.Form.{Form}
 use Rattle.scrub_frame.specs.Frame.{head_size, seal, seal_size, payload_start, close_size}
-use Rattle.scrub_frame.proofs.Frames.{begins_with_head, overhead, too_short, other_close, other_seal, frame_of_parts}
+use Rattle.scrub_frame.proofs.Frames.{begins_with_head, overhead, too_short, other_close, other_magic, other_seal, frame_of_parts}
 use Rattle.scrub_frame.proofs.frame.read_frame.Goals as goal
 
 not_both : (b : Bool) → b ≡ false → b ≡ true → ⊥
@@ -26,6 +26,11 @@ cut_payload : (x : List ℕ) (f : Form) (start n : ℕ) → start ≡ payload_st
 cut_payload x f start n hs =
     ap (λ j. take (j + n - j) (drop j x)) hs
     ∙ ap (λ j. take j (drop (payload_start f) x)) (let e : payload_start f + n - payload_start f ≡ n = omega arith in e)
+
+pub returns-in_err-head-clause-none : goal.returns-in_err-head-clause-none
+returns-in_err-head-clause-none c =
+    rw c.from_residual-in_err-head.ensures
+    (other_magic c.in_ok-first_chunk.field-0.now c.args.bytes.now c.in_ok-first_chunk.ensures.cases c.in_err-head.ensures.none)
 
 pub returns-then-bytes-end-clause-none : goal.returns-then-bytes-end-clause-none
 returns-then-bytes-end-clause-none c =

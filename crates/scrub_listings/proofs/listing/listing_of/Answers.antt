@@ -3,7 +3,7 @@ use Rattle.std.proofs.Common.{[], None, ap, ◌∙◌}
 use Rattle.std.specs.List.{flat_map, list_all}
 use Rattle.scrub_check.specs.declared.statuses.checked.Checked.{Checked}
 use Rattle.scrub_check.specs.Checked.{is_sound}
-use Rattle.scrub_check.proofs.ListsThere.{some_broken}
+use Rattle.scrub_check.proofs.OneList.{the_broken}
 use Rattle.scrub_found.specs.Judged.{found_in, is_clean_by}
 use Rattle.scrub_found.proofs.FoundBeside.{beside, some_candidates_of, with_lists}
 use Rattle.scrub_found.proofs.Verdicts.{clean_by_sound}
@@ -23,15 +23,15 @@ returns g c =
     let image = g.D.PageSource.image c.args.scan.disk.now in
     let judged = c.in_ok-judged.judged in
     let are = c.in_ok-judged.ensures None [] c.requires in
-    let broken = some_broken judged.checked.items in
+    let broken = the_broken judged.checked.items in
     let candidates = some_candidates_of [] image judged are in
     let shared = c.in_ok-shared_places.shared_places.items in
-    let b = beside [] image judged are shared broken.0 candidates.0 in
+    let b = beside [] image judged are shared broken.answer candidates.0 in
     let copies = c.in_ok-copies.copies in
     let copies_are : AreCopies [] image judged.scan.plan judged.scan.all.extents judged.checked.items copies =
     rw c.deref-2.ensures.value at c.in_ok-copies.ensures in
-    let found = with_lists [] image judged are shared broken.0 candidates.0
-    (rw c.deref.ensures.value at c.in_ok-shared_places.ensures) broken.1 candidates.1 in
+    let found = with_lists [] image judged are shared broken.answer candidates.0
+    (rw c.deref.ensures.value at c.in_ok-shared_places.ensures) broken.meets candidates.1 in
     record {
       found = found_in judged b;
       scrubbed = found.scrubbed;
@@ -46,5 +46,5 @@ returns g c =
           ∙ (λ i. is_clean_by judged.scan (c.deref-5.ensures.value i)
           ((c.are_sound-are_sound.ensures ∙ ap (list_all (λ (one : Checked). is_sound one.status)) c.deref-4.ensures.value) i)
           (c.deref-6.ensures.value i))
-          ∙ clean_by_sound judged b found.rows;
+          ∙ clean_by_sound judged.scan judged.runs.items judged.map judged.checked.items b found.rows;
     }

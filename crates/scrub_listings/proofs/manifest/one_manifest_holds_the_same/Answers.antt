@@ -1,6 +1,6 @@
--- The lines can be cut in one way only.
-use Rattle.std.proofs.Common.{sym, ◌∙◌}
-use Rattle.scrub_listings.proofs.ManifestBytes.{same_shards}
+-- The text is read in one way, and so is what it says of a locator.
+use Rattle.std.proofs.Common.{map, sym, ◌∙◌, ap}
+use Rattle.scrub_listings.proofs.ManifestBytes.{shown_traits, traits_of}
 use Rattle.scrub_listings.proofs.ManifestTexts.{same_content, same_verdict}
 use Rattle.scrub_listings.proofs.manifest.one_manifest_holds_the_same.Goals as goal
 
@@ -11,10 +11,11 @@ returns-clause-said c resets others image other text v w x y =
 pub returns-clause-whole : goal.returns-clause-whole
 returns-clause-whole c resets others image other text v w x y =
     x.verdict
-    ∙ same_verdict x.found y.found x.loose.frames y.loose.frames (same_content resets others image other x.found y.found x.loose.frames y.loose.frames x.scrubbed y.scrubbed (sym x.text_is ∙ y.text_is))
+    ∙ same_verdict x.found y.found x.loose.frames y.loose.frames (returns-clause-said c resets others image other text v w x y)
     ∙ sym y.verdict
 
 pub returns-clause-shards : goal.returns-clause-shards
 returns-clause-shards c resets others image other text v w x y bytes other_bytes =
-    same_shards resets others image other x.found y.found x.loose.frames y.loose.frames x.scrubbed y.scrubbed bytes other_bytes
-    (same_content resets others image other x.found y.found x.loose.frames y.loose.frames x.scrubbed y.scrubbed (sym x.text_is ∙ y.text_is)).shards
+    sym (shown_traits resets image x.found x.loose.frames x.scrubbed bytes)
+    ∙ ap (map traits_of) (returns-clause-said c resets others image other text v w x y).shards
+    ∙ shown_traits others other y.found y.loose.frames y.scrubbed other_bytes

@@ -1,4 +1,4 @@
-use Rattle.scrub_listings.proofs.Existing.{some_remarks}
+use Rattle.scrub_listings.proofs.OneListing.{some_remarks}
 use Rattle.scrub_listings.proofs.remarks.each_image_has_remarks.Goals as goal
 
 pub returns : goal.returns

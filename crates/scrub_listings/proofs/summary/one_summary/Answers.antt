@@ -1,6 +1,7 @@
 -- What is found on an image is unique.
-use Rattle.scrub_listings.proofs.OneListing.{one_summary_lem}
+use Rattle.scrub_listings.specs.Summary.{IsSummary}
+use Rattle.scrub_listings.proofs.OneListing.{one_summary, same_text}
 use Rattle.scrub_listings.proofs.summary.one_summary.Goals as goal
 
 pub returns : goal.returns
-returns c = one_summary_lem
+returns c = λ last image. same_text (IsSummary last image) (one_summary last image)

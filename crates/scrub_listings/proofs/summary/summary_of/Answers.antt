@@ -36,7 +36,7 @@ returns g c =
     ∙ (λ i. is_clean_by judged.scan (c.deref-2.ensures.value i)
     ((c.are_sound-are_sound.ensures ∙ ap (list_all (λ (one : Checked). is_sound one.status)) c.deref.ensures.value) i)
     (c.deref-3.ensures.value i))
-    ∙ clean_by_sound judged b is.rows in
+    ∙ clean_by_sound judged.scan judged.runs.items judged.map judged.checked.items b is.rows in
     let verdict_is : c.verdict_by-verdict.result ≡ verdict c.args.last found pages =
     c.verdict_by-verdict.ensures ∙ (λ i. verdict_by (clean_is i) (c.has_doubt-has_doubt.ensures i)) in
     record {

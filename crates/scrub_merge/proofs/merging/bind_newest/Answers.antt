@@ -3,7 +3,7 @@ use Rattle.std.proofs.Common.{◌≡◌, ◌↔◌, IsTrue, length, sym, ◌∙�
 use Rattle.std.specs.Prelude.{◌==◌}
 use Rattle.std.proofs.lemmas.Bool.{eqb-true, eqb-false}
 use Rattle.std.proofs.lemmas.Option.{none-some}
-use Rattle.scrub_merge.specs.Binding.{LostBefore}
+use Rattle.scrub_merge.specs.steps.Cursors.{LostBefore}
 use Rattle.scrub_merge.specs.steps.Cursors.{ahead}
 use Rattle.scrub_merge.proofs.Left.{first_left, lost_left, rising_left}
 use Rattle.scrub_merge.proofs.Moves.{rising_runs}

@@ -1,5 +1,5 @@
 -- The cursors begin at all entries, move on by one identifier, and end when nothing is ahead.
-use Rattle.std.proofs.Common.{◌≡◌, ◌<◌, ◌≤◌, List, ℕ, zero, length, get_or, arith, refl, sym, ◌∙◌, ap}
+use Rattle.std.proofs.Common.{◌≡◌, ◌<◌, ◌≤◌, List, ℕ, zero, length, get_or, arith, sym, ◌∙◌, ap}
 use Rattle.std.specs.BinaryHeap.{heap_items}
 use Rattle.std.specs.Vec.{with_items}
 use Rattle.std.proofs.lemmas.List.{get_or_default, with_items_is, length-replicate}
@@ -7,6 +7,7 @@ use Rattle.scrub_run.specs.declared.shard_id.ShardId.{ShardId}
 use Rattle.scrub_merge.specs.Binding.{Runs}
 use Rattle.scrub_merge.specs.steps.Cursors.{ahead, places_past, IsBound, IsFirstWith, IsLeast}
 use Rattle.scrub_merge.specs.ShardMap.{IsShardMap}
+use Rattle.scrub_merge.proofs.Maps.{bindings_of}
 use Rattle.scrub_merge.proofs.Left.{left_all, left_behind, length-behind, length-left, first_within, fewer}
 use Rattle.scrub_merge.proofs.Moves.{rising_runs}
 use Rattle.scrub_merge.proofs.Heaps.{first_least, first_newest, none_first}
@@ -128,7 +129,7 @@ map c =
     (none_first c.loop-least.invariant.heap (omega (arith, none))) c.loop-least.invariant.continues
 
 pub new-requires : goal.new-requires
-new-requires c = (map (goal.at.new-requires c).In_default).bindings_of_map
+new-requires c = bindings_of (map (goal.at.new-requires c).In_default)
 
 pub returns : goal.returns
 returns c = rw c.new.ensures (map (goal.at.returns c).In_default)

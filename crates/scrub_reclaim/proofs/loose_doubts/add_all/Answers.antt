@@ -3,7 +3,7 @@ use Rattle.std.proofs.Common.{◌++◌, List, ap, ◌∙◌}
 use Rattle.std.proofs.Math.Path.{ap₂}
 use Rattle.scrub_scan.specs.declared.standing.Standing.{Standing}
 use Rattle.scrub_listings.proofs.FlatLists.{flat_all, flat_more}
-use Rattle.scrub_reclaim.specs.Doubts.{loose_doubt}
+use Rattle.scrub_reclaim.specs.Doubts.{first_doubt, loose_doubt}
 use Rattle.scrub_reclaim.specs.steps.KeptCopies.{loose_doubts_by}
 use Rattle.scrub_reclaim.proofs.loose_doubts.add_all.Goals as goal
 
@@ -14,7 +14,7 @@ loop-one-preserved c =
     flat_more part c.args.doubts.now.items c.loop-one.doubts.items c.add_one.new.doubts.items c.args.all.now c.loop-one.one-index one (part one)
     c.loop-one-test.true (ap part c.one-item.is) c.loop-one.invariant
     (c.in_ok-add_one.ensures
-    ∙ ap₂ (λ (some stay : List Standing). c.loop-one.doubts.items ++ loose_doubt one.owner some stay) c.loose_of.ensures c.of_one.ensures)
+    ∙ ap₂ (λ (some stay : List Standing). c.loop-one.doubts.items ++ first_doubt (loose_doubt one.owner) some stay) c.loose_of.ensures c.of_one.ensures)
 
 pub returns : goal.returns
 returns c =

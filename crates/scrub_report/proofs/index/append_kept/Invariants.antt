@@ -1,7 +1,7 @@
 -- The entries of the first bindings.
 use Rattle.std.proofs.Common.{◌≡◌, ◌++◌, List, take}
 use Rattle.std.specs.List.{flat_map}
-use Rattle.scrub_run.specs.Entry.{entry_bytes}
+use Rattle.scrub_run.specs.steps.Parts.{entry_bytes}
 use Rattle.scrub_check.specs.declared.statuses.checked.Checked.{Checked}
 use Rattle.scrub_check.specs.Checked.{AreBrokenShards}
 use Rattle.scrub_report.specs.Index.{index_entries}

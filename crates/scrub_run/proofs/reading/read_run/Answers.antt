@@ -1,7 +1,7 @@
 -- A run has one digest, one head and one list of entries.
 use Rattle.std.proofs.Common.{length}
 use Rattle.std.specs.List.{flat_map}
-use Rattle.scrub_run.specs.Entry.{entry_bytes}
+use Rattle.scrub_run.specs.steps.Parts.{entry_bytes}
 use Rattle.scrub_run.proofs.Runs.{body_of_run, entries_of_run}
 use Rattle.scrub_run.proofs.reading.read_run.Goals as goal
 

@@ -1,7 +1,8 @@
 -- The entries so far fit and are written.
 use Rattle.std.proofs.Common.{◌≡◌, ◌<◌, ◌++◌, ℕ, take, get_or}
 use Rattle.std.specs.List.{flat_map}
-use Rattle.scrub_run.specs.Entry.{EntryValue, entry_bytes, IsEntry}
+use Rattle.scrub_run.specs.Entry.{EntryValue}
+use Rattle.scrub_run.specs.steps.Parts.{entry_bytes, IsEntry}
 use Rattle.scrub_run.proofs.writing.write_run.Given as goal
 
 abbrev pub invariant-loop-entry : goal.invariant-loop-entry

@@ -1,29 +1,30 @@
--- What is found in memory is what the image has.
-use Rattle.std.proofs.Common.{◌∙◌, ap, arith, length}
-use Rattle.scrub_super.specs.steps.PagesFound.{AreFoundOnPages}
-use Rattle.scrub_super.proofs.PageSteps.{found_on, pages_on}
+-- One page down, and at the end all pages.
+use Rattle.std.proofs.Common.{◌≡◌, ◌+◌, ◌-◌, ◌∙◌, arith, length-set}
+use Rattle.scrub_super.proofs.PageSteps.{seen_more}
 use Rattle.scrub_super.proofs.extent_zero.choose_with_pages.Goals as goal
 
-pub seen_in-seen-requires : goal.seen_in-seen-requires
-seen_in-seen-requires g c =
-    omega (arith, c.deref-3.ensures.len, c.in_ok-found.ensures.count, c.geometry-geometry.result.pages_most)
-
-pub pages_of-requires-clause-count : goal.pages_of-requires-clause-count
-pages_of-requires-clause-count g c = ap length c.deref-6.ensures.value ∙ c.in_ok-found.ensures.count
-
-pub chosen_by-requires-clause-seen : goal.chosen_by-requires-clause-seen
-chosen_by-requires-clause-seen g c κs within =
+pub loop-page-preserved : goal.loop-page-preserved
+loop-page-preserved g c =
     let image = g.D.PageSource.image c.args.disk.now in
-    let are : AreFoundOnPages image c.in_ok-found.found.items =
-    found_on c.geometry-geometry.ensures c.deref.ensures.value c.deref-2.ensures.value c.in_ok-extent.ensures
-    c.in_ok-found.ensures.found in
-    c.seen_in-seen.ensures image (rw c.deref-3.ensures.value are)
+    let so_far = c.loop-page.invariant in
+    let next : c.loop-page.page ≡ c.loop-page.page - 1 + 1 = omega (arith, c.loop-page-test.true) in
+    record {
+      searched = c.in_ok-seen_page.ensures.searched;
+      count = length-set c.loop-page.seen_pages.items (c.loop-page.page - 1) _ ∙ so_far.count;
+      seen =
+          seen_more image c.loop-page.seen_pages.items _ next so_far.count (omega (arith, so_far.searched.few, next))
+          c.in_ok-seen_page.ensures.seen so_far.seen;
+    }
 
-pub returns-clause-pages : goal.returns-clause-pages
-returns-clause-pages g c =
-    let image = g.D.PageSource.image c.args.disk.now in
-    let are : AreFoundOnPages image c.in_ok-found.found.items =
-    found_on c.geometry-geometry.ensures c.deref.ensures.value c.deref-2.ensures.value c.in_ok-extent.ensures
-    c.in_ok-found.ensures.found in
-    pages_on c.geometry-geometry.ensures c.deref-4.ensures.value c.deref-5.ensures.value c.in_ok-extent.ensures
-    c.deref-6.ensures.value are (c.seen_in-seen.ensures image (rw c.deref-3.ensures.value are)) c.in_ok-pages.ensures
+pub pages_of-requires-clause-pages : goal.pages_of-requires-clause-pages
+pages_of-requires-clause-pages g c κs within =
+    let e : c.loop-page.page ≡ 0 = omega (arith, c.loop-page-test.false) in
+    rw c.deref.ensures.value (record {
+      count = c.loop-page.invariant.count;
+      each = λ q page is. c.loop-page.invariant.seen q page (omega (arith, e)) is;
+    })
+
+pub choice_of-requires-after_bounds : goal.choice_of-requires-after_bounds
+choice_of-requires-after_bounds g c κs within =
+    let e : c.loop-page.page ≡ 0 = omega (arith, c.loop-page-test.false) in
+    rw e at c.loop-page.invariant.searched

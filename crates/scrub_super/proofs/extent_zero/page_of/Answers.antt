@@ -5,12 +5,13 @@ use Rattle.scrub_super.proofs.PageLaws.{readable_of}
 use Rattle.scrub_super.proofs.extent_zero.page_of.Goals as goal
 
 pub returns-in-Some : goal.returns-in-Some
-returns-in-Some c = λ image q known at seen.
-    let there : IsFoundOnPage image q (Some c.in-Some.record) = rw c.in-Some.is at at in (
+returns-in-Some c = λ image q known seen.
+    let there : IsFoundOnPage image q (Some c.in-Some.record) = rw c.in-Some.is at known.seen.found in (
       there.0,
       there.1,
       there.2.kind,
       there.2.generation,
+      there.2.to,
       c.rank_of.ensures image q there.0 seen there.1 there.2.generation,
-      (c.args.bytes.now, readable_of c.args.is_readable known.bytes_are there.1, known.stray_is),
+      (known.seen.bytes, readable_of c.args.page.is_readable known.seen.readable there.1, known.stray_is),
     )

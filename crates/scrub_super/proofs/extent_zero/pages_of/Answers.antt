@@ -1,26 +1,32 @@
 -- One more page, and how far the records up to it reach.
-use Rattle.std.proofs.Common.{◌<◌, ◌+◌, ◌*◌, ◌∙◌, ℕ, List, Option, ap, arith, length, refl}
+use Rattle.std.proofs.Common.{◌≡◌, ◌+◌, ◌*◌, ◌∙◌, ap, false, get_or, length, None}
 use Rattle.std.proofs.lemmas.List.{length_push}
-use Rattle.scrub_super.specs.steps.PagesFound.{AreFoundOnPages, image_with}
-use Rattle.scrub_super.proofs.PageSteps.{each_more, known_of, part_fits}
+use Rattle.std.proofs.lemmas.Option.{slice_get-get_or}
+use Rattle.scrub_super.specs.declared.pages.SeenPage.{SeenPage}
+use Rattle.scrub_super.specs.steps.PagesFound.{IsRecordReach, IsSeenPage}
+use Rattle.scrub_super.proofs.PageSteps.{each_more, known_of}
 use Rattle.scrub_super.proofs.extent_zero.pages_of.Goals as goal
 
 pub loop-page-preserved : goal.loop-page-preserved
-loop-page-preserved c =
-    let here : c.loop-page.page < c.args.geometry.pages = omega (arith, c.loop-page-test.true, c.requires.count) in
-    let more = λ (page : ℕ → ℕ → Option (List ℕ)) (are : AreFoundOnPages (image_with c.args.geometry page) c.args.found.now).
-    c.reach_with-reach.ensures (image_with c.args.geometry page) c.loop-page.page
-    (c.loop-page.invariant.reach page are) (are.each c.loop-page.page here) in
+loop-page-preserved g c =
+    let image = g.D.PageSource.image c.args.disk.now in
+    let q = c.loop-page.page in
+    let page : SeenPage =
+    get_or c.args.seen_pages.now q (record { found = None; is_readable = false; letters = None; used = 0 }) in
+    let seen : IsSeenPage image q page =
+    c.requires.pages.each q page (slice_get-get_or c.args.seen_pages.now q _ c.loop-page-test.true) in
+    let reach : IsRecordReach image (q + 1) c.reach_with-reach.result =
+    c.reach_with-reach.ensures image q c.loop-page.invariant.reach seen.found in
+    let start : q * c.page-size.result ≡ q * image.geometry.page =
+    ap (λ n. q * n) (c.page-size.ensures ∙ ap (λ h. h.page) c.geometry.ensures) in
     record {
       count =
           ap length c.in_ok-push.ensures.items
-          ∙ length_push c.loop-page.pages.items c.page_of-held.result
+          ∙ length_push c.loop-page.pages.items c.page_of.result
           ∙ ap (λ n. n + 1) c.loop-page.invariant.count;
-      each = λ page h are seen.
-          each_more (image_with c.args.geometry page) c.loop-page.pages.items c.page_of-held.result
-          c.loop-page.invariant.count c.in_ok-push.ensures.items (c.loop-page.invariant.each page h are seen)
-          (c.page_of-held.ensures (image_with c.args.geometry page) c.loop-page.page
-          (known_of h here c.page-size.ensures refl refl (more page are) (c.has_stray_byte-is_stray.ensures (image_with c.args.geometry page) c.loop-page.page (ap (λ n. c.loop-page.page * n) c.page-size.ensures) (part_fits c.args.bytes.now (c.loop-page.page * c.page-size.result) refl c.page-size.ensures) (more page are)))
-          (are.each c.loop-page.page here) seen);
-      reach = more;
+      each =
+          each_more image c.loop-page.pages.items c.page_of.result c.loop-page.invariant.count c.in_ok-push.ensures.items
+          c.loop-page.invariant.each
+          (c.page_of.ensures image q (known_of seen start c.saturating_sub.ensures reach) c.requires.records);
+      reach = reach;
     }

@@ -5,7 +5,7 @@ use Rattle.std.specs.List.Sorted.{IsPartitionPoint}
 use Rattle.std.proofs.lemmas.List.Sorted.{IsPartitionPoint-from_clause}
 use Rattle.scrub_run.specs.Entry.{EntryValue}
 use Rattle.scrub_merge.specs.steps.Parts.{is_before, is_on}
-use Rattle.scrub_merge.proofs.Parted.{are_parted, first_part, last_part, AreEntries-kept}
+use Rattle.scrub_merge.proofs.Parted.{are_parted, first_part, last_part}
 use Rattle.scrub_merge.proofs.part.Part.on_side.Goals as goal
 use Rattle.scrub_merge.proofs.part.Part.on_side.Goals.{Then-side, Else-side}
 

@@ -1,5 +1,5 @@
 -- The page is read in front of the bytes that are kept.
-use Rattle.std.proofs.Common.{◌≡◌, arith, refl, sym, ap, subst, length, ◌∙◌}
+use Rattle.std.proofs.Common.{arith, refl, sym, ap, subst, length, ◌∙◌}
 use Rattle.std.proofs.lemmas.List.{with_items_is}
 use Rattle.scrub_super.specs.steps.BytesFrom.{IsReadInFront}
 use Rattle.scrub_super.proofs.BytesFromPages.{page_lost, page_read}
