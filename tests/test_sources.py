@@ -7,7 +7,7 @@ from lib.cases import Case
 from lib.program import RELEASED, TOP
 
 # A line of code has at most this many columns, unless it has a long text in it, as the program prints it.
-COLUMNS = 113
+COLUMNS = 110
 LONG_TEXT = re.compile(r'"(?:[^"\\]|\\.){70,}"|r#".{70,}"#')
 
 # The section of CONTRIBUTING whose lists name edits, tests in Rattle and tests of the program.

@@ -29,7 +29,7 @@ IN_RUNS = {
     "Batch::append": "locators with a spare",
     "Batch::end": "locators with a spare",
     "Batch::digests": "locators with a spare",
-    "read_extent": "superblocks",
+    "read_extent": "compare",
     "unreadable_pages": "scan",
     "load_in_parts": "locators by several readers",
     "load_extent": "items",
