@@ -8,7 +8,7 @@ ghost use Rattle.scrub_frame.specs.declared.form.Form.{Form};
 ghost use Rattle.scrub_frame.specs.Frame.{frame_of};
 ghost use Rattle.scrub_run.specs.Run.{run_bytes};
 ghost use Rattle.scrub_super.specs.steps.Limits.{ArePointers};
-ghost use Rattle.scrub_super.specs.Planned.{AreChunkExtents};
+ghost use Rattle.scrub_super.specs.Planned.{AreChunkExtents, extents_in_use};
 ghost use Rattle.scrub_fakes.specs.Builders.{IsSmall, IsLocatorOf, PutsRecord, IsPlanOfDisk};
 
 use crate::OutOfMemory;
@@ -242,6 +242,8 @@ pub fn plan_of(alloc: Global, disk: &MemDisk) -> Result<Plan, Misfit>
     ensures geometry { IfOk result (λ plan. plan.geometry ≡ (image_of disk.now).geometry) }
     ensures planned { IfOk result (λ plan.
         plan.planned ≡ range_with_len 1 ((image_of disk.now).geometry.extents - 1)) }
+    ensures in_use { IfOk result (λ plan.
+        plan.planned ≡ extents_in_use (image_of disk.now).geometry.extents plan.retired) }
 {
     let chosen = choose(alloc, disk)?;
     let plan = Plan::make(alloc, &chosen, disk.geometry())?;

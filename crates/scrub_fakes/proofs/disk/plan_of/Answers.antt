@@ -14,3 +14,6 @@ returns-clause-planned c =
     let empty = is_none (length c.retired.result.now) (sym c.is_empty.ensures ∙ c.if-not-is_empty.false) in
     let none : c.in_ok-plan.plan.retired ≡ [] = sym c.retired.ensures.retired ∙ nil_from_length c.retired.result.now empty in
     (rw (c.in_ok-chosen.ensures.geometry, none) at c.in_ok-plan.ensures.parts.all) ∙ all_kept c.args.disk.now.geometry.extents
+
+pub returns-clause-in_use : goal.returns-clause-in_use
+returns-clause-in_use c = rw c.in_ok-chosen.ensures.geometry at c.in_ok-plan.ensures.parts.all
