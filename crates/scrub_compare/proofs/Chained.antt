@@ -9,11 +9,11 @@ use Rattle.scrub_loose.specs.Loose.{AreLoose, LooseValue}
 use Rattle.scrub_found.specs.Resets.{IsScrubbedBut}
 use Rattle.scrub_found.specs.Scrubbed.{Scrubbed, IsScrubbed}
 use Rattle.scrub_listings.specs.Manifest.{IsManifest, lost_run_count, manifest_text}
-use Rattle.scrub_reclaim.specs.Reset.{IsForeseen, NameTheSame}
+use Rattle.scrub_reclaim.specs.Reset.{IsAfterReset, NameTheSame}
 use Rattle.scrub_reclaim.proofs.ResetCopies.{named_but, no_better}
 use Rattle.scrub_compare.specs.Compare.{Compared}
 use Rattle.scrub_compare.specs.Laws.{IsSafe, IsSameButMore, NonePointsInto}
-use Rattle.scrub_compare.proofs.AsForeseen.{kept_as_foreseen, kept_more}
+use Rattle.scrub_compare.proofs.AfterResets.{kept_after_reset, kept_more}
 use Rattle.scrub_compare.proofs.KeptManifest.{AreKept, kept, kept_text}
 use Rattle.scrub_compare.proofs.KeptNames.{kept_named, text_of_found}
 use Rattle.scrub_compare.proofs.Safe.{no_line, none_points}
@@ -47,15 +47,15 @@ without_resets resets image found rest loose others x y l m apart =
 
 -- Two safe steps and the second's resets keep the manifest, but for last words that rose and fewer hidden runs.
 pub nothing_lost_in_two : (resets others : List ℕ) (before after later other : Image) (a b : List ℕ) (v w : Bool) → IsSafe resets before after →
-    IsSafe others after later → IsForeseen others later other → IsManifest before a v → IsManifest other b w → IsSameButMore a b
-nothing_lost_in_two resets others before after later other a b v w s t f x y =
+    IsSafe others after later → IsAfterReset others later other → IsManifest before a v → IsManifest other b w → IsSameButMore a b
+nothing_lost_in_two resets others before after later other a b v w s t r x y =
     subst (λ (u : List ℕ). IsSameButMore u b) (sym (text_of_found before a v c.before c.loose x s.safe.are.scrubbed_before s.safe.are.loose))
     (subst (λ (u : List ℕ). IsSameButMore (manifest_text c.before c.loose.frames) u) (sym y.text_is)
     (kept_text [] [] before other c.before y.found c.loose.frames y.loose.frames s.safe.are.scrubbed_before y.scrubbed
     (kept_more c.before d.after_resets y.found c.loose.frames d.loose_now.frames y.loose.frames
     (kept_more c.before d.before d.after_resets c.loose.frames d.loose.frames d.loose_now.frames
     (kept_more c.before c.after_resets d.before c.loose.frames c.loose_now.frames d.loose.frames first middle) second)
-    (kept_as_foreseen others later other d.after_resets y.found d.loose_now y.loose t.safe.are.scrubbed_after_resets y.scrubbed t.safe.are.loose_now y.are_loose f second.has_now second.read_now))))
+    (kept_after_reset others later other d.after d.after_resets y.found t.safe.are.scrubbed_after t.safe.are.scrubbed_after_resets y.scrubbed r d.loose_now y.loose t.safe.are.loose_now y.are_loose (none_points others after later t.text d.after t.safe t.safe.are.scrubbed_after) second.has_now second.read_now))))
   where
     c : Compared
     c = s.safe.compared

@@ -19,7 +19,7 @@ pub mod LastWords
 pub mod Kept
 pub mod KeptManifest
 pub mod KeptNames
-pub mod AsForeseen
+pub mod AfterResets
 -- what is safe keeps bytes and chunks, in two steps too, and can be undone
 pub mod Overwritten
 pub mod Chunks
@@ -29,6 +29,8 @@ pub mod SameContent
 pub mod ChunksThere
 pub mod StillThere
 pub mod Undone
+-- what wasn't written to is safe
+pub mod Unwritten
 -- that there is one answer
 pub mod OneComparison
 pub mod Existing

@@ -1,22 +1,25 @@
 //! What follows for two images of a disk if what was written between them is safe: laws alone, without code.
 
-ghost use Rattle.std.specs.Prelude.{Bool, List, ℕ};
+ghost use Rattle.std.specs.Prelude.{◌≡◌, [], Bool, List, ℕ};
 ghost use Rattle.scrub_disk.specs.Image.{HasWholePages, Image};
+ghost use Rattle.scrub_super.specs.Pages.{AreSuperblockPages};
+ghost use Rattle.scrub_super.specs.declared.pages.SuperblockPage.{SuperblockPage};
 ghost use Rattle.scrub_found.specs.Scrubbed.{Scrubbed, IsScrubbed};
 ghost use Rattle.scrub_listings.specs.Manifest.{IsManifest};
 ghost use Rattle.scrub_reclaim.specs.Copy.{IsSameButRisen};
-ghost use Rattle.scrub_reclaim.specs.Reset.{IsForeseen};
+ghost use Rattle.scrub_reclaim.specs.Reset.{IsAfterReset};
+ghost use Rattle.scrub_compare.specs.Compare.{firm_doubts};
 ghost use Rattle.scrub_compare.specs.Laws.{IsSafe, IsSameButMore, IsUndone, KeepsBytes, KeepsChunks};
 ghost use Rattle.scrub_compare.specs.Laws.{NoneIsCrowded, NonePointsInto};
 
 /// A law: if what was written between two images is safe, nothing that is named is lost. Take an image that
-/// differs from the later one only in this: the extents to be reset have the write pointer 0 and any bytes,
-/// and the generation and the bytes of extent 0 may be others. All its index runs are read. Its manifest is
-/// that of the earlier image, except that fewer runs may be hidden, and last words may have risen (from
-/// `none` over `loose` to `spare`): a locator that dangles may have got a better copy, and has lost none.
+/// differs from the later one only in this: the extents to be reset have any write pointers and any bytes, and
+/// the generation and the bytes of extent 0 may be others. All its index runs are read. Its manifest is that
+/// of the earlier image, except that fewer runs may be hidden, and last words may have risen (from `none`
+/// over `loose` to `spare`): a locator that dangles may have got a better copy, and has lost none.
 pub fn nothing_is_lost()
     ensures { (resets : List ℕ) (before after other : Image) (a b : List ℕ) (v w : Bool) →
-        IsSafe resets before after → IsForeseen resets after other → IsManifest before a v →
+        IsSafe resets before after → IsAfterReset resets after other → IsManifest before a v →
         IsManifest other b w → IsSameButMore a b }
 {}
 
@@ -26,7 +29,7 @@ pub fn nothing_is_lost()
 /// manifest is that of the first image, with the same exceptions.
 pub fn nothing_is_lost_in_two_steps()
     ensures { (resets others : List ℕ) (before after later other : Image) (a b : List ℕ) (v w : Bool) →
-        IsSafe resets before after → IsSafe others after later → IsForeseen others later other →
+        IsSafe resets before after → IsSafe others after later → IsAfterReset others later other →
         IsManifest before a v → IsManifest other b w → IsSameButMore a b }
 {}
 
@@ -59,4 +62,11 @@ pub fn it_can_be_undone()
     ensures { (resets : List ℕ) (before after undone : Image) (a b : List ℕ) (v w : Bool) →
         IsSafe resets before after → NoneIsCrowded after → IsUndone before after undone →
         IsManifest before a v → IsManifest undone b w → IsSameButRisen a b }
+{}
+
+/// A law: what wasn't written to is safe. An image without doubts that can't be accepted is safe with itself,
+/// where no extent is to be reset.
+pub fn what_is_unwritten_is_safe()
+    ensures { (image : Image) (pages : List SuperblockPage) (found : Scrubbed) → IsScrubbed image found →
+        AreSuperblockPages image pages → firm_doubts pages found ≡ [] → IsSafe [] image image }
 {}

@@ -27,6 +27,8 @@ pub mod LooseFrames
 pub mod RisenTexts
 pub mod Reset
 pub mod ResetCopies
+-- what a manifest rests on
+pub mod SameManifests
 -- what a copy into room keeps
 pub mod NextPlaces
 pub mod KeptExtents

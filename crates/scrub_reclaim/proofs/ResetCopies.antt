@@ -140,7 +140,8 @@ module _ (extents : List ℕ) (image : Image) (found rest : Scrubbed) (x : IsScr
       (plan_found image found without.0 x (record { choice = rest.choice; chosen = y.choice; follows = without.1 }))
       without.2
 
-  same_else : (e : ℕ) → ¬ Contains extents e → IsTheSame image image found.plan rest.plan e
+  -- The other extents are the same.
+  pub same_else : (e : ℕ) → ¬ Contains extents e → IsTheSame image image found.plan rest.plan e
   same_else e apart = record {
     sizes = refl;
     retired = reset.retired;
@@ -160,7 +161,8 @@ module _ (extents : List ℕ) (image : Image) (found rest : Scrubbed) (x : IsScr
   alike_else = scans_alike image image found.plan rest.plan (λ e. ¬ Contains extents e) same_else found.all rest.all numbers x.all y.all
 
   -- nothing is found in the extents that are reset
-  part : (f g : Scanned) → g.extent ≡ f.extent → IsScannedBy image found.plan f → IsScannedBy image rest.plan g → IsPartOf f g
+  part : (f g : Scanned) → g.extent ≡ f.extent → IsScannedBy image found.plan f → IsScannedBy image rest.plan g →
+      IsPartOf (λ e. ¬ Contains extents e) f g
   part f g number p q = record {
     extent = number;
     items = elim (among_cases extents f.extent) [
@@ -169,13 +171,14 @@ module _ (extents : List ℕ) (image : Image) (found rest : Scrubbed) (x : IsScr
           (no_items (extent_of image g.extent g.pointer) g.findings.items
           (same_Some g.pointer 0 (sym q.0 ∙ ap (pointer_of rest.plan) number ∙ zero_pointer extents found.plan rest.plan reset f.extent f.pointer among.0 p.0))
           q.1.tiled)
-      | inr other ↦ inl (alike_items image image found.plan rest.plan f g number p q (same_else f.extent other.1))
+      | inr other ↦ inl (other.1, alike_items image image found.plan rest.plan f g number p q (same_else f.extent other.1))
     ];
   }
 
-  parts : AllZip IsPartOf found.all rest.all
+  -- With resets each extent has the same items or none.
+  pub parts : AllZip (IsPartOf (λ e. ¬ Contains extents e)) found.all rest.all
   parts =
-      along (IsScannedBy image found.plan) (IsScannedBy image rest.plan) IsPartOf part found.all rest.all numbers
+      along (IsScannedBy image found.plan) (IsScannedBy image rest.plan) (IsPartOf (λ e. ¬ Contains extents e)) part found.all rest.all numbers
       (scanned_by image found.plan found.all x.all) (scanned_by image rest.plan rest.all y.all)
 
   -- ---- the loose frames and the best copies
@@ -199,7 +202,7 @@ module _ (extents : List ℕ) (image : Image) (found rest : Scrubbed) (x : IsScr
         let one = first_of (spares_of rest.all c) some in
         not_nil (spares_of found.all c) one.0
         (spare_too c (frames rest.all) (frames found.all) one.0 one.1
-        (frame_was found.all rest.all one.0 parts (spare_among c (frames rest.all) (frames found.all) one.0 one.1))))
+        (frame_was (λ e. ¬ Contains extents e) found.all rest.all one.0 parts (spare_among c (frames rest.all) (frames found.all) one.0 one.1)).0))
         (λ some.
         let one = first_of (loose_of rest.all others.frames c) some in
         (one.0, one.1, no_more one.0 (loose_among c rest.all found.all others.frames loose.frames one.0 one.1).2))

@@ -34,10 +34,10 @@ pub record IsAlikeIn (K : ℕ → Type 0) (f g : Scanned) : Type 0 where
   pub extent : g.extent ≡ f.extent
   pub items : K f.extent → g.findings.items ≡ f.findings.items
 
--- the same extent, with the same items or none
-pub record IsPartOf (f g : Scanned) : Type 0 where
+-- the same extent, with the same items, and then this is known of its number, or with none
+pub record IsPartOf (K : ℕ → Type 0) (f g : Scanned) : Type 0 where
   pub extent : g.extent ≡ f.extent
-  pub items : (g.findings.items ≡ f.findings.items) ⊎ (g.findings.items ≡ [])
+  pub items : (K f.extent × (g.findings.items ≡ f.findings.items)) ⊎ (g.findings.items ≡ [])
 
 -- what holds of two scanned extents of one number holds along two lists of the same numbers
 pub along : (P Q : Scanned → Type 0) (R : Scanned → Scanned → Type 0) → ((f g : Scanned) → g.extent ≡ f.extent → P f → Q g → R f g) →
@@ -126,25 +126,31 @@ frame_stays K fs gs s alike known =
     frames_along (IsAlikeIn K) s (λ f g one there. own_stays K f g s one known there) fs gs alike
 
 -- a chunk of what has some of the items is in both
-own_was : (f g : Scanned) (s : Standing) → IsPartOf f g → Contains (frames_in g) s → Contains (frames_in f) s
-own_was f g s part there = by part.items
+own_was : (K : ℕ → Type 0) (f g : Scanned) (s : Standing) → IsPartOf K f g → Contains (frames_in g) s →
+    Contains (frames_in f) s × K s.extent
+own_was K f g s part there = by part.items
   where
-    by : (g.findings.items ≡ f.findings.items) ⊎ (g.findings.items ≡ []) → Contains (frames_in f) s
+    by : (K f.extent × (g.findings.items ≡ f.findings.items)) ⊎ (g.findings.items ≡ []) → Contains (frames_in f) s × K s.extent
     by (inl same) =
-        subst (λ (xs : List Standing). Contains xs s)
-        (ap₂ (λ (e : ℕ) (items : List Item). filter_map (frame_of_item e) items) part.extent same) there
+        let own : s.extent ≡ g.extent = All-contains (λ (t : Standing). t.extent ≡ g.extent) (frames_in g) s (own_numbers g.extent g.findings.items) there in (
+          subst (λ (xs : List Standing). Contains xs s)
+              (ap₂ (λ (e : ℕ) (items : List Item). filter_map (frame_of_item e) items) part.extent same.1) there,
+          subst K (sym (own ∙ part.extent)) same.0,
+        )
     by (inr none) =
         let nothing : Contains [] s = subst (λ (items : List Item). Contains (filter_map (frame_of_item g.extent) items) s) none there in
         absurd (omega (arith, nothing.1))
 
--- If each extent has the same items in the second scan or none, its chunks are among the first's.
-pub frame_was : (fs gs : List Scanned) (s : Standing) → AllZip IsPartOf fs gs → Contains (frames gs) s → Contains (frames fs) s
-frame_was [] [] s part there = there
-frame_was [] (g ∷ gs) s part there = absurd part
-frame_was (f ∷ fs) [] s part there = absurd part
-frame_was (f ∷ fs) (g ∷ gs) s part there = elim (Contains-append_cases (frames_in g) (frames gs) s there) [
-  | inl here ↦ Contains-append_left (frames_in f) (frames fs) s (own_was f g s part.0 here)
-  | inr later ↦ Contains-append_right (frames_in f) (frames fs) s (frame_was fs gs s part.1 later)
+-- If each extent has the same items in the second scan or none, its chunks are among the first's, and the same is known of their
+-- extents.
+pub frame_was : (K : ℕ → Type 0) (fs gs : List Scanned) (s : Standing) → AllZip (IsPartOf K) fs gs → Contains (frames gs) s →
+    Contains (frames fs) s × K s.extent
+frame_was K [] [] s part there = absurd (omega (arith, there.1))
+frame_was K [] (g ∷ gs) s part there = absurd part
+frame_was K (f ∷ fs) [] s part there = absurd part
+frame_was K (f ∷ fs) (g ∷ gs) s part there = elim (Contains-append_cases (frames_in g) (frames gs) s there) [
+  | inl here ↦ let was = own_was K f g s part.0 here in (Contains-append_left (frames_in f) (frames fs) s was.0, was.1)
+  | inr later ↦ let was = frame_was K fs gs s part.1 later in (Contains-append_right (frames_in f) (frames fs) s was.0, was.1)
 ]
 
 -- ---- spares

@@ -16,11 +16,13 @@ use Rattle.scrub_check.specs.ChunkForms.{form_at}
 use Rattle.scrub_check.specs.Runs.{ReadRunsValue}
 use Rattle.scrub_check.proofs.RunStates.{Sound_from_is_sound}
 use Rattle.scrub_loose.specs.declared.copies.BestCopy.{BestCopy}
+use Rattle.scrub_loose.specs.declared.copies.BestCopy.TheVariants.{Nowhere, Loose, Spare}
 use Rattle.scrub_loose.specs.Loose.{best_of}
 use Rattle.scrub_found.specs.Scrubbed.{Scrubbed}
 use Rattle.scrub_listings.specs.Manifest.{after_status, after_status_in, copy_word, form_text, hidden_runs, is_of_read_run, is_of_shard, looked_for, lost_run_count, manifest_text, numbered_line, numbered_lines, numbered_text, of_shards, retired_line, runs_line, shard_lines, text_by, total_line}
 use Rattle.scrub_reclaim.specs.Copy.{IsSameButRisen, IsSameOrRisen, rank}
 use Rattle.scrub_reclaim.specs.Reset.{NameTheSame}
+use Rattle.scrub_reclaim.specs.Same.{IsSameButLastWords}
 use Rattle.scrub_reclaim.proofs.BestCopies.{one_of_rank}
 
 -- ---- parts of texts
@@ -68,6 +70,12 @@ IsSaidAlike a b =
     (b ≡ a) ⊎
     ((front : List ℕ) × (was is : BestCopy) × (rank was < rank is) ×
     (a ≡ front ++ spaced (copy_word was)) × (b ≡ front ++ spaced (copy_word is)))
+
+-- no copy is better than a spare
+at_most_spare : (best : BestCopy) → rank best ≤ rank Spare
+at_most_spare Nowhere = omega arith
+at_most_spare Loose = omega arith
+at_most_spare Spare = omega arith
 
 -- the word for a copy that is as good or better
 said_copies : (l : List ℕ) (x y : BestCopy) → rank x ≤ rank y → IsSaidAlike (l ++ spaced (copy_word x)) (l ++ spaced (copy_word y))
@@ -148,19 +156,21 @@ module _ (found rest : Scrubbed) (loose others : List Standing) (same : NameTheS
   abbrev AreSaid : Checked → Type 0
   AreSaid k = IsSaidAlike (after_status_in found.all loose k) (after_status_in rest.all others k)
 
-  -- If the same is named, and what follows each status is alike, the manifests are the same but that such words may have risen.
-  pub manifests_alike : All AreSaid found.checked → IsSameButRisen (manifest_text found loose) (manifest_text rest others)
-  manifests_alike said =
-      subst (λ (t : List ℕ). IsSameButRisen (manifest_text found loose) t) is_other
-      (texts_alike (after_status_in found.all loose) (after_status_in rest.all others) found.plan.has_superblock found.plan.retired (lost_run_count found) (hidden_runs found) found.bindings (of_shards found.checked)
-      (All-filter (λ k. is_of_shard k.owner) AreSaid found.checked said))
+  -- the other manifest, by what is named in the first one
+  other_text : text_by (after_status_in rest.all others) found.plan.has_superblock found.plan.retired (lost_run_count found)
+      (hidden_runs found) found.bindings (of_shards found.checked) ≡ manifest_text rest others
+  other_text = λ i. of (sym same.superblock i) (sym same.retired i) (sym same.read i) (sym same.bindings i) (sym same.checked i)
     where
       of : Bool → List ℕ → ReadRunsValue → List BindingValue → List Checked → List ℕ
       of has retired reads binds all =
           text_by (after_status_in rest.all others) has retired (count_by is_none reads.runs) (count_by (λ k. is_hidden k.status && is_of_read_run reads.runs k.owner) all) binds (of_shards all)
 
-      is_other : of found.plan.has_superblock found.plan.retired found.read found.bindings found.checked ≡ manifest_text rest others
-      is_other = λ i. of (sym same.superblock i) (sym same.retired i) (sym same.read i) (sym same.bindings i) (sym same.checked i)
+  -- If the same is named, and what follows each status is alike, the manifests are the same but that such words may have risen.
+  pub manifests_alike : All AreSaid found.checked → IsSameButRisen (manifest_text found loose) (manifest_text rest others)
+  manifests_alike said =
+      subst (λ (t : List ℕ). IsSameButRisen (manifest_text found loose) t) other_text
+      (texts_alike (after_status_in found.all loose) (after_status_in rest.all others) found.plan.has_superblock found.plan.retired (lost_run_count found) (hidden_runs found) found.bindings (of_shards found.checked)
+      (All-filter (λ k. is_of_shard k.owner) AreSaid found.checked said))
 
   -- The same, if the best copy of each locator is as good or better.
   pub manifests_rise : All (λ (k : Checked). rank (best_of found.all loose k) ≤ rank (best_of rest.all others k)) found.checked →
@@ -172,3 +182,37 @@ module _ (found rest : Scrubbed) (loose others : List Standing) (same : NameTheS
           let k : Checked = get_or found.checked i d in
           said_alike (form_at found.all k.locator) (form_at rest.all k.locator) (best_of found.all loose k) (best_of rest.all others k) k
           (λ sound. same.forms i d below (Sound_from_is_sound k.status sound)) (rises i d below)
+
+  -- what follows a status if there is a spare
+  abbrev AtBest : Checked → List ℕ
+  AtBest k = after_status (form_at found.all k.locator) Spare k
+
+  -- the first manifest, if each dangling locator had a spare
+  abbrev best_text : List ℕ
+  best_text =
+      text_by AtBest found.plan.has_superblock found.plan.retired (lost_run_count found) (hidden_runs found) found.bindings (of_shards found.checked)
+
+  -- what rises to it
+  rises_to_best : (after : Checked → List ℕ) → All (λ (k : Checked). IsSaidAlike (after k) (AtBest k)) found.checked →
+      IsSameButRisen (text_by after found.plan.has_superblock found.plan.retired (lost_run_count found) (hidden_runs found) found.bindings (of_shards found.checked)) best_text
+  rises_to_best after said =
+      texts_alike after AtBest found.plan.has_superblock found.plan.retired (lost_run_count found) (hidden_runs found) found.bindings (of_shards found.checked)
+      (All-filter (λ k. is_of_shard k.owner) (λ (k : Checked). IsSaidAlike (after k) (AtBest k)) found.checked said)
+
+  -- If the same is named, both manifests rise to that.
+  pub last_words_alone : IsSameButLastWords (manifest_text found loose) (manifest_text rest others)
+  last_words_alone = record {
+    risen = best_text;
+    one =
+        rises_to_best (after_status_in found.all loose)
+        (λ i d below.
+        let k : Checked = get_or found.checked i d in
+        said_alike (form_at found.all k.locator) (form_at found.all k.locator) (best_of found.all loose k) Spare k (λ sound. refl) (at_most_spare (best_of found.all loose k)));
+    other =
+        subst (λ (t : List ℕ). IsSameButRisen t best_text) other_text
+        (rises_to_best (after_status_in rest.all others)
+        (λ i d below.
+        let k : Checked = get_or found.checked i d in
+        said_alike (form_at rest.all k.locator) (form_at found.all k.locator) (best_of rest.all others k) Spare k
+        (λ sound. sym (same.forms i d below (Sound_from_is_sound k.status sound))) (at_most_spare (best_of rest.all others k))));
+  }

@@ -1,6 +1,7 @@
 -- What is found in an extent is the same on two images with the same bytes and the same pointer there.
 use Rattle.std.proofs.Common.{◌≡◌, ◌≢◌, ◌==◌, ◌<◌, ◌≤◌, ◌*◌, ◌-◌, ℕ, zero, suc, if◌then◌else◌, Bool, true, false, Option, Some, None, IfSome, MatchBool, MatchOption, List, [], ◌∷◌, length, arith, refl, sym, ◌∙◌, ap, subst}
 use Rattle.std.specs.List.{All, AllZip, Contains, list_any, slice_get}
+use Rattle.std.proofs.lemmas.Bool.{false≢true}
 use Rattle.std.proofs.lemmas.List.{length-replicate}
 use Rattle.std.proofs.lemmas.Option.{same_Some, slice_get_within}
 use Rattle.std.proofs.lemmas.Grind.{common_steps}
@@ -150,6 +151,27 @@ module _ {image other : Image} {old new : PlanValue} (l : Locator) (t : IsTheSam
   -- A locator into an extent that is the same names the same chunk, if any, and has the same status.
   pub carries : Carries image other old new l
   carries = record { names = names_in l t; no_other = λ m. (names_in l (same_back t) m).names; own = status_in }
+
+-- A locator into a retired extent names no chunk, and has the same status whatever the extent holds.
+pub carries_in_retired : {image other : Image} {old new : PlanValue} (l : Locator) → other.geometry ≡ image.geometry →
+    new.retired ≡ old.retired → is_retired old l.extent ≡ true → Carries image other old new l
+carries_in_retired {image} {other} {old} {new} l sizes retired was = record {
+  names = λ n. absurd (false≢true (sym n.in_use ∙ was));
+  no_other = λ m. absurd (false≢true (sym m.in_use ∙ is));
+  own = own;
+}
+  where
+    is : is_retired new l.extent ≡ true
+    is = ap (λ (rs : List ℕ). list_any (λ r. r == l.extent) rs) retired ∙ was
+
+    -- what a status says in an extent that is retired or not
+    Says : Image → PlanValue → Status → Bool → Type 0
+    Says i plan s b =
+        MatchBool b (HasStatusInRetired i l s) (MatchOption (pointer_of plan l.extent) (s ≡ OutOfRange) (λ w. HasStatus i w l s))
+
+    own : (s : Status) → HasStatusIn image old l s → HasStatusIn other new l s
+    own s h =
+        subst (Says other new s) (sym is) (status_in_retired image other l sizes s (subst (Says image old s) was h))
 
 -- ---- scans
 

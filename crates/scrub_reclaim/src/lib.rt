@@ -13,6 +13,7 @@ mod page_ranges;
 mod reclaim_parts;
 pub mod reclaiming;
 mod resetting;
+mod resting;
 pub mod room;
 mod sound_disks;
 mod spare_doubts;
@@ -27,4 +28,5 @@ pub use reclaiming::{
     reclaimed_are_candidates, reclaiming_is_safe,
 };
 pub use resetting::a_reset_is_foreseen;
+pub use resting::a_manifest_rests_on_bytes_below_pointers;
 pub use sound_disks::a_sound_disk_is_all_right;
