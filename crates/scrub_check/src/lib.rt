@@ -11,7 +11,7 @@ pub mod statuses;
 pub use lists::broken::{broken_shards, each_scan_has_broken_shards, one_list_of_broken_shards};
 pub use lists::candidate::Candidate;
 pub use lists::chunks::{orphans, twins, twins_by_threads};
-pub use lists::drawn::{Drawn, draw_named};
+pub use lists::drawn::{FromLocators, draw_named};
 pub use lists::extent_set::ExtentSet;
 pub use lists::kept_chunk::KeptChunk;
 pub use lists::live::{is_chunk, live_bytes, size_of};

@@ -18,7 +18,7 @@ ghost use Rattle.scrub_found.specs.Scrubbed.{Scrubbed, is_in_doubt};
 use crate::runs::{RunRow, run_rows};
 use crate::scanning::Scan;
 use scrub_check::{
-    Checked, Drawn, Liveness, LocatorIndex, Place, ReadRuns, check_named, draw_named, liveness_by,
+    Checked, FromLocators, Liveness, LocatorIndex, Place, ReadRuns, check_named, draw_named, liveness_by,
     read_all_runs, twins_by_threads,
 };
 use scrub_disk::{OutOfMemory, PageSource};
@@ -103,7 +103,7 @@ pub struct DrawnScan<'d, D: PageSource> {
     /// The shard map of the runs that were read.
     pub map: ShardMap,
     /// What is drawn from the named locators.
-    pub drawn: Drawn,
+    pub drawn: FromLocators,
 }
 
 /// What is found on a scanned disk, as `judged_of` finds it, up to what a report needs of the named locators:

@@ -35,7 +35,7 @@ pub(crate) fn entry_under<'r>(run: &Option<Part<'r>>, place: usize) -> Option<&'
 }
 
 /// Pushes the entry under the cursor of the run with this number, if there is one.
-fn push_under(
+fn push_cursor(
     heap: &mut BinaryHeap<Under>,
     run: &Option<Part<'_>>,
     number: usize,
@@ -64,7 +64,7 @@ pub(crate) fn heap_of(
 {
     let mut heap = BinaryHeap::with_capacity(alloc, runs.len())?;
     for (number, run) in runs.iter().enumerate() {
-        push_under(&mut heap, run, number, 0)?;
+        push_cursor(&mut heap, run, number, 0)?;
     }
     Ok(heap)
 }
@@ -105,7 +105,7 @@ fn move_one(
 {
     let place = places[number] + 1;
     places[number] = place;
-    push_under(heap, &runs[number], number, place)
+    push_cursor(heap, &runs[number], number, place)
 }
 
 /// Moves on every cursor at the least identifier.

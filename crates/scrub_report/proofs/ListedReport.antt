@@ -14,7 +14,7 @@ use Rattle.scrub_check.specs.declared.statuses.checked.Checked.{Checked}
 use Rattle.scrub_check.specs.Checked.{dangling, hidden, is_sound}
 use Rattle.scrub_check.specs.Live.{live_bytes}
 use Rattle.scrub_report.specs.declared.listed.Listed.{Listed}
-use Rattle.scrub_report.specs.declared.listed.Unlisted.{Unlisted}
+use Rattle.scrub_report.specs.declared.listed.JudgedWithoutMap.{JudgedWithoutMap}
 use Rattle.scrub_found.specs.declared.judging.DrawnScan.{DrawnScan}
 use Rattle.scrub_found.specs.declared.runs.RunRow.{RunRow}
 use Rattle.scrub_report.specs.declared.shards.Shards.{Shards}
@@ -109,7 +109,7 @@ module _ {D : Type 0} (image : Image) (broken : List ShardId) (checked : List Ch
   }
 
 -- each extent has its live bytes
-pub as_many : {D : Type 0} (d : Unlisted D) (s : Shards) (l : Listed D) → AreOfSome d → AreListsOf d s l →
+pub as_many : {D : Type 0} (d : JudgedWithoutMap D) (s : Shards) (l : Listed D) → AreOfSome d → AreListsOf d s l →
     length l.liveness.live.items ≡ length l.scan.all.extents
 as_many d s l some lists =
     ap length (lists.liveness_is some.0 some.1).live

@@ -16,10 +16,10 @@ ghost use Rattle.scrub_report.specs.Index.{index_entries};
 ghost use Rattle.scrub_report.specs.steps.Lists.{AreOfSome, AreShardsOf, IsReportBy, unlisted};
 
 use crate::index::index_bytes;
-use crate::listed::{Unlisted, is_clean_listed, listed_of};
+use crate::listed::{JudgedWithoutMap, is_clean_listed, listed_of};
 use crate::report::report_text;
 use crate::shards::{Shards, shards_of};
-use scrub_check::Drawn;
+use scrub_check::FromLocators;
 use scrub_disk::{OutOfMemory, PageSource};
 use scrub_found::{DrawnScan, Scan, ScrubFault, drawn_scan, scan_by, scan_by_one};
 use scrub_merge::ShardMap;
@@ -87,7 +87,7 @@ impl ScrubAnswer {
 fn report_of<R: Threads + Sync, D: PageSource>(
     rt: &R,
     alloc: Global,
-    rest: Unlisted<'_, D>,
+    rest: JudgedWithoutMap<'_, D>,
     shards: Shards,
     broken: &[ShardId],
 ) -> Result<(Vec<u8>, bool), OutOfMemory>
@@ -110,7 +110,7 @@ fn index_and_report<R: Threads + Sync, D: PageSource>(
     rt: &R,
     alloc: Global,
     map: ShardMap,
-    rest: Unlisted<'_, D>,
+    rest: JudgedWithoutMap<'_, D>,
     shards: Shards,
     broken: &[ShardId],
 ) -> Result<(Vec<u8>, (Vec<u8>, bool)), OutOfMemory>
@@ -162,13 +162,13 @@ fn answer_of<R: Threads + Sync, D: PageSource>(
         drawn,
     } = drawn_scan(rt, alloc, scan)?;
     let shards = shards_of(alloc, &map)?;
-    let Drawn {
+    let FromLocators {
         locators,
         dangling,
         hidden,
         broken,
     } = drawn;
-    let rest = Unlisted {
+    let rest = JudgedWithoutMap {
         scan,
         in_doubt,
         runs,

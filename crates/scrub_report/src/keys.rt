@@ -65,7 +65,7 @@ impl WriteJson for KeyValue<'_> {
 }
 
 /// Writes the keys before `extents`.
-pub(crate) fn write_first<'a, D: PageSource>(
+pub(crate) fn write_keys_before_extents<'a, D: PageSource>(
     alloc: Global,
     out: &mut Writer,
     listed: &'a Listed<'_, D>,
@@ -113,7 +113,7 @@ pub(crate) fn write_middle<D: PageSource>(
 }
 
 /// Writes the keys after `orphans`.
-pub(crate) fn write_last<D: PageSource>(
+pub(crate) fn write_keys_after_extents<D: PageSource>(
     alloc: Global,
     out: &mut Writer,
     listed: &Listed<'_, D>,

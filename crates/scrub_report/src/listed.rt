@@ -14,7 +14,7 @@ use std::thread::Threads;
 /// What the report is made of, without the shard map and the broken shards, of which the index is made
 /// meanwhile.
 #[derive(Drop)]
-pub(crate) struct Unlisted<'d, D: PageSource> {
+pub(crate) struct JudgedWithoutMap<'d, D: PageSource> {
     /// What was scanned.
     pub scan: Scan<'d, D>,
     /// Whether a newer superblock or a newer binding may have been lost.
@@ -53,12 +53,12 @@ pub(crate) struct Listed<'d, D: PageSource> {
 pub(crate) fn listed_of<'d, R: Threads + Sync, D: PageSource>(
     rt: &R,
     alloc: Global,
-    rest: Unlisted<'d, D>,
+    rest: JudgedWithoutMap<'d, D>,
     shards: Shards,
 ) -> Result<Listed<'d, D>, OutOfMemory>
     ensures { IfOk result (AreListsOf rest.entry shards) }
 {
-    let Unlisted {
+    let JudgedWithoutMap {
         scan,
         in_doubt,
         runs,

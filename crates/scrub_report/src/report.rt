@@ -9,7 +9,7 @@ ghost use Rattle.scrub_report.specs.steps.Tokens.{joined_text, listed_extents, l
 
 use crate::chunks::PLACE_ROOM;
 use crate::extents::{extents_texts, piece_size};
-use crate::keys::{write_first, write_last, write_middle};
+use crate::keys::{write_keys_after_extents, write_keys_before_extents, write_middle};
 use crate::listed::Listed;
 use crate::orphans::{PIECE_ORPHANS, orphans_texts};
 use crate::pieces::{append_pieces, pieces_size};
@@ -44,7 +44,7 @@ fn begun_text<D: PageSource>(
 {
     let mut out = Writer::new(Vec::new(alloc));
     out.begin_object()?;
-    write_first(alloc, &mut out, listed, broken, clean)?;
+    write_keys_before_extents(alloc, &mut out, listed, broken, clean)?;
     out.key("extents")?;
     out.begin_array()?;
     Ok(out.into_inner())
@@ -76,7 +76,7 @@ fn ended_text<D: PageSource>(alloc: Global, listed: &Listed<'_, D>) -> Result<Ve
     let text = Vec::with_capacity(alloc, ended_room(listed))?;
     let mut out = Writer::new(text);
     out.end_array()?;
-    write_last(alloc, &mut out, listed)?;
+    write_keys_after_extents(alloc, &mut out, listed)?;
     out.end_object()?;
     Ok(out.into_inner())
 }

@@ -29,7 +29,7 @@ use std::thread::Threads;
 
 /// What is drawn from checked locators, so that they needn't be kept.
 #[derive(Drop)]
-pub struct Drawn {
+pub struct FromLocators {
     /// What they say of places and extents.
     pub locators: LocatorIndex,
     /// The dangling ones, in their order.
@@ -61,7 +61,7 @@ fn drawn_apart<R: Threads + Sync, D: PageSource>(
     alloc: Global,
     scan: &WholeScan<'_, D>,
     apart: SoundAndOthers,
-) -> Result<Drawn, OutOfMemory>
+) -> Result<FromLocators, OutOfMemory>
     requires { AreKnownBefore (D.image scan.now.disk.now) scan.now.plan.now apart.others.items
         apart.known.items }
     ensures { (named : List Named) → IsApart (D.image scan.now.disk.now) scan.now.plan.now named apart →
@@ -73,7 +73,7 @@ fn drawn_apart<R: Threads + Sync, D: PageSource>(
         known,
     } = apart;
     let checked = check_unsound(rt, alloc, scan, others, known)?;
-    Ok(Drawn {
+    Ok(FromLocators {
         locators: LocatorIndex {
             sound: SoundPlaces::of_starts(rt, alloc, sound)?,
             barred: barred_extents(alloc, &checked)?,
@@ -96,7 +96,7 @@ pub fn draw_named<R: Threads + Sync, D: PageSource>(
     all: &AllFindings<'_, D>,
     statuses: &[Status],
     map: &ShardMap,
-) -> Result<Drawn, OutOfMemory>
+) -> Result<FromLocators, OutOfMemory>
     requires scan { IsWholeScan (D.image disk.now) plan.now all.now.extents }
     requires statuses { AreRunStatuses (D.image disk.now) plan.now statuses.now }
     ensures { IfOk result

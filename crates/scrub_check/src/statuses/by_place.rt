@@ -134,7 +134,7 @@ pub(crate) fn judge_places<R: Threads + Sync, D: PageSource>(
 }
 
 /// Puts the statuses of open locators to those that are known, each at its index.
-pub(crate) fn put_statuses(known: &mut [Option<Status>], left: &[OpenLocator], judged: &[Status])
+pub(crate) fn write_statuses(known: &mut [Option<Status>], left: &[OpenLocator], judged: &[Status])
     requires below { All (λ one. one.index < length known.old) left.now }
     requires count { length judged.now ≡ length left.now }
     ensures right { (image : Image) (plan : PlanValue) (named : List Named) →

@@ -17,7 +17,7 @@ ghost use Rattle.scrub_check.specs.WholeScan.{IsWholeScan};
 ghost use Rattle.scrub_check.specs.steps.Open.{IsKnownBefore, AreKnownBefore, HasEachUnknown};
 
 use crate::named::{Named, Owner, name_runs, name_shard, named_locators};
-use crate::statuses::by_place::{judge_places, open_locators, put_statuses};
+use crate::statuses::by_place::{judge_places, open_locators, write_statuses};
 use crate::statuses::nearby::Nearby;
 use crate::statuses::status::{Status, status_by_findings};
 use crate::statuses::whole_scan::WholeScan;
@@ -111,7 +111,7 @@ fn check_each(
 }
 
 /// The status of each of these named locators, if some are known.
-fn settle<R: Threads + Sync, D: PageSource>(
+fn judge_open<R: Threads + Sync, D: PageSource>(
     rt: &R,
     alloc: Global,
     scan: &WholeScan<'_, D>,
@@ -125,7 +125,7 @@ fn settle<R: Threads + Sync, D: PageSource>(
 {
     let left = open_locators(alloc, named, &known)?;
     let judged = judge_places(rt, alloc, scan, named, &left)?;
-    put_statuses(&mut known, &left, &judged);
+    write_statuses(&mut known, &left, &judged);
     Ok(known)
 }
 
@@ -140,7 +140,7 @@ pub(crate) fn check_others<R: Threads + Sync, D: PageSource>(
     requires { AreKnownBefore (D.image scan.now.disk.now) scan.now.plan.now named.now known.items }
     ensures { IfOk result (λ v. AreChecked (D.image scan.now.disk.now) scan.now.plan.now named.now v.items) }
 {
-    let known = settle(rt, alloc, scan, named, known)?;
+    let known = judge_open(rt, alloc, scan, named, known)?;
     check_each(alloc, named, &known)
 }
 
@@ -228,7 +228,7 @@ fn statuses_of<R: Threads + Sync, D: PageSource>(
     let named = named_locators(alloc, scan.plan, map)?;
     let mut known = known_by_findings(rt, alloc, scan, &named)?;
     put_run_statuses(&mut known, statuses);
-    settle(rt, alloc, scan, &named, known)
+    judge_open(rt, alloc, scan, &named, known)
 }
 
 /// The same as `check_all` for all locators that a disk names, if the statuses of the index runs are known:

@@ -7,7 +7,7 @@ use Rattle.scrub_check.specs.declared.statuses.checked.Checked.{Checked}
 use Rattle.scrub_check.specs.Chunks.{twins}
 use Rattle.scrub_check.specs.steps.LocatorIndex.{IsLocatorIndex}
 use Rattle.scrub_report.specs.declared.listed.Listed.{Listed}
-use Rattle.scrub_report.specs.declared.listed.Unlisted.{Unlisted}
+use Rattle.scrub_report.specs.declared.listed.JudgedWithoutMap.{JudgedWithoutMap}
 use Rattle.scrub_found.specs.declared.judging.DrawnScan.{DrawnScan}
 use Rattle.scrub_report.specs.declared.shards.Shards.{Shards}
 use Rattle.scrub_found.specs.Judged.{IsLivenessBy, is_clean_by}
@@ -25,7 +25,7 @@ pub record AreShardsOf (bindings : List BindingValue) (s : Shards) : Type 0 wher
 
 module _ {D : Type 0} where
   -- a drawn scan without its shard map and its broken shards
-  abbrev pub unlisted : DrawnScan D → Unlisted D
+  abbrev pub unlisted : DrawnScan D → JudgedWithoutMap D
   unlisted d = record {
     scan = d.scan;
     in_doubt = d.in_doubt;
@@ -36,12 +36,12 @@ module _ {D : Type 0} where
   }
 
   -- the locators say what some checked ones do
-  abbrev pub AreOfSome : Unlisted D → Type 0
+  abbrev pub AreOfSome : JudgedWithoutMap D → Type 0
   AreOfSome d = (checked : List Checked) × IsLocatorIndex checked d.locators
 
   -- the lists are those that were drawn, what follows from which chunks are live is that of the locators, and what is said of the shard
   -- map is kept
-  pub record AreListsOf (d : Unlisted D) (s : Shards) (l : Listed D) : Type 0 where
+  pub record AreListsOf (d : JudgedWithoutMap D) (s : Shards) (l : Listed D) : Type 0 where
     pub scan_is : l.scan ≡ d.scan
     pub runs_are : l.runs.items ≡ d.runs.items
     pub shards_are : l.shards ≡ s

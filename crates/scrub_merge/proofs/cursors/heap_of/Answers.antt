@@ -17,10 +17,10 @@ loop-number-preserved c = record {
   heap =
       pushed_next c.args.runs.now c.loop-number.number c.index-runs-number.result c.loop-number-test.true
       c.index-runs-number.is
-      c.loop-number.invariant.heap c.in_ok-push_under.ensures.pushed c.in_ok-push_under.ensures.order;
+      c.loop-number.invariant.heap c.in_ok-push_cursor.ensures.pushed c.in_ok-push_cursor.ensures.order;
   runs =
       runs_step c.args.runs.now c.loop-number.number c.loop-number-test.true c.index-runs-number.is
-      c.push_under.ensures.run c.loop-number.invariant.runs;
+      c.push_cursor.ensures.run c.loop-number.invariant.runs;
 }
 
 pub returns-clause-heap : goal.returns-clause-heap

@@ -1,5 +1,5 @@
 -- The keys have what the lists have.
-use Rattle.scrub_report.proofs.keys.write_last.Goals as goal
+use Rattle.scrub_report.proofs.keys.write_keys_after_extents.Goals as goal
 
 pub returns-clause-tokens : goal.returns-clause-tokens
 returns-clause-tokens g c =

@@ -4,7 +4,7 @@ use Rattle.list_facts.proofs.Zips.{AllZip-at, AllZip-set}
 use Rattle.scrub_check.specs.declared.statuses.status.Status.TheVariants.{OutOfRange}
 use Rattle.scrub_check.specs.steps.Open.{IsKnownBefore, IsJudged}
 use Rattle.scrub_check.proofs.JudgedPlaces.{no_locator, fewer_unknown}
-use Rattle.scrub_check.proofs.statuses.by_place.put_statuses.Goals as goal
+use Rattle.scrub_check.proofs.statuses.by_place.write_statuses.Goals as goal
 
 pub loop-i-preserved : goal.loop-i-preserved
 loop-i-preserved c =

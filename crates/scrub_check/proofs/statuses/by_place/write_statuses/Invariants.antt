@@ -5,7 +5,7 @@ use Rattle.scrub_disk.specs.Image.{Image}
 use Rattle.scrub_super.specs.Plan.{PlanValue}
 use Rattle.scrub_check.specs.declared.named.Named.{Named}
 use Rattle.scrub_check.specs.steps.Open.{IsKnownBefore, IsJudged, HasEachUnknown}
-use Rattle.scrub_check.proofs.statuses.by_place.put_statuses.Given as goal
+use Rattle.scrub_check.proofs.statuses.by_place.write_statuses.Given as goal
 
 abbrev pub invariant-loop-i : goal.invariant-loop-i
 invariant-loop-i l = record {
