@@ -25,7 +25,7 @@ MORE = {
     "frame_stands": ["one_frame_stands"],
     "claimed_frame": ["a_claim_is_of_one_frame"],
     "choose": ["choice_by_conditions"],
-    "find_superblocks": ["one_answer_for_lost_blocks"],
+    "Front::superblocks": ["one_answer_for_lost_blocks"],
     "read_runs": ["runs_and_states_apart"],
     "Spares::of": [],
     "list_sizes": ["one_sizes_listing"],

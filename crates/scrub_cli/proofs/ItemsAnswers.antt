@@ -7,7 +7,7 @@ use Rattle.scrub_cli.specs.declared.process.fault.Fault.{Fault}
 use Rattle.scrub_cli.specs.declared.process.fault.Fault.TheVariants.{Pointer}
 use Rattle.scrub_cli.specs.declared.process.outcome.Outcome.{Outcome}
 use Rattle.scrub_args.specs.declared.args.ItemsArgs.{ItemsArgs}
-use Rattle.scrub_cli.specs.DiskImage.{IsDiskFault, IsLoadedDisk}
+use Rattle.scrub_cli.specs.DiskImage.{IsDiskFault, IsLoadedDiskIn}
 use Rattle.scrub_cli.specs.Items.{given_pointer, AreInDisk, IsItemsAnswer, IsItemsFault}
 use Rattle.scrub_cli.specs.DiskGeometry.{IsGeometryFault, IsGeometryOf}
 use Rattle.scrub_cli.specs.KnownFiles.{KnownMaps, KnownRaw}
@@ -55,7 +55,7 @@ items_geometry_fault known maps args fault =
 -- The listing of the extent under the pointer, in the image that was loaded, is the answer of `items`.
 pub items_answer : (known : KnownRaw) (maps : KnownMaps) (args : ItemsArgs) (g : Sizes) (image : Image) (pointer : ℕ)
     (text : List ℕ) (outcome : Outcome) →
-    AreInDisk known maps args g → IsLoadedDisk known maps args.image g image → pointer ≡ given_pointer args g →
+    AreInDisk known maps args g → IsLoadedDiskIn (λ e. e ≡ args.extent) known maps args.image g image → pointer ≡ given_pointer args g →
     IsListing (extent_of image args.extent pointer) text outcome → IsItemsAnswer known maps args text outcome
 items_answer known maps args g image pointer text outcome places loaded is listed = record {
   geometry = g;

@@ -20,12 +20,12 @@ use Rattle.scrub_cli.specs.declared.process.fault.Fault.TheVariants.{NotUtf8, He
 use Rattle.scrub_cli.specs.declared.process.outcome.Outcome.{Outcome}
 use Rattle.scrub_cli.specs.Answer.{IsAnswerOf, IsFaultOf}
 use Rattle.scrub_cli.specs.DiskGeometry.{AreSizesFound, IsGeometryFault, IsGeometryOf}
-use Rattle.scrub_cli.specs.DiskImage.{AreReadBefore, IsDiskFault, IsLoadedDisk}
+use Rattle.scrub_cli.specs.DiskImage.{AreReadBefore, IsDiskFault, IsLoadedDiskIn}
 use Rattle.scrub_cli.specs.GivenRuns.{IsLoadedWithRuns, IsRunsFault}
 use Rattle.scrub_cli.specs.Items.{AreInDisk, IsItemsFault, IsPlacedFault}
 use Rattle.scrub_cli.specs.KnownFiles.{KnownMaps, KnownRaw}
 use Rattle.scrub_cli.specs.LeftOut.{AreFoundFor, FindsSizes, IsFindingFault, LeavesOut, request_with, with_sizes}
-use Rattle.scrub_cli.specs.Scan.{IsDiskOf, IsLoadFault, IsScanFault}
+use Rattle.scrub_cli.specs.Scan.{IsDiskIn, IsLoadFault, IsScanFault}
 use Rattle.scrub_cli.specs.Shard.{IsFaultAfterId, IsShardFault, IsShardLost, IsShardRead}
 use Rattle.scrub_cli.specs.Shards.{IsShardsDisk, IsShardsFault, IsShardsLoadFault}
 use Rattle.scrub_cli.proofs.DiskAnswers.{of_disk_fault}
@@ -60,8 +60,8 @@ memory_fault known maps args = by args.sizes
     by (Some s) = tt
 
 -- the disk is loaded by the other arguments alone
-loaded_with : (known : KnownRaw) (maps : KnownMaps) (args : ImageArgs) (s : GivenSizes) (g : Sizes) (image : Image) →
-    IsLoadedDisk known maps args g image → IsLoadedDisk known maps (with_sizes args s) g image
+loaded_with : {wanted : ℕ → Type 0} (known : KnownRaw) (maps : KnownMaps) (args : ImageArgs) (s : GivenSizes) (g : Sizes) (image : Image) →
+    IsLoadedDiskIn wanted known maps args g image → IsLoadedDiskIn wanted known maps (with_sizes args s) g image
 loaded_with known maps args s g image x = record {
   unreadable = x.unreadable;
   named = x.named;
@@ -106,8 +106,8 @@ runs_fault_with known maps args words s g fault =
 -- ---- a whole disk
 
 module _ (known : List ℕ → KnownRaw) (maps : KnownMaps) (args : ImageArgs) (out : args.sizes ≡ None) where
-  disk_with : (image : Image) (x : IsDiskOf (known args.name.now) maps args image) →
-      IsDiskOf (known args.name.now) maps (with_sizes args (given x.geometry)) image
+  disk_with : {wanted : ℕ → Type 0} (image : Image) (x : IsDiskIn wanted (known args.name.now) maps args image) →
+      IsDiskIn wanted (known args.name.now) maps (with_sizes args (given x.geometry)) image
   disk_with image x = record {
     geometry = x.geometry;
     sizes = has_given x.geometry;

@@ -1,5 +1,5 @@
 -- The sizes of a disk: those that the arguments give, or else those that its superblock records have.
-use Rattle.std.specs.Prelude.{◌≤◌, ℕ, List, Option, MatchOption}
+use Rattle.std.specs.Prelude.{◌≤◌, ℕ, List, Bool, Option, MatchOption}
 use Rattle.std.specs.Borrow.{Bor}
 use Rattle.scrub_disk.specs.declared.geometry.Geometry.{Geometry as Sizes}
 use Rattle.scrub_disk.specs.Faults.{HasSizes, IsFirstBroken}
@@ -14,21 +14,16 @@ use Rattle.scrub_args.specs.declared.args.GivenSizes.{GivenSizes}
 use Rattle.scrub_args.specs.declared.args.ImageArgs.{ImageArgs}
 use Rattle.scrub_cli.specs.KnownFiles.{KnownMaps, KnownRaw}
 use Rattle.scrub_cli.specs.Opened.{IsOpeningFault}
-use Rattle.scrub_cli.specs.Rescue.{AreBlocksOf, KeepsMap}
-use Rattle.scrub_cli.specs.SizesListed.{AreLackingBy}
+use Rattle.scrub_cli.specs.Rescue.{AreBlocksOf, AreLackingBy, KeepsMap}
 
--- what the records in a raw image of which this is known say of the sizes, with the blocks lost that lack a byte before its end,
--- and those of as many reads as may have failed
-pub record AreSizesRead (known : KnownRaw) (lacking : List ℕ) (found : SizesFound) : Type 0 where
+-- what the records in a raw image of which this is known say of the sizes, with the blocks lost that have a byte before its end
+-- which a map of these blocks lacks, and those of as many reads as may have failed
+pub record AreSizesWithout (known : KnownRaw) (blocks : Option (List MapBlock)) (found : SizesFound) : Type 0 where
   pub failures : ℕ
   pub few : failures ≤ known.most_failures
-  pub sizes : AreSizesOf known.bytes lacking known.fails failures found
-
--- what is found so of the sizes in a raw image, with the blocks lost that a map of these blocks lacks
-pub record AreSizesWithout (known : KnownRaw) (blocks : Option (List MapBlock)) (found : SizesFound) : Type 0 where
-  pub lacking : List ℕ
+  pub lacking : ℕ → Bool
   pub lacks : AreLackingBy blocks lacking
-  pub read : AreSizesRead known lacking found
+  pub sizes : AreSizesOf known.bytes lacking known.fails failures found
 
 -- what is found so of the sizes in a raw image, with the blocks lost that the map lacks
 pub record AreSizesFound (known : KnownRaw) (maps : KnownMaps) (named : Option (Bor (List ℕ))) (found : SizesFound) : Type 0 where

@@ -5,7 +5,7 @@ use Rattle.std.specs.Borrow.{Bor}
 use Rattle.std.specs.List.{AllZip}
 use Rattle.scrub_disk.specs.declared.geometry.Geometry.{Geometry as Sizes}
 use Rattle.scrub_disk.specs.Image.{Image, disk_bytes}
-use Rattle.scrub_disk.specs.Raw.{IsLoadedWith}
+use Rattle.scrub_disk.specs.Raw.{IsLoadedIn, every_extent}
 use Rattle.scrub_listings.specs.declared.sizes_listing.SizesFound.TheVariants.{Certain}
 use Rattle.scrub_map.specs.declared.block.MapBlock.{MapBlock}
 use Rattle.scrub_cli.specs.declared.process.fault.Fault.{Fault}
@@ -42,18 +42,22 @@ IsBadPageFault g args (BadPage arg) = IsFirstBadPage g args arg
 IsBadPageFault g args OutOfMemory = Unit {0}
 IsBadPageFault g args fault = ⊥
 
--- an image of these sizes, loaded from this raw image, with the pages unreadable that the arguments name and, if a map is
--- named, those with a byte that it lacks; which reads and how many of them may have failed is known, not which did. Sizes that are
--- left out are found in this raw image, with the same map
-pub record IsLoadedDisk (known : KnownRaw) (maps : KnownMaps) (args : ImageArgs) (g : Sizes) (image : Image) : Type 0 where
+-- an image of these sizes whose wanted extents were loaded from this raw image, with the pages unreadable that the arguments name
+-- and, if a map is named, those with a byte that it lacks; which reads and how many of them may have failed is known, not which
+-- did. Sizes that are left out are found in this raw image, with the same map
+pub record IsLoadedDiskIn (wanted : ℕ → Type 0) (known : KnownRaw) (maps : KnownMaps) (args : ImageArgs) (g : Sizes) (image : Image) : Type 0 where
   pub unreadable : List (ℕ × ℕ)
   pub named : NamePages g args.bad_pages.items unreadable
   pub blocks : Option (List MapBlock)
   pub mapped : AreBlocksOf maps args.map blocks
   pub before : Image
-  pub loaded : IsLoadedWith known.bytes known.fails known.most_failures g unreadable before
+  pub loaded : IsLoadedIn wanted known.bytes known.fails known.most_failures g unreadable before
   pub rescued : LosesByMap blocks before image
   pub sizes : args.sizes ≡ None → AreSizesWithout known blocks (Certain g)
+
+-- an image that was loaded so, with all its extents
+abbrev pub IsLoadedDisk : KnownRaw → KnownMaps → ImageArgs → Sizes → Image → Type 0
+IsLoadedDisk = IsLoadedDiskIn every_extent
 
 -- the arguments name pages, and their map was read, if one is named
 pub record AreReadBefore (maps : KnownMaps) (args : ImageArgs) (g : Sizes) : Type 0 where
@@ -83,11 +87,16 @@ pub record AreLossesKept (maps : KnownMaps) (args : ImageArgs) (g : Sizes) (loss
   pub named : NamePages g args.bad_pages.items losses.pages.items
   pub map : IsMapNamed maps args.map losses.map
 
--- an image of these sizes, loaded from this raw image, with these pages unreadable, and those with a byte that the map lacks
-pub record IsLoadedBy (known : KnownRaw) (g : Sizes) (pages : List (ℕ × ℕ)) (blocks : Option (List MapBlock)) (image : Image) : Type 0 where
+-- an image of these sizes whose wanted extents were loaded from this raw image, with these pages unreadable, and those with a
+-- byte that the map lacks
+pub record IsLoadedInBy (wanted : ℕ → Type 0) (known : KnownRaw) (g : Sizes) (pages : List (ℕ × ℕ)) (blocks : Option (List MapBlock)) (image : Image) : Type 0 where
   pub before : Image
-  pub loaded : IsLoadedWith known.bytes known.fails known.most_failures g pages before
+  pub loaded : IsLoadedIn wanted known.bytes known.fails known.most_failures g pages before
   pub rescued : LosesByMap blocks before image
+
+-- an image that was loaded so, with all its extents
+abbrev pub IsLoadedBy : KnownRaw → Sizes → List (ℕ × ℕ) → Option (List MapBlock) → Image → Type 0
+IsLoadedBy = IsLoadedInBy every_extent
 
 -- why what is lost isn't known, or the image isn't opened: a page argument, then the map, then the image; or memory ran out
 abbrev pub IsLossesFault : KnownMaps → ImageArgs → Sizes → Fault → Type 0

@@ -1,5 +1,5 @@
 -- What the command `items` answers, and why it doesn't.
-use Rattle.std.specs.Prelude.{◌<◌, ◌≤◌, ◌⊎◌, ℕ, List, unwrap_or}
+use Rattle.std.specs.Prelude.{◌≡◌, ◌<◌, ◌≤◌, ◌⊎◌, ℕ, List, unwrap_or}
 use Rattle.scrub_disk.specs.declared.geometry.Geometry.{Geometry as Sizes}
 use Rattle.scrub_disk.specs.Image.{Image, extent_bytes}
 use Rattle.scrub_scan.specs.Extent.{extent_of}
@@ -7,7 +7,7 @@ use Rattle.scrub_cli.specs.declared.process.fault.Fault.{Fault}
 use Rattle.scrub_cli.specs.declared.process.fault.Fault.TheVariants.{Geometry, NoSizes, UncertainSizes, Extent, Pointer, NoMap, MapLine, NoImage, OutOfMemory}
 use Rattle.scrub_cli.specs.declared.process.outcome.Outcome.{Outcome}
 use Rattle.scrub_args.specs.declared.args.ItemsArgs.{ItemsArgs}
-use Rattle.scrub_cli.specs.DiskImage.{IsLoadedDisk, IsDiskFault}
+use Rattle.scrub_cli.specs.DiskImage.{IsLoadedDiskIn, IsDiskFault}
 use Rattle.scrub_cli.specs.DiskGeometry.{IsGeometryFault, IsGeometryOf}
 use Rattle.scrub_cli.specs.KnownFiles.{KnownMaps, KnownRaw}
 use Rattle.scrub_cli.specs.Lines.{IsListing}
@@ -22,12 +22,12 @@ pub record AreInDisk (known : KnownRaw) (maps : KnownMaps) (args : ItemsArgs) (g
   pub in_disk : args.extent < g.extents
   pub in_extent : given_pointer args g ≤ extent_bytes g
 
--- the answer of `items`: the listing of the extent under the pointer, in an image that was loaded from this raw image
+-- the answer of `items`: the listing of the extent under the pointer, in an image whose extent was loaded from this raw image
 pub record IsItemsAnswer (known : KnownRaw) (maps : KnownMaps) (args : ItemsArgs) (text : List ℕ) (outcome : Outcome) : Type 0 where
   pub geometry : Sizes
   pub places : AreInDisk known maps args geometry
   pub image : Image
-  pub loaded : IsLoadedDisk known maps args.image geometry image
+  pub loaded : IsLoadedDiskIn (λ e. e ≡ args.extent) known maps args.image geometry image
   pub listed : IsListing (extent_of image args.extent (given_pointer args geometry)) text outcome
 
 -- why no disk is loaded in which the extent and the pointer lie

@@ -1,16 +1,18 @@
 -- The map of the rescue that made an image: what is read of a map that is named, and the pages that are lost by it.
-use Rattle.std.specs.Prelude.{◌≡◌, ◌<◌, ℕ, List, Bool, true, false, slice_index_or, Option, None, Some, IfSome}
+use Rattle.std.specs.Prelude.{◌≡◌, ◌<◌, ◌≤◌, ◌↔◌, ℕ, List, Bool, true, false, Option, None, Some, IfSome}
 use Rattle.std.specs.Borrow.{Bor}
 use Rattle.scrub_disk.specs.BytesAndMarks.{page_number}
-use Rattle.scrub_disk.specs.Image.{Image}
+use Rattle.scrub_disk.specs.Image.{Image, disk_bytes}
 use Rattle.scrub_map.specs.declared.block.MapBlock.{MapBlock}
 use Rattle.scrub_map.specs.Map.{IsFirstBadLine, IsMap}
 use Rattle.scrub_map.specs.declared.map.RescueMap.{RescueMap}
 use Rattle.scrub_map.specs.MissingBytes.{KeepsBlocks}
-use Rattle.scrub_map.specs.Rescued.{IsLostBlock}
+use Rattle.scrub_map.specs.Rescued.{IsCovered, IsLostBlock}
+use Rattle.scrub_super.specs.declared.unknown_sizes.front.Front.{Front}
+use Rattle.scrub_super.specs.UnknownSizes.{IsFrontOf}
 use Rattle.scrub_cli.specs.declared.process.fault.Fault.{Fault}
 use Rattle.scrub_cli.specs.declared.process.fault.Fault.TheVariants.{NoMap, MapLine, OutOfMemory}
-use Rattle.scrub_cli.specs.KnownFiles.{KnownMaps}
+use Rattle.scrub_cli.specs.KnownFiles.{KnownMaps, KnownRaw}
 
 -- the map may have this text: it is the known text, or nothing is known of it
 abbrev pub IsTextOf : Option (List ℕ) → List ℕ → Type 0
@@ -51,25 +53,30 @@ IsMapFault maps named (MapLine k) =
 IsMapFault maps named OutOfMemory = Unit {0}
 IsMapFault maps named fault = ⊥
 
+-- what a map of these blocks lacks: exactly the bytes that its blocks don't cover; and nothing without a map
+abbrev pub AreLackingBy : Option (List MapBlock) → (ℕ → Bool) → Type 0
+AreLackingBy None lacking = (i : ℕ) → lacking i ≡ false
+AreLackingBy (Some blocks) lacking = (i : ℕ) → (lacking i ≡ true) ↔ (¬ IsCovered blocks i)
+
+-- the front of a raw image of which this is known, with the blocks lost that have a byte before its end which a map of these
+-- blocks lacks, and those of as many reads as may have failed
+pub record IsFrontRead (known : KnownRaw) (blocks : Option (List MapBlock)) (front : Front) : Type 0 where
+  pub failures : ℕ
+  pub few : failures ≤ known.most_failures
+  pub lacking : ℕ → Bool
+  pub lacks : AreLackingBy blocks lacking
+  pub is_front : IsFrontOf known.bytes lacking known.fails failures front
+
 -- each page with a byte that wasn't rescued is unreadable, and each other page is as it was
 pub record LosesPages (blocks : List MapBlock) (before image : Image) : Type 0 where
   pub geometry : image.geometry ≡ before.geometry
   pub lost : (e q : ℕ) → e < before.geometry.extents → q < before.geometry.pages →
-      IsLostBlock blocks before.geometry.page (page_number before.geometry e q) → image.page e q ≡ None
+      IsLostBlock blocks before.geometry.page (disk_bytes before.geometry) (page_number before.geometry e q) → image.page e q ≡ None
   pub kept : (e q : ℕ) → e < before.geometry.extents → q < before.geometry.pages →
-      ¬ IsLostBlock blocks before.geometry.page (page_number before.geometry e q) → image.page e q ≡ before.page e q
+      ¬ IsLostBlock blocks before.geometry.page (disk_bytes before.geometry) (page_number before.geometry e q) → image.page e q ≡ before.page e q
 
 -- with a map each page with a byte that wasn't rescued is unreadable, and each other page is as it was; without one the
 -- image is as it was
 abbrev pub LosesByMap : Option (List MapBlock) → Image → Image → Type 0
 LosesByMap None before image = image ≡ before
 LosesByMap (Some blocks) before image = LosesPages blocks before image
-
--- each marked page among the first pages, by number, is unreadable, and each other page is as it was
-pub record LosesMarked (marks : List Bool) (count : ℕ) (before image : Image) : Type 0 where
-  pub geometry : image.geometry ≡ before.geometry
-  pub lost : (e q : ℕ) → e < before.geometry.extents → q < before.geometry.pages → page_number before.geometry e q < count →
-      slice_index_or marks (page_number before.geometry e q) false ≡ true → image.page e q ≡ None
-  pub kept : (e q : ℕ) → e < before.geometry.extents → q < before.geometry.pages →
-      (page_number before.geometry e q < count → slice_index_or marks (page_number before.geometry e q) false ≡ false) →
-      image.page e q ≡ before.page e q

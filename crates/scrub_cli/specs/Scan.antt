@@ -2,6 +2,7 @@
 use Rattle.std.specs.Prelude.{◌≡◌, ◌⊎◌, ℕ, List, Bool, true, false, Option}
 use Rattle.scrub_disk.specs.declared.geometry.Geometry.{Geometry as Sizes}
 use Rattle.scrub_disk.specs.Image.{Image}
+use Rattle.scrub_disk.specs.Raw.{every_extent}
 use Rattle.scrub_pool.specs.Takings.{TakingsValue}
 use Rattle.scrub_report.specs.Answer.{AnswerValue, IsScrubAnswer}
 use Rattle.scrub_found.specs.Takings.{AreTakingsBy}
@@ -17,7 +18,7 @@ use Rattle.scrub_cli.specs.declared.process.fault.Fault.TheVariants.{Geometry, N
 use Rattle.scrub_cli.specs.declared.process.outcome.Outcome.{Outcome}
 use Rattle.scrub_args.specs.declared.args.ImageArgs.{ImageArgs}
 use Rattle.scrub_args.specs.declared.args.ScanArgs.{ScanArgs}
-use Rattle.scrub_cli.specs.DiskImage.{IsLoadedDisk, IsDiskFault}
+use Rattle.scrub_cli.specs.DiskImage.{IsLoadedDiskIn, IsDiskFault}
 use Rattle.scrub_cli.specs.KnownFiles.{KnownMaps, KnownRaw}
 use Rattle.scrub_cli.specs.DiskGeometry.{IsGeometryFault, IsGeometryOf}
 use Rattle.scrub_cli.specs.Outcome.{outcome_of}
@@ -45,11 +46,15 @@ abbrev pub is_scanned : ScanOutput → Bool
 is_scanned Runs = false
 is_scanned wanted = true
 
--- an image of the sizes that are given or found, loaded from this raw image
-pub record IsDiskOf (known : KnownRaw) (maps : KnownMaps) (args : ImageArgs) (image : Image) : Type 0 where
+-- an image of the sizes that are given or found, whose wanted extents were loaded from this raw image
+pub record IsDiskIn (wanted : ℕ → Type 0) (known : KnownRaw) (maps : KnownMaps) (args : ImageArgs) (image : Image) : Type 0 where
   pub geometry : Sizes
   pub sizes : IsGeometryOf known maps args geometry
-  pub loaded : IsLoadedDisk known maps args geometry image
+  pub loaded : IsLoadedDiskIn wanted known maps args geometry image
+
+-- an image that was loaded so, with all its extents
+abbrev pub IsDiskOf : KnownRaw → KnownMaps → ImageArgs → Image → Type 0
+IsDiskOf = IsDiskIn every_extent
 
 -- the text is what is wanted of an image that was loaded so, with its outcome
 pub record IsScanAnswer (wanted : ScanOutput) (known : KnownRaw) (maps : KnownMaps) (args : ImageArgs) (text : List ℕ)

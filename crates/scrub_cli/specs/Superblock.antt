@@ -6,7 +6,7 @@ use Rattle.scrub_cli.specs.declared.process.outcome.Outcome.{Outcome}
 use Rattle.scrub_args.specs.declared.args.ImageArgs.{ImageArgs}
 use Rattle.scrub_cli.specs.KnownFiles.{KnownMaps, KnownRaw}
 use Rattle.scrub_cli.specs.Outcome.{outcome_of}
-use Rattle.scrub_cli.specs.Scan.{IsDiskOf}
+use Rattle.scrub_cli.specs.Scan.{IsDiskIn}
 
 -- the lines of the superblocks of an image, and whether they are in good order
 pub record AreSuperblocksListed (image : Image) (text : List ℕ) (outcome : Outcome) : Type 0 where
@@ -14,9 +14,9 @@ pub record AreSuperblocksListed (image : Image) (text : List ℕ) (outcome : Out
   pub listing : IsSuperblockListing image text clean
   pub ended : outcome ≡ outcome_of clean
 
--- the answer of `superblocks`, for an image of the sizes that are given or found, loaded from this raw image
+-- the answer of `superblocks`, for an image of the sizes that are given or found, whose extent 0 was loaded from this raw image
 pub record IsSuperblocksAnswer (known : KnownRaw) (maps : KnownMaps) (args : ImageArgs) (text : List ℕ)
     (outcome : Outcome) : Type 0 where
   pub image : Image
-  pub disk : IsDiskOf known maps args image
+  pub disk : IsDiskIn (λ e. e ≡ 0) known maps args image
   pub answered : AreSuperblocksListed image text outcome

@@ -1,10 +1,9 @@
 -- Lemmas on the bytes and marks of a disk, and on raw bytes that are read into it.
 
--- images: their bytes, and what two of them share
+-- images: their bytes, and which pages they lost
 pub mod HeldBytes
 pub mod LostPages
-pub mod SameExtents
-pub mod BehindExtent
+pub mod AloneRead
 -- raw bytes that are read into lists and images
 pub mod RawBytes
 pub mod RawImages

@@ -1,21 +1,19 @@
 -- Images whose pages hold raw bytes, and marks on them.
-use Rattle.std.proofs.Common.{◌≡◌, ◌<◌, ◌≤◌, ◌+◌, ◌-◌, ◌*◌, ◌/◌, ℕ, Bool, true, false, cond, List, length, get_or, arith, refl, sym, ◌∙◌, ap, inl, inr, ◌⊎◌, Option, Some, None, IfSome, All, take}
+use Rattle.std.proofs.Common.{◌≡◌, ◌<◌, ◌≤◌, ◌+◌, ◌-◌, ◌*◌, ◌/◌, ◌%◌, ℕ, Bool, true, false, cond, List, length, get_or, arith, refl, sym, ◌∙◌, ap, inl, inr, ◌⊎◌, Option, Some, None, IfSome, All, take, slice_get}
 use Rattle.std.specs.List.{between}
-use Rattle.std.proofs.lemmas.Nat.{div-mul-add}
-use Rattle.std.proofs.lemmas.Bool.{cases_eq}
+use Rattle.std.proofs.lemmas.Nat.{div-add-mod', div-mul-add, mod-mul-add}
+use Rattle.std.proofs.lemmas.Bool.{cases_eq, false≢true}
 use Rattle.std.proofs.lemmas.List.{get_or_default, get_or-take, length-take-le}
 use Rattle.std.proofs.lemmas.List.Elements.{All-more}
 use Rattle.std.proofs.lemmas.List.Edits.{length-between, get_or-between}
-use Rattle.std.proofs.Common.{Vec, Global}
-use Rattle.std.specs.Vec.{with_items}
-use Rattle.std.proofs.lemmas.List.{with_items_is}
 use Rattle.scrub_disk.specs.declared.geometry.Geometry.{Geometry}
 use Rattle.scrub_disk.specs.Image.{Image}
 use Rattle.scrub_disk.specs.BytesAndMarks.{held}
 use Rattle.scrub_disk.specs.steps.WholePages.{page_room}
 use Rattle.scrub_disk.specs.Memory.{Marks}
-use Rattle.scrub_disk.specs.Raw.{IsReadOn, IsPageAt, HoldsRaw}
-use Rattle.scrub_disk.specs.steps.Marked.{HoldsUnmarked, MarksAll}
+use Rattle.scrub_disk.specs.Raw.{IsReadOn, IsPageAt, HoldsRaw, every_extent}
+use Rattle.scrub_disk.specs.steps.Ahead.{HoldsFrom}
+use Rattle.scrub_disk.specs.steps.Marked.{MarksAll, MarksLost}
 
 -- reads, and more reads
 pub read_on_more : {R : Type 0} {bytes : R → Option (List ℕ)} {fails : R → ℕ → ℕ → Bool} {most failures : R → ℕ} {a b c : R} →
@@ -30,8 +28,8 @@ read_on_more h k = record {
 -- a disk whose unmarked bytes are the raw ones has the raw pages
 pub holds_raw : (g : Geometry) (known bytes : List ℕ) (marks : List Bool) → length bytes ≡ g.page * g.pages * g.extents →
     length marks ≡ g.pages * g.extents →
-    HoldsUnmarked known g.page marks bytes → HoldsRaw known (held g bytes marks)
-holds_raw g known bytes marks lb lm h e q he hq = by_mark (get_or marks (e * g.pages + q) false) (λ f. f)
+    HoldsFrom known (0 * g.page) g.page marks bytes → HoldsRaw every_extent known (held g bytes marks)
+holds_raw g known bytes marks lb lm h e q w he hq = by_mark (get_or marks (e * g.pages + q) false) (λ f. f)
   where
     by_mark : (b : Bool) → (b ≡ false → get_or marks (e * g.pages + q) false ≡ false) →
         IfSome (cond b None (Some (between ((e * g.pages + q) * g.page) ((e * g.pages + q) * g.page + g.page) bytes))) (IsPageAt known ((e * g.pages + q) * g.page) g.page)
@@ -47,30 +45,12 @@ holds_raw g known bytes marks lb lm h e q he hq = by_mark (get_or marks (e * g.p
               let small : k < g.page = omega (arith, hk, l) in
               let own : ((e * g.pages + q) * g.page + k) / g.page ≡ e * g.pages + q =
               div-mul-add (e * g.pages + q) g.page k small in
-              h ((e * g.pages + q) * g.page + k) (omega (arith, room.1, lb, small))
+              ap (slice_get known) (let z : (e * g.pages + q) * g.page + k ≡ 0 * g.page + ((e * g.pages + q) * g.page + k) = omega arith in z)
+              ∙ h ((e * g.pages + q) * g.page + k) (omega (arith, room.1, lb, small))
               (ap (λ m. get_or marks m true) own ∙ get_or_default marks (e * g.pages + q) true false (omega (arith, room.0, lm)) ∙ f refl)
               ∙ ap Some
               (sym (get_or-between bytes ((e * g.pages + q) * g.page) ((e * g.pages + q) * g.page + g.page) k 0 (omega (arith, small))));
         }
-
--- the image of two vectors that were written through slices
-pub loaded_image : (g : Geometry) (v : Vec ℕ Global) (m : Vec Bool Global) (bytes : List ℕ) (marks : List Bool) (image : Image) →
-    image ≡ held g (with_items v bytes).items (with_items m marks).items → length bytes ≡ length v.items →
-    length marks ≡ length m.items → image ≡ held g bytes marks
-loaded_image g v m bytes marks image is lb lm =
-    let vb : (with_items v bytes).items ≡ bytes = with_items_is v bytes (lb ∙ sym v.ok.0) in
-    let mb : (with_items m marks).items ≡ marks = with_items_is m marks (lm ∙ sym m.ok.0) in
-    is ∙ ap (λ xs. held g xs (with_items m marks).items) vb ∙ ap (λ ys. held g bytes ys) mb
-
--- an image that was loaded has the raw pages, if the raw image's bytes are known
-pub holds_loaded : (g : Geometry) (raw : Option (List ℕ)) (bytes : List ℕ) (marks : List Bool) (page : ℕ) (image : Image) →
-    image ≡ held g bytes marks → page ≡ g.page → length bytes ≡ g.page * (g.pages * g.extents) →
-    length marks ≡ g.pages * g.extents →
-    IfSome raw (λ known. HoldsUnmarked known page marks bytes) → IfSome raw (λ known. HoldsRaw known image)
-holds_loaded g None bytes marks page image is same lb lm h = tt
-holds_loaded g (Some known) bytes marks page image is same lb lm h =
-    rw is
-    (holds_raw g known bytes marks (omega (arith, lb)) lm (rw same at h))
 
 -- an element of a front of a list
 front_at : {X : Type 0} (xs : List X) (i k : ℕ) (d : X) → i ≤ length xs → k < length (take i xs) →
@@ -130,3 +110,55 @@ marks_more old mid new named i e q d range h m below is =
             (gone.0, (i, omega (arith, below, length-take-le {A = ℕ × ℕ} (i + 1) named (omega (arith, below))), get_or-take (i + 1) named i (f, w) (omega arith) ∙ get_or_default named i (f, w) d below ∙ is ∙ sym gone.1))
       ];
     }
+
+-- page q of extent e is page n of all pages, of which an extent has N
+page_of : (N e q n : ℕ) → q < N → e * N + q ≡ n → (e ≡ n / N) × (q ≡ n % N)
+page_of N e q n hq is =
+    (sym (div-mul-add e N q hq) ∙ ap (λ m. m / N) is, sym (mod-mul-add e N q hq) ∙ ap (λ m. m % N) is)
+
+-- one more lost page was marked
+pub marks_lost_more : (marks : List Bool) (n N : ℕ) (old mid new : Image) → N ≡ old.geometry.pages → get_or marks n false ≡ true →
+    MarksLost marks n old mid → Marks mid new (n / N) (n % N) → MarksLost marks (n + 1) old new
+marks_lost_more marks n N old mid new same marked l m = record {
+  geometry = m.geometry ∙ l.geometry;
+  lost = λ e q he hq below is. elim (step e q he hq) [
+    | inl kept ↦ kept.1 ∙ l.lost e q he hq (omega (arith, below, kept.0)) is
+    | inr gone ↦ gone.1
+  ];
+  kept = λ e q he hq clear. elim (step e q he hq) [
+    | inl kept ↦ kept.1 ∙ l.kept e q he hq (λ below. clear (omega (arith, below)))
+    | inr gone ↦
+        absurd (false≢true (sym (clear (omega (arith, gone.0))) ∙ ap (λ k. get_or marks k false) gone.0 ∙ marked))
+  ];
+}
+  where
+    elsewhere : (e q : ℕ) → (e * old.geometry.pages + q ≡ n → ⊥) → (e ≡ n / N → ⊥) ⊎ (q ≡ n % N → ⊥)
+    elsewhere e q ne = elim (cases_eq e (n / N)) [
+      | inr other ↦ inl other
+      | inl own ↦
+          inr
+          (λ at. ne (ap (λ k. e * k + q) (sym same) ∙ ap (λ k. k * N + q) own ∙ ap (λ k. n / N * N + k) at ∙ div-add-mod' n N))
+    ]
+
+    step : (e q : ℕ) → e < old.geometry.extents → q < old.geometry.pages →
+        ((e * old.geometry.pages + q ≡ n → ⊥) × (new.page e q ≡ mid.page e q))
+        ⊎ ((e * old.geometry.pages + q ≡ n) × (new.page e q ≡ None))
+    step e q he hq = elim (cases_eq (e * old.geometry.pages + q) n) [
+      | inr ne ↦ inl (ne, m.others e q (rw l.geometry he) (rw l.geometry hq) (elsewhere e q ne))
+      | inl is ↦
+          let own = page_of old.geometry.pages e q n hq is in
+          inr
+          (is, ap (λ x. new.page x q) (own.0 ∙ ap (λ k. n / k) (sym same)) ∙ ap (λ y. new.page (n / N) y) (own.1 ∙ ap (λ k. n % k) (sym same)) ∙ m.marked)
+    ]
+
+-- one more page isn't lost
+pub marks_lost_same : (marks : List Bool) (n : ℕ) (old new : Image) → get_or marks n false ≡ false → MarksLost marks n old new →
+    MarksLost marks (n + 1) old new
+marks_lost_same marks n old new clear l = record {
+  geometry = l.geometry;
+  lost = λ e q he hq below is. elim (cases_eq (e * old.geometry.pages + q) n) [
+    | inr ne ↦ l.lost e q he hq (omega (arith, below, ne)) is
+    | inl own ↦ absurd (false≢true (sym clear ∙ ap (λ k. get_or marks k false) (sym own) ∙ is))
+  ];
+  kept = λ e q he hq free. l.kept e q he hq (λ below. free (omega (arith, below)));
+}

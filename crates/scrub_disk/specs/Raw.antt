@@ -31,10 +31,10 @@ pub record IsPageAt (bytes : List ℕ) (place size : ℕ) (page : List ℕ) : Ty
   pub whole : length page ≡ size
   pub stands : AreBytesAt (slice_get bytes) place page
 
--- each readable page has the bytes of its place
-abbrev pub HoldsRaw : List ℕ → Image → Type 0
-HoldsRaw bytes image =
-    (e q : ℕ) → e < image.geometry.extents → q < image.geometry.pages →
+-- each readable page of the wanted extents has the bytes of its place
+abbrev pub HoldsRaw : (ℕ → Type 0) → List ℕ → Image → Type 0
+HoldsRaw wanted bytes image =
+    (e q : ℕ) → wanted e → e < image.geometry.extents → q < image.geometry.pages →
     IfSome (image.page e q) (IsPageAt bytes (raw_place image.geometry e q) image.geometry.page)
 
 -- the raw bytes end before page q of extent e is whole
@@ -51,27 +51,36 @@ pub record MayFailIn (fails : ℕ → ℕ → Bool) (place size : ℕ) : Type 0 
   pub to : offset + count ≤ place + size
   pub may : IsTrue (fails offset count)
 
--- after a load each page that is cut is unreadable, and of the others only named ones and those that failures cost,
--- listed here by their numbers: at most `failures` of them, and in each of them a read may fail
-pub record LosesOnly (bytes : List ℕ) (fails : ℕ → ℕ → Bool) (g : Geometry) (named : List (ℕ × ℕ)) (failures : ℕ) (image : Image) : Type 0 where
-  pub cut : (e q : ℕ) → e < g.extents → q < g.pages → IsCut bytes g e q → image.page e q ≡ None
+-- after a load each page of the wanted extents that is cut is unreadable, and of the others only named ones and those that
+-- failures cost, listed here by their numbers: at most `failures` of them, and in each of them a read may fail
+pub record LosesOnly (wanted : ℕ → Type 0) (bytes : List ℕ) (fails : ℕ → ℕ → Bool) (g : Geometry) (named : List (ℕ × ℕ)) (failures : ℕ) (image : Image) : Type 0 where
+  pub cut : (e q : ℕ) → wanted e → e < g.extents → q < g.pages → IsCut bytes g e q → image.page e q ≡ None
   pub failed : List ℕ
   pub few : length failed ≤ failures
   pub each : All (λ n. MayFailIn fails (n * g.page) g.page) failed
-  pub only : (e q : ℕ) → e < g.extents → q < g.pages → image.page e q ≡ None →
+  pub only : (e q : ℕ) → wanted e → e < g.extents → q < g.pages → image.page e q ≡ None →
       Contains named (e, q) ⊎ (IsCut bytes g e q ⊎ Contains failed (page_number g e q))
 
--- if the raw bytes are known, each readable page has the bytes of its place, pages are lost only as `LosesOnly` says,
--- and no byte is after the last page, unless a read of the byte there may fail, and `failures` isn't 0
-pub record HoldsKnown (bytes : List ℕ) (fails : ℕ → ℕ → Bool) (failures : ℕ) (g : Geometry) (named : List (ℕ × ℕ)) (image : Image) : Type 0 where
-  pub pages : HoldsRaw bytes image
-  pub lost : LosesOnly bytes fails g named failures image
+-- if the raw bytes are known, each readable page of the wanted extents has the bytes of its place, pages are lost only as
+-- `LosesOnly` says, and no byte is after the last page, unless a read of the byte there may fail, and `failures` isn't 0
+pub record HoldsKnown (wanted : ℕ → Type 0) (bytes : List ℕ) (fails : ℕ → ℕ → Bool) (failures : ℕ) (g : Geometry) (named : List (ℕ × ℕ)) (image : Image) : Type 0 where
+  pub pages : HoldsRaw wanted bytes image
+  pub lost : LosesOnly wanted bytes fails g named failures image
   pub not_too_long : (length bytes ≤ disk_bytes g) ⊎ ((0 < failures) × IsTrue (fails (disk_bytes g) 1))
 
--- an image of these sizes that was loaded with at most `failures` failed reads, of those that may fail: each page is whole
--- or unreadable, each named page is unreadable, and what is known of the raw bytes holds of it as `HoldsKnown` says
-pub record IsLoadedWith (raw : Option (List ℕ)) (fails : ℕ → ℕ → Bool) (failures : ℕ) (g : Geometry) (named : List (ℕ × ℕ)) (image : Image) : Type 0 where
+-- an image of these sizes whose wanted extents were loaded with at most `failures` failed reads, of those that may fail:
+-- each page is whole or unreadable, each named page of these extents is unreadable, and what is known of the raw bytes
+-- holds of them as `HoldsKnown` says
+pub record IsLoadedIn (wanted : ℕ → Type 0) (raw : Option (List ℕ)) (fails : ℕ → ℕ → Bool) (failures : ℕ) (g : Geometry) (named : List (ℕ × ℕ)) (image : Image) : Type 0 where
   pub geometry : image.geometry ≡ g
   pub whole : HasWholePages image
-  pub unreadable : All (λ at. image.page at.0 at.1 ≡ None) named
-  pub known : IfSome raw (λ bytes. HoldsKnown bytes fails failures g named image)
+  pub unreadable : All (λ at. wanted at.0 → image.page at.0 at.1 ≡ None) named
+  pub known : IfSome raw (λ bytes. HoldsKnown wanted bytes fails failures g named image)
+
+-- every extent is wanted
+abbrev pub every_extent : ℕ → Type 0
+every_extent e = Unit {0}
+
+-- an image of these sizes that was loaded so, with all its extents
+abbrev pub IsLoadedWith : Option (List ℕ) → (ℕ → ℕ → Bool) → ℕ → Geometry → List (ℕ × ℕ) → Image → Type 0
+IsLoadedWith = IsLoadedIn every_extent

@@ -3,13 +3,13 @@
 
 ghost use Rattle.std.specs.Prelude.{◌≡◌, ◌≢◌, ◌≤◌, ◌+◌, ◌-◌, ◌*◌, ◌<◌, ◌^◌, All, IfOk, IfSome, Err, length};
 ghost use Rattle.scrub_disk.specs.Image.{disk_bytes};
-ghost use Rattle.scrub_disk.specs.OneExtent.{IsLoadedExtent, image_of};
-ghost use Rattle.scrub_disk.specs.Raw.{IsReadOn};
+ghost use Rattle.scrub_disk.specs.OneExtent.{image_of};
+ghost use Rattle.scrub_disk.specs.Raw.{IsLoadedIn, IsReadOn};
 ghost use Rattle.scrub_disk.specs.steps.Ahead.{IsReadFrom};
-ghost use Rattle.scrub_disk.specs.steps.Marked.{MarksAll};
 
 use crate::geometry::Geometry;
 use crate::loading::{LoadFault, has_byte_at};
+use crate::marking::mark_named;
 use crate::one_extent::OneExtent;
 use crate::raw::RawImage;
 use crate::reading::read_pages;
@@ -47,20 +47,8 @@ fn read_extent_of<R: RawImage>(
     Ok(OneExtent::from_bytes(geometry, extent, bytes, unreadable))
 }
 
-/// Makes each named page unreadable. A name is an extent and a page of it.
-fn mark_all(disk: &mut OneExtent, named: &[(u32, u32)])
-    requires { All (λ at. (at.0 < (image_of disk.old).geometry.extents) ×
-        (at.1 < (image_of disk.old).geometry.pages)) named.now }
-    ensures { MarksAll (image_of disk.old) (image_of disk.new) named.now }
-{
-    for &(extent, page) in named {
-        disk.mark_bad(extent, page);
-    }
-}
-
-/// Loads one extent of an image of this geometry from raw bytes: its pages are those that it has in an image
-/// of the whole disk which was loaded as `load` does it. Only the bytes of this extent are read, and what
-/// comes after the last page: whether there is a byte.
+/// Loads one extent of an image of this geometry from raw bytes, as `load` does it. Only the bytes of this
+/// extent are read, and what comes after the last page: whether there is a byte.
 ///
 /// Faults, in this order: `OutOfMemory`; `TooLong` if a byte follows the last page of the disk (if the read
 /// for it fails, that isn't a fault). Either may come after the raw image was read.
@@ -75,8 +63,8 @@ pub fn load_extent<R: RawImage>(
     requires in_range { All (λ at. (at.0 < geometry.extents) × (at.1 < geometry.pages)) bad.now }
     requires in_extents { extent < geometry.extents }
     ensures loaded { IfOk result (λ disk.
-        IsLoadedExtent (R.bytes raw.old) (R.fails raw.old) (R.failures raw.new - R.failures raw.old) geometry
-        bad.now extent (image_of disk)) }
+        IsLoadedIn (λ e. e ≡ extent) (R.bytes raw.old) (R.fails raw.old)
+        (R.failures raw.new - R.failures raw.old) geometry bad.now (image_of disk)) }
     ensures too_long { result ≡ Err LoadFault.TooLong →
         IfSome (R.bytes raw.old) (λ known. disk_bytes geometry < length known) }
     ensures failures { R.failures raw.old ≤ R.failures raw.new }
@@ -90,6 +78,6 @@ pub fn load_extent<R: RawImage>(
     if has_byte_at(raw, end) {
         return Err(LoadFault::TooLong);
     }
-    mark_all(&mut disk, bad);
+    mark_named(&mut disk, bad);
     Ok(disk)
 }

@@ -1,17 +1,18 @@
-//! Loads a raw image into memory, page by page. It doesn't look at what the bytes mean.
+//! Loads a raw image into memory by one reader of it. It doesn't look at what the bytes mean.
 
-ghost use Rattle.std.specs.Prelude.{◌≡◌, ◌≢◌, ◌≤◌, ◌+◌, ◌-◌, ◌*◌, ◌<◌, ◌^◌, ◌⊎◌, [], All, IsTrue};
+ghost use Rattle.std.specs.Prelude.{◌≡◌, ◌≢◌, ◌≤◌, ◌+◌, ◌-◌, ◌*◌, ◌<◌, ◌^◌, ◌⊎◌, All, IsTrue};
 ghost use Rattle.std.specs.Prelude.{IfOk, IfSome, length, Err};
 ghost use Rattle.std.specs.Bool.{OnTrue, OnFalse};
 ghost use Rattle.scrub_disk.specs.Image.{disk_bytes};
-ghost use Rattle.scrub_disk.specs.Raw.{IsReadOn, HoldsRaw, LosesOnly, IsLoadedWith};
-ghost use Rattle.scrub_disk.specs.steps.Marked.{HoldsUnmarked, MarksAll, MarksOnly};
+ghost use Rattle.scrub_disk.specs.Raw.{IsReadOn, IsLoadedWith};
+ghost use Rattle.scrub_disk.specs.steps.Ahead.{IsReadFrom};
 ghost use Rattle.scrub_disk.specs.Memory.{image_of};
 
 use crate::geometry::Geometry;
+use crate::marking::mark_named;
 use crate::memory::MemDisk;
 use crate::raw::RawImage;
-use crate::reading::read_rest;
+use crate::reading::read_pages;
 use std::alloc::Global;
 use thiserror::Error;
 
@@ -24,24 +25,6 @@ pub enum LoadFault {
     /// A byte follows the last page.
     #[error("the raw image is too long")]
     TooLong,
-}
-
-/// Reads each page from its place, and marks each one that couldn't be read whole.
-fn read_pages<R: RawImage>(raw: &mut R, page: usize, bytes: &mut [u8], unreadable: &mut [bool])
-    requires few_reads { R.reads raw.old + length bytes.old < 2 ^ 63 }
-    requires page { 0 < page }
-    requires whole { length bytes.old ≡ page * length unreadable.old }
-    ensures read { IfSome (R.bytes raw.old) (λ known. HoldsUnmarked known page unreadable.new bytes.new) }
-    ensures lost { IfSome (R.bytes raw.old) (λ known.
-        MarksOnly known (R.fails raw.old) page (length unreadable.new)
-        (R.failures raw.new - R.failures raw.old) unreadable.new) }
-    ensures image { IsReadOn R.bytes R.fails R.most_failures R.failures raw.old raw.new }
-    ensures reads { R.reads raw.new ≤ R.reads raw.old + length bytes.old }
-{
-    for (number, mark) in unreadable.iter_mut().enumerate() {
-        let start = number * page;
-        *mark = !read_rest(raw, start as u64, 0, &mut bytes[start..start + page]);
-    }
 }
 
 /// Whether a byte at an offset can be read.
@@ -67,39 +50,27 @@ fn read_disk<R: RawImage>(
     geometry: Geometry,
 ) -> Result<MemDisk, LoadFault>
     requires few_reads { R.reads raw.old < 2 ^ 62 }
-    ensures geometry { IfOk result (λ disk. (image_of disk).geometry ≡ geometry) }
-    ensures pages { IfOk result (λ disk. IfSome (R.bytes raw.old) (λ known. HoldsRaw known (image_of disk))) }
-    ensures lost { IfOk result (λ disk. IfSome (R.bytes raw.old) (λ known.
-        LosesOnly known (R.fails raw.old) geometry [] (R.failures raw.new - R.failures raw.old)
-        (image_of disk))) }
+    ensures geometry { IfOk result (λ disk. disk.geometry ≡ geometry) }
+    ensures read { IfOk result (λ disk. IsReadFrom (R.bytes raw.old) (R.fails raw.old) 0 geometry.page
+        (R.failures raw.new - R.failures raw.old) disk.bytes.items disk.unreadable.items) }
     ensures fault { result ≢ Err LoadFault.TooLong }
     ensures image { IsReadOn R.bytes R.fails R.most_failures R.failures raw.old raw.new }
-    ensures reads { R.reads raw.new ≤ R.reads raw.old + geometry.page * (geometry.pages * geometry.extents) }
+    ensures reads { R.reads raw.new ≤ R.reads raw.old + (geometry.page + 1) *
+        (geometry.pages * geometry.extents) }
 {
     let pages = geometry.pages() as usize * geometry.extents() as usize;
     let page = geometry.page() as usize;
     let mut bytes = vec![in alloc; 0u8; page * pages].map_err(|_| LoadFault::OutOfMemory)?;
     let mut unreadable = vec![in alloc; false; pages].map_err(|_| LoadFault::OutOfMemory)?;
-    read_pages(raw, page, &mut bytes, &mut unreadable);
+    read_pages(raw, 0, page, &mut bytes, &mut unreadable);
     Ok(MemDisk::from_parts(geometry, bytes, unreadable))
 }
 
-/// Makes each named page unreadable. A name is an extent and a page of it.
-fn mark_all(disk: &mut MemDisk, named: &[(u32, u32)])
-    requires { All (λ at. (at.0 < (image_of disk.old).geometry.extents) ×
-        (at.1 < (image_of disk.old).geometry.pages)) named.now }
-    ensures { MarksAll (image_of disk.old) (image_of disk.new) named.now }
-{
-    for &(extent, page) in named {
-        disk.mark_bad(extent, page);
-    }
-}
-
 /// Loads an image of this geometry from raw bytes. With N pages an extent and P bytes a page, page q of
-/// extent e begins at byte (e × N + q) × P. A page is unreadable if a read of it failed, if the bytes end
-/// before it does, or if `bad` names it, by its extent and its number there. At most P + 1 reads are made for
-/// each page, and one more after the last page; a failed read costs at most one page. On success the bytes
-/// are no longer than the disk, unless a read failed.
+/// extent e begins at byte (e × N + q) × P. A page is unreadable if a read of it alone failed, if the bytes
+/// end before it does, or if `bad` names it, by its extent and its number there. At most P + 1 reads are made
+/// for each page, and one more after the last page; a failed read costs at most one page. On success the
+/// bytes are no longer than the disk, unless a read failed.
 ///
 /// Faults, in this order: `OutOfMemory`; `TooLong` if a byte follows the last page (if the read for it fails,
 /// that isn't a fault). Either may come after the raw image was read.
@@ -128,6 +99,6 @@ pub fn load<R: RawImage>(
     if has_byte_at(raw, end) {
         return Err(LoadFault::TooLong);
     }
-    mark_all(&mut disk, bad);
+    mark_named(&mut disk, bad);
     Ok(disk)
 }

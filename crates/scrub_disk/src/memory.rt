@@ -4,6 +4,7 @@
 ghost use Rattle.std.specs.Prelude.{◌≡◌, ◌+◌, ◌*◌, ◌<◌, ◌≤◌, length, IfOk};
 
 use crate::geometry::Geometry;
+use crate::marking::MarkPages;
 use crate::source::{PageSource, Unreadable};
 use std::alloc::{AllocError as OutOfMemory, Global};
 
@@ -19,13 +20,14 @@ pub struct MemDisk {
 
 impl MemDisk {
     ghost use Rattle.scrub_disk.specs.Memory.{image_of, IsBlank, Puts, Marks};
-    ghost use Rattle.scrub_disk.specs.BytesAndMarks.{held};
 
     /// A disk with the bytes of all its pages, in order, and a mark for each page: true if it is unreadable.
     pub(crate) fn from_parts(geometry: Geometry, bytes: Vec<u8>, unreadable: Vec<bool>) -> MemDisk
         requires whole { length bytes.items ≡ geometry.page * geometry.pages * geometry.extents }
         requires each_page { length unreadable.items ≡ geometry.pages * geometry.extents }
-        ensures { image_of result ≡ held geometry bytes.items unreadable.items }
+        ensures geometry { result.geometry ≡ geometry }
+        ensures bytes { result.bytes.items ≡ bytes.items }
+        ensures unreadable { result.unreadable.items ≡ unreadable.items }
     {
         MemDisk {
             geometry,
@@ -91,5 +93,11 @@ impl PageSource for MemDisk {
         let start = number * size;
         out.copy_from_slice(&self.bytes[start..start + size]);
         Ok(())
+    }
+}
+
+impl MarkPages for MemDisk {
+    fn mark_bad(&mut self, extent: u32, page: u32) {
+        MemDisk::mark_bad(self, extent, page);
     }
 }

@@ -4,6 +4,7 @@
 ghost use Rattle.std.specs.Prelude.{◌≡◌, ◌*◌, ◌<◌, length};
 
 use crate::geometry::Geometry;
+use crate::marking::MarkPages;
 use crate::source::{PageSource, Unreadable};
 
 /// The bytes of one extent of a disk, and a mark on each unreadable page of it. All pages of the other
@@ -19,9 +20,6 @@ pub struct OneExtent {
 }
 
 impl OneExtent {
-    ghost use Rattle.scrub_disk.specs.OneExtent.{image_of};
-    ghost use Rattle.scrub_disk.specs.Memory.{Marks};
-
     /// A disk with the bytes of all pages of this extent, and a mark for each of them: true if it is
     /// unreadable.
     pub(crate) fn from_bytes(
@@ -42,17 +40,6 @@ impl OneExtent {
             extent,
             bytes,
             unreadable,
-        }
-    }
-
-    /// Makes a page unreadable from now on. A page of another extent is unreadable already.
-    pub fn mark_bad(&mut self, extent: u32, page: u32)
-        requires in_extents { extent < (image_of self.old).geometry.extents }
-        requires in_pages { page < (image_of self.old).geometry.pages }
-        ensures { Marks (image_of self.old) (image_of self.new) extent page }
-    {
-        if extent == self.extent {
-            self.unreadable[page as usize] = true;
         }
     }
 }
@@ -81,5 +68,13 @@ impl PageSource for OneExtent {
         let start = page as usize * size;
         out.copy_from_slice(&self.bytes[start..start + size]);
         Ok(())
+    }
+}
+
+impl MarkPages for OneExtent {
+    fn mark_bad(&mut self, extent: u32, page: u32) {
+        if extent == self.extent {
+            self.unreadable[page as usize] = true;
+        }
     }
 }

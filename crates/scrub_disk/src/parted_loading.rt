@@ -1,5 +1,5 @@
-//! Loads a raw image into memory by several readers of it, each on a thread of its own. For one reader, and
-//! one page at a time, see `loading`.
+//! Loads a raw image into memory by several readers of it, each on a thread of its own. For one reader see
+//! `loading`.
 
 ghost use Rattle.std.specs.Thread.{IsSync};
 ghost use Rattle.std.specs.Prelude.{◌≡◌, ◌≤◌, ◌+◌, ◌-◌, ◌*◌, ◌<◌, ◌^◌, ◌++◌, [], ℕ, Bool, List, Option, All};
@@ -7,7 +7,6 @@ ghost use Rattle.std.specs.Prelude.{IfOk, IfSome, OnOk, Err, length, sum_by, vec
 ghost use Rattle.scrub_disk.specs.steps.Ahead.{IsReadFrom};
 ghost use Rattle.scrub_disk.specs.Image.{disk_bytes};
 ghost use Rattle.scrub_disk.specs.Joined.{AreBlocks, first_page, joined};
-ghost use Rattle.scrub_disk.specs.steps.Marked.{MarksAll};
 ghost use Rattle.scrub_disk.specs.Parted.{image_of};
 ghost use Rattle.scrub_disk.specs.Raw.{IsLoadedWith, IsReadOn};
 ghost use Rattle.scrub_disk.specs.Stored.{HasPages, block_text};
@@ -16,6 +15,7 @@ use crate::OutOfMemory;
 use crate::blocks::Block;
 use crate::geometry::Geometry;
 use crate::loading::{LoadFault, has_byte_at};
+use crate::marking::mark_named;
 use crate::parts::PartedDisk;
 use crate::raw::RawImage;
 use crate::reading::read_pages;
@@ -378,17 +378,6 @@ fn read_parts<T: Threads + Sync, R: RawImage + Send + Drop>(
     Ok(parts)
 }
 
-/// Makes each named page unreadable. A name is an extent and a page of it.
-fn mark_all(disk: &mut PartedDisk, named: &[(u32, u32)])
-    requires { All (λ at. (at.0 < (image_of disk.old).geometry.extents) ×
-        (at.1 < (image_of disk.old).geometry.pages)) named.now }
-    ensures { MarksAll (image_of disk.old) (image_of disk.new) named.now }
-{
-    for &(extent, page) in named {
-        disk.mark_bad(extent, page);
-    }
-}
-
 /// Loads an image of this geometry from raw bytes by readers of them, each on a thread of its own. With N
 /// pages an extent and P bytes a page, page q of extent e begins at byte (e × N + q) × P. A page is
 /// unreadable if a read of it alone failed, if the bytes end before it does, or if `bad` names it, by its
@@ -426,6 +415,6 @@ pub fn load_in_parts<T: Threads + Sync, R: RawImage + Send + Drop>(
         return Err(LoadFault::TooLong);
     }
     let mut disk = PartedDisk::from_blocks(geometry, division.stride, parts.filled, parts.marks);
-    mark_all(&mut disk, bad);
+    mark_named(&mut disk, bad);
     Ok(disk)
 }

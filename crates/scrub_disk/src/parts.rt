@@ -8,6 +8,7 @@ ghost use Rattle.scrub_disk.specs.Stored.{HasPages};
 
 use crate::blocks::Block;
 use crate::geometry::Geometry;
+use crate::marking::MarkPages;
 use crate::source::{PageSource, Unreadable};
 
 /// A disk's image in memory: its pages, in blocks of as many pages each, of which the last ones may have
@@ -30,7 +31,6 @@ pub struct PartedDisk {
 
 impl PartedDisk {
     ghost use Rattle.scrub_disk.specs.BytesAndMarks.{held};
-    ghost use Rattle.scrub_disk.specs.Memory.{Marks};
     ghost use Rattle.scrub_disk.specs.Parted.{image_of};
 
     /// A disk with the bytes of all its pages, in blocks of `stride` pages, and a mark for each page: true if
@@ -57,16 +57,6 @@ impl PartedDisk {
             unreadable,
         }
     }
-
-    /// Makes a page unreadable from now on.
-    pub fn mark_bad(&mut self, extent: u32, page: u32)
-        requires in_extents { extent < (image_of self.old).geometry.extents }
-        requires in_pages { page < (image_of self.old).geometry.pages }
-        ensures { Marks (image_of self.old) (image_of self.new) extent page }
-    {
-        let number = extent as usize * self.geometry.pages() as usize + page as usize;
-        self.unreadable[number] = true;
-    }
 }
 
 impl PageSource for PartedDisk {
@@ -91,5 +81,12 @@ impl PageSource for PartedDisk {
         let block = &self.blocks[number / self.stride];
         block.read_page(number % self.stride, out);
         Ok(())
+    }
+}
+
+impl MarkPages for PartedDisk {
+    fn mark_bad(&mut self, extent: u32, page: u32) {
+        let number = extent as usize * self.geometry.pages() as usize + page as usize;
+        self.unreadable[number] = true;
     }
 }

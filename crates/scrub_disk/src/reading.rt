@@ -1,5 +1,4 @@
-//! Reads pages that follow one another in a raw image, many at once where that can be. `loading` reads each
-//! page alone.
+//! Reads pages that follow one another in a raw image, many at once where that can be.
 
 ghost use Rattle.std.specs.Prelude.{◌≡◌, ◌≤◌, ◌+◌, ◌-◌, ◌*◌, ◌<◌, ◌^◌, ◌⊎◌, ℕ, IfNone, IfSome, length};
 ghost use Rattle.std.specs.Prelude.{slice_get, slice_index};
@@ -35,7 +34,7 @@ fn read_ahead<R: RawImage>(raw: &mut R, offset: u64, page: usize, out: &mut [u8]
 }
 
 /// Fills `out`, whose first bytes were read before. False if a read failed or the bytes ended first.
-pub(crate) fn read_rest<R: RawImage>(raw: &mut R, offset: u64, have: usize, out: &mut [u8]) -> bool
+fn read_rest<R: RawImage>(raw: &mut R, offset: u64, have: usize, out: &mut [u8]) -> bool
     requires few_reads { R.reads raw.old + length out.old < 2 ^ 63 }
     requires in_range { offset + length out.old < 2 ^ 64 }
     requires have { have ≤ length out.old }

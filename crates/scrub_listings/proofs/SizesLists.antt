@@ -320,7 +320,7 @@ uncertain_front bytes lost records ranges h = (
 )
 
 -- The lines of all that was found, with whether it is clean, are a listing of sizes.
-pub listing_known : (raw : Option (List ℕ)) (lacking : List ℕ) {fails : ℕ → ℕ → Bool} (failures : ℕ) (records : List FoundRecord) (ranges : List LostBytes) (lines : List SizesLine) (text : List ℕ) (clean : Bool) →
+pub listing_known : (raw : Option (List ℕ)) (lacking : ℕ → Bool) {fails : ℕ → ℕ → Bool} (failures : ℕ) (records : List FoundRecord) (ranges : List LostBytes) (lines : List SizesLine) (text : List ℕ) (clean : Bool) →
     AreFoundInSome raw lacking fails failures records ranges →
     (CanMerge records ranges → AreInOrder records ranges lines) → text ≡ size_lines lines →
     IsTrue clean ↔ AreCleanLists records ranges → IsSizesListingOf raw lacking fails failures text clean
@@ -346,7 +346,7 @@ listing_known raw lacking failures records ranges lines text clean some merged i
     }
 
 -- what the lists say of the sizes is so of the bytes in which the records were found
-pub sizes_known : (raw : Option (List ℕ)) (lacking : List ℕ) {fails : ℕ → ℕ → Bool} (failures : ℕ) (records : List FoundRecord) (ranges : List LostBytes) →
+pub sizes_known : (raw : Option (List ℕ)) (lacking : ℕ → Bool) {fails : ℕ → ℕ → Bool} (failures : ℕ) (records : List FoundRecord) (ranges : List LostBytes) →
     AreFoundInSome raw lacking fails failures records ranges → (said : SizesFound) → AreSizesIn records ranges said →
     AreSizesOf raw lacking fails failures said
 sizes_known raw lacking failures records ranges some said answer = record {
@@ -423,7 +423,7 @@ moved_record bytes others lost gone r same none nothing f =
     f
 
 -- If raw bytes give sizes twice, these are the same, whatever may be lacking or fail each time.
-pub one_size_lem : (bytes lacking others : List ℕ) (fails faults : ℕ → ℕ → Bool) (failures more : ℕ) (g h : Geometry) →
+pub one_size_lem : (bytes : List ℕ) (lacking others : ℕ → Bool) (fails faults : ℕ → ℕ → Bool) (failures more : ℕ) (g h : Geometry) →
     AreSizesOf (Some bytes) lacking fails failures (Certain g) → AreSizesOf (Some bytes) others faults more (Certain h) → g ≡ h
 one_size_lem bytes lacking others fails faults failures more g h x y =
     let one = x.sizes.clean.some in

@@ -202,7 +202,7 @@ some_clean_front bytes lost =
     truth (clean_front bytes lost found.0 found.1 found.2) (decided_clean found.0 found.1)
 
 -- There is a listing of sizes for any raw image, known or not, any lacking bytes and any failures.
-pub some_sizes_listing : (raw : Option (List ℕ)) (lacking : List ℕ) (fails : ℕ → ℕ → Bool) (failures : ℕ) →
+pub some_sizes_listing : (raw : Option (List ℕ)) (lacking : ℕ → Bool) (fails : ℕ → ℕ → Bool) (failures : ℕ) →
     (text : List ℕ) × (clean : Bool) × IsSizesListingOf raw lacking fails failures text clean
 some_sizes_listing raw lacking fails failures =
     let some = some_found_in raw lacking fails failures in
@@ -216,7 +216,7 @@ some_sizes_listing raw lacking fails failures =
     )
 
 -- For any raw image, lacking bytes and failures the sizes are certain, uncertain or not found.
-pub some_sizes_of : (raw : Option (List ℕ)) (lacking : List ℕ) (fails : ℕ → ℕ → Bool) (failures : ℕ) →
+pub some_sizes_of : (raw : Option (List ℕ)) (lacking : ℕ → Bool) (fails : ℕ → ℕ → Bool) (failures : ℕ) →
     (found : SizesFound) × AreSizesOf raw lacking fails failures found
 some_sizes_of raw lacking fails failures =
     let some = some_found_in raw lacking fails failures in

@@ -57,16 +57,16 @@ pub record IsCleanFront (bytes : List ℕ) (lost : List Bool) : Type 0 where
       IsFoundRecord (byte_left bytes lost) r → IsFoundRecord (byte_left bytes lost) s → r.geometry ≡ s.geometry
   pub nothing_lost : (n : ℕ) → ¬ IsMarked lost n
 
--- the text and the verdict whether it is clean are those of raw bytes, for some lost blocks that fit these first lacking
--- bytes, the reads that may fail, and this many failures
-pub record IsSizesListing (bytes lacking : List ℕ) (fails : ℕ → ℕ → Bool) (failures : ℕ) (text : List ℕ) (clean : Bool) : Type 0 where
+-- the text and the verdict whether it is clean are those of raw bytes, for some lost blocks that fit the bytes that are
+-- lacking, the reads that may fail, and this many failures
+pub record IsSizesListing (bytes : List ℕ) (lacking : ℕ → Bool) (fails : ℕ → ℕ → Bool) (failures : ℕ) (text : List ℕ) (clean : Bool) : Type 0 where
   pub lost : List Bool
   pub loses : LosesBlocks bytes lacking fails failures lost
   pub lines : AreSizesLines bytes lost text
   pub is_clean : IsTrue clean ↔ IsCleanFront bytes lost
 
 -- the listing of sizes of some bytes: those of the raw image if they are known, or else any
-pub record IsSizesListingOf (raw : Option (List ℕ)) (lacking : List ℕ) (fails : ℕ → ℕ → Bool) (failures : ℕ) (text : List ℕ) (clean : Bool) : Type 0 where
+pub record IsSizesListingOf (raw : Option (List ℕ)) (lacking : ℕ → Bool) (fails : ℕ → ℕ → Bool) (failures : ℕ) (text : List ℕ) (clean : Bool) : Type 0 where
   pub bytes : List ℕ
   pub known : IfSome raw (λ all. bytes ≡ all)
   pub listing : IsSizesListing bytes lacking fails failures text clean
@@ -89,8 +89,8 @@ IsFoundInFront bytes lost Uncertain = IsUncertainFront bytes lost
 IsFoundInFront bytes lost NotFound = ¬ IsCleanFront bytes lost × ¬ IsUncertainFront bytes lost
 
 -- what is found of the sizes of a disk by some bytes: those of the raw image if they are known, or else any; for some lost blocks
--- that fit these first lacking bytes, the reads that may fail, and this many failures
-pub record AreSizesOf (raw : Option (List ℕ)) (lacking : List ℕ) (fails : ℕ → ℕ → Bool) (failures : ℕ) (found : SizesFound) : Type 0 where
+-- that fit the bytes that are lacking, the reads that may fail, and this many failures
+pub record AreSizesOf (raw : Option (List ℕ)) (lacking : ℕ → Bool) (fails : ℕ → ℕ → Bool) (failures : ℕ) (found : SizesFound) : Type 0 where
   pub bytes : List ℕ
   pub known : IfSome raw (λ all. bytes ≡ all)
   pub lost : List Bool

@@ -1,20 +1,20 @@
 //! The superblock records of a raw image of any sizes, and what is lost of it, as lines.
 
-ghost use Rattle.std.specs.Prelude.{◌≡◌, ◌+◌, ◌-◌, ◌<◌, ◌≤◌, ◌↔◌, ◌^◌, ℕ, All, List, Bool, IfOk, IsTrue};
+ghost use Rattle.std.specs.Prelude.{◌≡◌, ◌↔◌, ℕ, All, List, Bool, IfOk, IsTrue};
 ghost use Rattle.std.specs.Prelude.{Option, Some};
-ghost use Rattle.scrub_disk.specs.Limits.{max_extent_bytes};
 ghost use Rattle.scrub_listings.specs.declared.sizes_listing.SizesFound.{SizesFound};
 ghost use Rattle.scrub_listings.specs.declared.sizes_listing.SizesFound.TheVariants.{Certain};
 ghost use Rattle.scrub_listings.specs.Sizes.{AreSizesLines, AreSizesOf, IsCleanFront, IsSizesListingOf};
 ghost use Rattle.scrub_disk.specs.declared.geometry.Geometry.{Geometry};
+ghost use Rattle.scrub_super.specs.UnknownSizes.{IsFrontOf};
 ghost use Rattle.scrub_listings.specs.steps.Sizes.{AreCleanLists, AreSizesIn, AreUncertainLists};
 
 mod lines;
 
 use crate::listing::Listing;
 use crate::sizes_listing::lines::{lines_in_order, lines_text};
-use scrub_disk::{Geometry, OutOfMemory, RawImage};
-use scrub_super::{FoundRecord, FoundSuperblocks, find_superblocks};
+use scrub_disk::{Geometry, OutOfMemory};
+use scrub_super::{FoundRecord, FoundSuperblocks, Front};
 use std::alloc::Global;
 
 /// What the superblock records in the front of a raw image say of the sizes of its disk.
@@ -70,64 +70,40 @@ fn sizes_in(found: &FoundSuperblocks) -> SizesFound
     }
 }
 
-/// Finds the sizes of the disk in a raw image: those that all superblock records in its first 67,108,864
-/// bytes have. They are uncertain if there is a record, but something is lost there, and not found if there
-/// is no record, or if nothing is lost and not all records have the same sizes. `find_superblocks` reads the
-/// image, whose blocks lack what `lacking` says, as for `list_sizes`. The only fault is `OutOfMemory`.
-pub fn find_sizes<R: RawImage>(
-    alloc: Global,
-    raw: &mut R,
-    lacking: &[u32],
-) -> Result<SizesFound, OutOfMemory>
-    requires few_reads { R.reads raw.old < 2 ^ 62 }
-    ensures sizes { IfOk result
-        (AreSizesOf (R.bytes raw.old) lacking.now (R.fails raw.old)
-        (R.failures raw.new - R.failures raw.old)) }
-    ensures failures { R.failures raw.old ≤ R.failures raw.new }
-    ensures same_bytes { R.bytes raw.new ≡ R.bytes raw.old }
-    ensures same_fails { R.fails raw.new ≡ R.fails raw.old }
-    ensures same_bound { R.most_failures raw.new ≡ R.most_failures raw.old }
-    ensures reads { R.reads raw.new ≤ R.reads raw.old + max_extent_bytes }
+/// Finds the sizes of the disk in the front of a raw image: those that all its superblock records have. They
+/// are uncertain if there is a record, but something is lost there, and not found if there is no record, or
+/// if nothing is lost and not all records have the same sizes. The only fault is `OutOfMemory`.
+pub fn find_sizes(alloc: Global, front: &Front) -> Result<SizesFound, OutOfMemory>
+    ensures { IfOk result (λ found. (raw : Option (List ℕ)) (lacking : ℕ → Bool) (fails : ℕ → ℕ → Bool)
+        (failures : ℕ) → IsFrontOf raw lacking fails failures front.now →
+        AreSizesOf raw lacking fails failures found) }
 {
-    let found = find_superblocks(alloc, raw, lacking)?;
+    let found = front.superblocks(alloc)?;
     Ok(sizes_in(&found))
 }
 
-/// A law: the sizes that are found in given bytes are the same whatever blocks lack and whichever reads fail.
+/// A law: the sizes that are found in given bytes are the same whichever bytes are lacking and whichever
+/// reads fail.
 pub fn one_size()
-    ensures { (bytes lacking others : List ℕ) (fails faults : ℕ → ℕ → Bool) (failures more : ℕ)
+    ensures { (bytes : List ℕ) (lacking others : ℕ → Bool) (fails faults : ℕ → ℕ → Bool) (failures more : ℕ)
         (g h : Geometry) →
         AreSizesOf (Some bytes) lacking fails failures (Certain g) →
         AreSizesOf (Some bytes) others faults more (Certain h) →
         g ≡ h }
 {}
 
-/// Lists the superblock records of a raw image, each with its own sizes, and what is lost of the first
-/// 67,108,864 bytes. It is clean if there is a record, all records have the same sizes, and nothing is lost.
+/// Lists the superblock records in the front of a raw image, each with its own sizes, and what is lost of it.
+/// It is clean if there is a record, all records have the same sizes, and nothing is lost.
 ///
 /// The lines come by ascending start: `OFFSET KIND GENERATION PAGE PAGES EXTENTS` for each record, and
 /// `lost FROM TO` for each run of lost blocks. OFFSET, PAGE, FROM and TO are in bytes. TO is the byte after
-/// the last lost byte.
-///
-/// `find_superblocks` reads the image. `lacking` has for each of the first blocks of 512 bytes the place of
-/// its first byte that a rescue's map lacks, counted from the block's start: 512 if the map lacks none. The
-/// only fault is `OutOfMemory`.
-pub fn list_sizes<R: RawImage>(
-    alloc: Global,
-    raw: &mut R,
-    lacking: &[u32],
-) -> Result<Listing, OutOfMemory>
-    requires few_reads { R.reads raw.old < 2 ^ 62 }
-    ensures listing { IfOk result (λ l.
-        IsSizesListingOf (R.bytes raw.old) lacking.now (R.fails raw.old)
-        (R.failures raw.new - R.failures raw.old) l.text.items l.is_clean) }
-    ensures failures { R.failures raw.old ≤ R.failures raw.new }
-    ensures same_bytes { R.bytes raw.new ≡ R.bytes raw.old }
-    ensures same_fails { R.fails raw.new ≡ R.fails raw.old }
-    ensures same_bound { R.most_failures raw.new ≡ R.most_failures raw.old }
-    ensures reads { R.reads raw.new ≤ R.reads raw.old + max_extent_bytes }
+/// the last lost byte. The only fault is `OutOfMemory`.
+pub fn list_sizes(alloc: Global, front: &Front) -> Result<Listing, OutOfMemory>
+    ensures { IfOk result (λ l. (raw : Option (List ℕ)) (lacking : ℕ → Bool) (fails : ℕ → ℕ → Bool)
+        (failures : ℕ) → IsFrontOf raw lacking fails failures front.now →
+        IsSizesListingOf raw lacking fails failures l.text.items l.is_clean) }
 {
-    let found = find_superblocks(alloc, raw, lacking)?;
+    let found = front.superblocks(alloc)?;
     let lines = lines_in_order(alloc, &found.records, &found.lost)?;
     let text = lines_text(alloc, &lines)?;
     let is_clean = is_clean(&found);
@@ -142,13 +118,13 @@ pub fn one_sizes_listing()
 
 /// A law: for given bytes and lost blocks there is a listing, and with `one_sizes_listing` exactly one. It is
 /// decided whether it is clean. So raw bytes have a listing, and it is known whether their sizes are certain,
-/// uncertain or not found, whatever blocks lack and whichever reads fail.
+/// uncertain or not found, whichever bytes are lacking and whichever reads fail.
 pub fn each_front_has_a_sizes_listing()
     ensures text { (bytes : List ℕ) (lost : List Bool) → (text : List ℕ) × AreSizesLines bytes lost text }
     ensures clean { (bytes : List ℕ) (lost : List Bool) →
         (clean : Bool) × (IsTrue clean ↔ IsCleanFront bytes lost) }
-    ensures listing { (raw : Option (List ℕ)) (lacking : List ℕ) (fails : ℕ → ℕ → Bool) (failures : ℕ) →
+    ensures listing { (raw : Option (List ℕ)) (lacking : ℕ → Bool) (fails : ℕ → ℕ → Bool) (failures : ℕ) →
         (text : List ℕ) × (clean : Bool) × IsSizesListingOf raw lacking fails failures text clean }
-    ensures sizes { (raw : Option (List ℕ)) (lacking : List ℕ) (fails : ℕ → ℕ → Bool) (failures : ℕ) →
+    ensures sizes { (raw : Option (List ℕ)) (lacking : ℕ → Bool) (fails : ℕ → ℕ → Bool) (failures : ℕ) →
         (found : SizesFound) × AreSizesOf raw lacking fails failures found }
 {}

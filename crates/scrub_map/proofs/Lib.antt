@@ -8,7 +8,6 @@ pub mod MapLines
 -- its gaps, and the blocks that they mark
 pub mod Lost
 pub mod Keeping
-pub mod FirstLacking
 -- that there is one answer
 pub mod MapLaws
 pub mod LostDecided

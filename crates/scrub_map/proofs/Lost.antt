@@ -1,6 +1,7 @@
 -- Marks and gaps.
-use Rattle.std.proofs.Common.{◌≡◌, ◌<◌, ◌≤◌, ◌+◌, ◌-◌, ◌*◌, ◌/◌, ◌^◌, ◌⊎◌, ℕ, min, Bool, true, false, List, [], ◌∷◌, ◌++◌, length, get_or, set, take, arith, refl, sym, ◌∙◌, ap, subst, inl, inr, get_or-set_same, get_or-set_other, replicate, add-one, Vec}
+use Rattle.std.proofs.Common.{◌≡◌, ◌<◌, ◌≤◌, ◌+◌, ◌-◌, ◌*◌, ◌/◌, ◌⊎◌, ℕ, min, Bool, true, false, List, [], ◌∷◌, ◌++◌, length, get_or, set, take, arith, refl, sym, ◌∙◌, ap, subst, inl, inr, get_or-set_same, get_or-set_other, replicate, add-one, Vec}
 use Rattle.std.specs.Prelude.{◌↔◌}
+use Rattle.std.specs.Int.{div_ceil}
 use Rattle.std.proofs.lemmas.Bool.{cases_lt, cases_eq, false≢true}
 use Rattle.std.proofs.lemmas.List.{take_all, length-replicate, get_or-replicate, with_items_is}
 use Rattle.std.specs.Vec.{with_items}
@@ -13,41 +14,51 @@ use Rattle.scrub_map.specs.MissingBytes.{KeepsBlocks}
 use Rattle.scrub_map.specs.Rescued.{AreLostBlocks}
 use Rattle.scrub_map.specs.steps.Gaps.{IsHitBy, IsInGap, IsInGaps, MarksGap}
 
--- a gap hits each block from that of its first byte to that of its last byte
-hit_between : (gap : Gap) (size n : ℕ) → 0 < size → gap.from / size ≤ n → n ≤ (gap.to - 1) / size → IsHitBy gap size n
-hit_between gap size n some low high =
+-- a gap that begins before the end hits each block from that of its first byte to that of its last byte before the end
+hit_between : (gap : Gap) (size end n : ℕ) → 0 < size → gap.from < end → gap.from / size ≤ n → n ≤ (min gap.to end - 1) / size →
+    IsHitBy gap size end n
+hit_between gap size end n some begins low high =
     let first : gap.from < n * size + size = omega (arith, mul-le-mul_left size low) in
-    let last : n * size ≤ gap.to - 1 = omega (arith, mul-le-mul_left size high) in
+    let last : n * size ≤ min gap.to end - 1 = omega (arith, mul-le-mul_left size high) in
     let filled : gap.from < gap.to = gap.has_a_byte in
     elim (cases_lt gap.from (n * size)) [
       | inl before ↦ record {
         place = n * size;
         low = omega arith;
         high = omega (arith, some);
+        before = omega (arith, last, begins);
         inside = record { low = omega (arith, before); high = omega (arith, last, filled) };
       }
       | inr behind ↦ record {
         place = gap.from;
         low = behind;
         high = first;
+        before = begins;
         inside = record { low = omega arith; high = filled };
       }
     ]
 
 -- it hits no other block
-pub between_hit : (gap : Gap) (size n : ℕ) → 0 < size → IsHitBy gap size n →
-    (gap.from / size ≤ n) × (n ≤ (gap.to - 1) / size)
-between_hit gap size n some hit = (
+between_hit : (gap : Gap) (size end n : ℕ) → 0 < size → IsHitBy gap size end n →
+    (gap.from / size ≤ n) × (n ≤ (min gap.to end - 1) / size)
+between_hit gap size end n some hit = (
   elim (cases_lt n (gap.from / size)) [
     | inl under ↦ let more : n + 1 ≤ gap.from / size = omega (arith, under) in
         absurd (omega (arith, mul-le-mul_left size more, hit.high, hit.inside.low, some))
     | inr over ↦ over
   ],
-  elim (cases_lt ((gap.to - 1) / size) n) [
-    | inl over ↦ let more : (gap.to - 1) / size + 1 ≤ n = omega (arith, over) in
-        absurd (omega (arith, mul-le-mul_left size more, hit.low, hit.inside.high, some))
+  elim (cases_lt ((min gap.to end - 1) / size) n) [
+    | inl over ↦ let more : (min gap.to end - 1) / size + 1 ≤ n = omega (arith, over) in
+        absurd (omega (arith, mul-le-mul_left size more, hit.low, hit.inside.high, hit.before, some))
     | inr under ↦ under
   ],
+)
+
+-- a gap that begins at or after the end marks nothing
+pub marks_nothing : (gap : Gap) (size end : ℕ) (marks : List Bool) → end ≤ gap.from → MarksGap gap size end marks marks
+marks_nothing gap size end marks late n below = (
+  λ marked. inl marked,
+  λ either. elim either [ inl marked ↦ marked | inr hit ↦ absurd (omega (arith, late, hit.before, hit.inside.low)) ],
 )
 
 -- each block that the loop has passed is marked, and other marks are as before
@@ -95,36 +106,37 @@ marks_more first behind number before after low high below m = record {
 }
 
 -- Once the loop has passed the last block that the gap can hit, the marks are as `MarksGap` says.
-pub marks_all : (gap : Gap) (size behind number : ℕ) (before after : List Bool) → 0 < size →
-    behind ≡ min ((gap.to - 1) / size + 1) (length before) → behind ≤ number →
-    MarksFrom (gap.from / size) behind number before after → MarksGap gap size before after
-marks_all gap size behind number before after some end high m n below = (
+pub marks_all : (gap : Gap) (size end behind number : ℕ) (before after : List Bool) → 0 < size → gap.from < end →
+    behind ≡ min ((min gap.to end - 1) / size + 1) (length before) → behind ≤ number →
+    MarksFrom (gap.from / size) behind number before after → MarksGap gap size end before after
+marks_all gap size end behind number before after some begins all high m n below = (
   λ marked. elim ((m.marked n below).0 marked) [
     | inl old ↦ inl old
-    | inr new ↦ inr (hit_between gap size n some new.0 (elim m.placed [
-      | inl within ↦ omega (arith, new.1, within, end)
+    | inr new ↦ inr (hit_between gap size end n some begins new.0 (elim m.placed [
+      | inl within ↦ omega (arith, new.1, within, all)
       | inr at ↦ absurd (omega (arith, new.0, new.1, at))
     ]))
   ],
   λ either. (m.marked n below).1 (elim either [
     | inl old ↦ inl old
     | inr hit ↦
-        let between = between_hit gap size n some hit in
-        inr (between.0, omega (arith, between.1, below, high, end))
+        let between = between_hit gap size end n some hit in
+        inr (between.0, omega (arith, between.1, below, high, all))
   ]),
 )
 
--- block n of this size has a byte of one of the gaps
-pub record IsHitByAny (gaps : List Gap) (size n : ℕ) : Type 0 where
+-- block n of this size has a byte of one of the gaps before this end
+pub record IsHitByAny (gaps : List Gap) (size end n : ℕ) : Type 0 where
   pub place : ℕ
   pub low : n * size ≤ place
   pub high : place < n * size + size
+  pub before : place < end
   pub inside : IsInGaps gaps place
 
 -- the marks are those of these gaps
-pub record MarksGaps (gaps : List Gap) (size count : ℕ) (marks : List Bool) : Type 0 where
+pub record MarksGaps (gaps : List Gap) (size end count : ℕ) (marks : List Bool) : Type 0 where
   pub one_each : length marks ≡ count
-  pub marked : (n : ℕ) → n < count → (get_or marks n false ≡ true) ↔ IsHitByAny gaps size n
+  pub marked : (n : ℕ) → n < count → (get_or marks n false ≡ true) ↔ IsHitByAny gaps size end n
 
 -- a byte of one more gap
 pub in_gaps_push : (gaps : List Gap) (gap : Gap) (i : ℕ) → IsInGaps (gaps ++ gap ∷ []) i →
@@ -149,9 +161,9 @@ in_gaps_last [] gap i here = inl here
 in_gaps_last (first ∷ gaps) gap i here = inr (in_gaps_last gaps gap i here)
 
 -- Marks that are all false are those of no gaps.
-pub gaps_none : (gaps : List Gap) (size count : ℕ) (marks : List Bool) → marks ≡ replicate count false →
-    MarksGaps (take 0 gaps) size count marks
-gaps_none gaps size count marks e = record {
+pub gaps_none : (gaps : List Gap) (size end count : ℕ) (marks : List Bool) → marks ≡ replicate count false →
+    MarksGaps (take 0 gaps) size end count marks
+gaps_none gaps size end count marks e = record {
   one_each = ap length e ∙ length-replicate count false;
   marked = λ n below. (
     λ marked. absurd (false≢true (sym (ap (λ m. get_or m n false) e ∙ get_or-replicate count n false false below) ∙ marked)),
@@ -159,11 +171,11 @@ gaps_none gaps size count marks e = record {
   );
 }
 
-pub gaps_more : (gaps : List Gap) (i size count : ℕ) (gap : Gap) (before after : List Bool) → i < length gaps →
+gaps_more : (gaps : List Gap) (i size end count : ℕ) (gap : Gap) (before after : List Bool) → i < length gaps →
     gap ≡ get_or gaps i gap →
-    MarksGaps (take i gaps) size count before → length after ≡ length before → MarksGap gap size before after →
-    MarksGaps (take (i + 1) gaps) size count after
-gaps_more gaps i size count gap before after below item m same marks = record {
+    MarksGaps (take i gaps) size end count before → length after ≡ length before → MarksGap gap size end before after →
+    MarksGaps (take (i + 1) gaps) size end count after
+gaps_more gaps i size end count gap before after below item m same marks = record {
   one_each = same ∙ m.one_each;
   marked = λ n within.
       let cut : take (i + 1) gaps ≡ take i gaps ++ gap ∷ [] =
@@ -171,77 +183,84 @@ gaps_more gaps i size count gap before after below item m same marks = record {
       let inside : n < length before = omega (arith, within, m.one_each) in (
         λ marked. elim ((marks n inside).0 marked) [
           | inl old ↦ let hit = (m.marked n within).0 old in
-              record { place = hit.place; low = hit.low; high = hit.high; inside = rw cut (in_gaps_before (take i gaps) (gap ∷ []) hit.place hit.inside) }
+              record { place = hit.place; low = hit.low; high = hit.high; before = hit.before; inside = rw cut (in_gaps_before (take i gaps) (gap ∷ []) hit.place hit.inside) }
           | inr new ↦ record {
             place = new.place;
             low = new.low;
             high = new.high;
+            before = new.before;
             inside = rw cut (in_gaps_last (take i gaps) gap new.place new.inside);
           }
         ],
         λ hit. (marks n inside).1 (elim (in_gaps_push (take i gaps) gap hit.place (rw cut at hit.inside)) [
           | inl old ↦
-              inl ((m.marked n within).1 (record { place = hit.place; low = hit.low; high = hit.high; inside = old }))
-          | inr new ↦ inr (record { place = hit.place; low = hit.low; high = hit.high; inside = new })
+              inl ((m.marked n within).1 (record { place = hit.place; low = hit.low; high = hit.high; before = hit.before; inside = old }))
+          | inr new ↦ inr (record { place = hit.place; low = hit.low; high = hit.high; before = hit.before; inside = new })
         ]),
       );
 }
 
--- the marks of all gaps and of the bytes from the end on are those of the lost blocks
-pub lost_marked : (map : RescueMap) (gap : Gap) (i size count : ℕ) (before after : List Bool) →
-    length map.gaps.items ≤ i → gap.from ≡ map.end → gap.to ≡ 2 ^ 64 - 1 → size * count ≤ 2 ^ 63 →
-    MarksGaps (take i map.gaps.items) size count before → length after ≡ length before →
-    MarksGap gap size before after →
-    (blocks : List MapBlock) → KeepsBlocks map blocks → AreLostBlocks blocks size count after
-lost_marked map gap i size count before after all from to small m same marks blocks keeps = record {
-  one_each = same ∙ m.one_each;
+-- the marks of all gaps and of the bytes after the map's end are those of the lost blocks
+lost_marked : (map : RescueMap) (gap : Gap) (i size end count : ℕ) (before after : List Bool) →
+    length map.gaps.items ≤ i → gap.from ≡ map.end → end ≤ gap.to → count ≡ div_ceil end size →
+    MarksGaps (take i map.gaps.items) size end count before → length after ≡ length before →
+    MarksGap gap size end before after →
+    (blocks : List MapBlock) → KeepsBlocks map blocks → AreLostBlocks blocks size end after
+lost_marked map gap i size end count before after all from to many m same marks blocks keeps = record {
+  one_each = same ∙ m.one_each ∙ many;
   lost = λ n within.
       let whole : take i map.gaps.items ≡ map.gaps.items = take_all i map.gaps.items (omega (arith, all)) in
-      let inside : n < length before = omega (arith, within, m.one_each) in
-      let last : n + 1 ≤ count = omega (arith, within) in
-      let end : n * size + size ≤ 2 ^ 63 = omega (arith, mul-le-mul_left size last, small) in (
+      let inside : n < length before = omega (arith, within, same) in
+      let few : n < count = omega (arith, inside, m.one_each) in (
         λ marked. elim ((marks n inside).0 marked) [
-          | inl old ↦ let hit = (m.marked n within).0 old in
-              record { place = hit.place; low = hit.low; high = hit.high; lost = (keeps hit.place).0 (inl (rw whole at hit.inside)) }
+          | inl old ↦ let hit = (m.marked n few).0 old in
+              record { place = hit.place; low = hit.low; high = hit.high; before = hit.before; lost = (keeps hit.place).0 (inl (rw whole at hit.inside)) }
           | inr new ↦ record {
             place = new.place;
             low = new.low;
             high = new.high;
+            before = new.before;
             lost = (keeps new.place).0 (inr (omega (arith, new.inside.low, from)));
           }
         ],
         λ lost. (marks n inside).1 (elim ((keeps lost.place).1 lost.lost) [
           | inl gone ↦
               inl
-              ((m.marked n within).1 (record { place = lost.place; low = lost.low; high = lost.high; inside = rw whole gone }))
+              ((m.marked n few).1 (record { place = lost.place; low = lost.low; high = lost.high; before = lost.before; inside = rw whole gone }))
           | inr behind ↦ inr (record {
             place = lost.place;
             low = lost.low;
             high = lost.high;
-            inside = record { low = omega (arith, behind, from); high = omega (arith, lost.high, end, to) };
+            before = lost.before;
+            inside = record { low = omega (arith, behind, from); high = omega (arith, lost.before, to) };
           })
         ]),
       );
 }
 
--- the same for marks in a vector
-pub gaps_more_in : {Z : Type 0} (v : Vec Bool Z) (gaps : List Gap) (i size sized count : ℕ) (gap : Gap) (now new : List Bool) →
-    i < length gaps → gap ≡ get_or gaps i gap → sized ≡ size →
-    now ≡ v.items → length new ≡ length now → MarksGaps (take i gaps) size count v.items → MarksGap gap sized now new →
-    MarksGaps (take (i + 1) gaps) size count (with_items v new).items
-gaps_more_in v gaps i size sized count gap now new below item se e same m marks =
-    let whole : (with_items v new).items ≡ new = with_items_is v new (same ∙ ap length e ∙ sym v.ok.0) in
-    subst (MarksGaps (take (i + 1) gaps) size count) (sym whole)
-    (gaps_more gaps i size count gap now new below item (subst (MarksGaps (take i gaps) size count) (sym e) m) same (rw se at marks))
+-- a vector has as many marks as it had
+pub length_marked : {Z : Type 0} (v : Vec Bool Z) (now new : List Bool) (count : ℕ) → now ≡ v.items → length new ≡ length now →
+    length v.items ≡ count → length (with_items v new).items ≡ count
+length_marked v now new count e same many =
+    ap length (with_items_is v new (same ∙ ap length e ∙ sym v.ok.0)) ∙ same ∙ ap length e ∙ many
 
--- In a vector too, the marks of all gaps and of the bytes from the end on are those of the lost blocks.
-pub lost_marked_in : {Z : Type 0} (v : Vec Bool Z) (map : RescueMap) (gaps : List Gap) (gap : Gap) (i size sized count : ℕ) (now new : List Bool) →
-    gaps ≡ map.gaps.items → length gaps ≤ i → gap.from ≡ map.end → gap.to ≡ 2 ^ 64 - 1 → sized ≡ size →
-    size * count ≤ 2 ^ 63 →
-    now ≡ v.items → length new ≡ length now → MarksGaps (take i gaps) size count v.items → MarksGap gap sized now new →
-    (blocks : List MapBlock) → KeepsBlocks map blocks → AreLostBlocks blocks size count (with_items v new).items
-lost_marked_in v map gaps gap i size sized count now new g all from to se small e same m marks blocks keeps =
+-- the same for marks in a vector
+pub gaps_more_in : {Z : Type 0} (v : Vec Bool Z) (gaps : List Gap) (i size end count : ℕ) (gap : Gap) (now new : List Bool) →
+    i < length gaps → gap ≡ get_or gaps i gap →
+    now ≡ v.items → length new ≡ length now → MarksGaps (take i gaps) size end count v.items → MarksGap gap size end now new →
+    MarksGaps (take (i + 1) gaps) size end count (with_items v new).items
+gaps_more_in v gaps i size end count gap now new below item e same m marks =
     let whole : (with_items v new).items ≡ new = with_items_is v new (same ∙ ap length e ∙ sym v.ok.0) in
-    subst (AreLostBlocks blocks size count) (sym whole)
-    (lost_marked map gap i size count now new (omega (arith, all, ap length g)) from to small
-    (rw (← g) (subst (MarksGaps (take i gaps) size count) (sym e) m)) same (rw se at marks) blocks keeps)
+    subst (MarksGaps (take (i + 1) gaps) size end count) (sym whole)
+    (gaps_more gaps i size end count gap now new below item (subst (MarksGaps (take i gaps) size end count) (sym e) m) same marks)
+
+-- In a vector too, the marks of all gaps and of the bytes after the map's end are those of the lost blocks.
+pub lost_marked_in : {Z : Type 0} (v : Vec Bool Z) (map : RescueMap) (gaps : List Gap) (gap : Gap) (i size end count : ℕ) (now new : List Bool) →
+    gaps ≡ map.gaps.items → length gaps ≤ i → gap.from ≡ map.end → end ≤ gap.to → count ≡ div_ceil end size →
+    now ≡ v.items → length new ≡ length now → MarksGaps (take i gaps) size end count v.items → MarksGap gap size end now new →
+    (blocks : List MapBlock) → KeepsBlocks map blocks → AreLostBlocks blocks size end (with_items v new).items
+lost_marked_in v map gaps gap i size end count now new g all from to many e same m marks blocks keeps =
+    let whole : (with_items v new).items ≡ new = with_items_is v new (same ∙ ap length e ∙ sym v.ok.0) in
+    subst (AreLostBlocks blocks size end) (sym whole)
+    (lost_marked map gap i size end count now new (omega (arith, all, ap length g)) from to many
+    (rw (← g) (subst (MarksGaps (take i gaps) size end count) (sym e) m)) same marks blocks keeps)

@@ -1,8 +1,9 @@
--- Whether a block is lost, by looking at each of its bytes.
-use Rattle.std.proofs.Common.{◌≡◌, ◌<◌, ◌≤◌, ◌+◌, ◌*◌, ◌⊎◌, ℕ, zero, suc, Bool, true, false, List, [], ◌∷◌, arith, refl, sym, ◌∙◌, inl, inr}
+-- Whether the blocks of a map cover a byte.
+use Rattle.std.proofs.Common.{◌≡◌, ◌+◌, ◌⊎◌, ℕ, Bool, true, false, List, [], ◌∷◌, arith, refl, sym, ◌∙◌, inl, inr}
+use Rattle.std.specs.Prelude.{◌↔◌}
 use Rattle.std.proofs.lemmas.Bool.{cases_lt, false≢true}
 use Rattle.scrub_map.specs.declared.block.MapBlock.{MapBlock}
-use Rattle.scrub_map.specs.Rescued.{IsCovered, IsLostBlock, IsRescuedIn}
+use Rattle.scrub_map.specs.Rescued.{IsCovered, IsRescuedIn}
 
 -- whether a block has byte i, with status `+`
 rescued_decided : (block : MapBlock) (i : ℕ) → IsRescuedIn block i ⊎ (¬ IsRescuedIn block i)
@@ -18,7 +19,7 @@ rescued_decided block i = by_status block.is_rescued refl
       ]
     ]
 
-covered_decided : (blocks : List MapBlock) (i : ℕ) → IsCovered blocks i ⊎ (¬ IsCovered blocks i)
+pub covered_decided : (blocks : List MapBlock) (i : ℕ) → IsCovered blocks i ⊎ (¬ IsCovered blocks i)
 covered_decided [] i = inr (λ none. none)
 covered_decided (block ∷ blocks) i = elim (rescued_decided block i) [
   | inl here ↦ inl (inl here)
@@ -28,25 +29,18 @@ covered_decided (block ∷ blocks) i = elim (rescued_decided block i) [
   ]
 ]
 
--- one of the n bytes from a place on isn't covered, or each is
-first_lost : (blocks : List MapBlock) (from n : ℕ) →
-    ((place : ℕ) × (from ≤ place) × (place < from + n) × (¬ IsCovered blocks place))
-    ⊎ ((i : ℕ) → from ≤ i → i < from + n → IsCovered blocks i)
-first_lost blocks from zero = inr (λ i low high. absurd (omega (arith, low, high)))
-first_lost blocks from (suc n) = elim (covered_decided blocks from) [
-  | inr lost ↦ inl (from, omega arith, omega arith, lost)
-  | inl covered ↦ elim (first_lost blocks (from + 1) n) [
-    | inl there ↦ inl (there.0, omega (arith, there.1), omega (arith, there.2), there.3)
-    | inr all ↦ inr (λ i low high. elim (cases_lt from i) [
-      | inl behind ↦ all i (omega (arith, behind)) (omega (arith, high))
-      | inr at ↦ let same : from ≡ i = omega (arith, low, at) in rw (sym same) covered
-    ])
-  ]
-]
+-- whether a condition fails, if that is decided
+abbrev fails_by : {P : Type 0} → P ⊎ (¬ P) → Bool
+fails_by (inl is) = false
+fails_by (inr is_not) = true
 
--- a block is lost, or it isn't
-pub lost_decided : (blocks : List MapBlock) (size n : ℕ) → IsLostBlock blocks size n ⊎ (¬ IsLostBlock blocks size n)
-lost_decided blocks size n = elim (first_lost blocks (n * size) size) [
-  | inl there ↦ inl (record { place = there.0; low = there.1; high = there.2; lost = there.3 })
-  | inr all ↦ inr (λ l. l.lost (all l.place l.low l.high))
-]
+fails_by-says : {P : Type 0} (decided : P ⊎ (¬ P)) → (fails_by decided ≡ true) ↔ (¬ P)
+fails_by-says (inl is) = ((λ e. absurd (false≢true e)), (λ is_not. absurd (is_not is)))
+fails_by-says (inr is_not) = ((λ e. is_not), (λ n. refl))
+
+-- whether a byte isn't covered
+abbrev pub is_lacking : List MapBlock → ℕ → Bool
+is_lacking blocks i = fails_by (covered_decided blocks i)
+
+pub is_lacking-says : (blocks : List MapBlock) (i : ℕ) → (is_lacking blocks i ≡ true) ↔ (¬ IsCovered blocks i)
+is_lacking-says blocks i = fails_by-says (covered_decided blocks i)

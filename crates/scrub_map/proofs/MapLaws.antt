@@ -1,12 +1,10 @@
 -- A text has one answer: its blocks, or the first line that breaks a rule.
-use Rattle.std.proofs.Common.{◌≡◌, ◌<◌, ◌+◌, ◌-◌, ◌*◌, ◌⊎◌, ℕ, Bool, true, false, List, [], ◌∷◌, ◌++◌, length, get_or, arith, refl, sym, ◌∙◌, subst, inl, inr, append_assoc}
-use Rattle.std.specs.Prelude.{◌↔◌}
-use Rattle.std.proofs.lemmas.Bool.{cases_lt}
+use Rattle.std.proofs.Common.{◌≡◌, ◌<◌, ◌+◌, ◌⊎◌, ℕ, Bool, true, false, List, [], ◌∷◌, ◌++◌, length, get_or, arith, refl, sym, ◌∙◌, subst, inl, inr, append_assoc}
 use Rattle.std.proofs.lemmas.List.{get_or_default, same_lists}
 use Rattle.scrub_map.specs.declared.block.MapBlock.{MapBlock}
 use Rattle.scrub_map.specs.Lines.{map_lines}
 use Rattle.scrub_map.specs.Map.{AreBlocksFrom, BeginsMap, BreaksAt, IsFirstBadLine, IsMap, IsMapOf, statements}
-use Rattle.scrub_map.specs.Rescued.{AreFirstLacking, AreLostBlocks, IsCovered, IsFirstLacking, LacksBefore}
+use Rattle.scrub_map.specs.Rescued.{AreLostBlocks}
 use Rattle.scrub_map.proofs.MapLines.{same_blocks, statements-append}
 
 -- A text is the map of one list of blocks at most.
@@ -99,50 +97,14 @@ same_truth true b to back = sym (to refl)
 same_truth false true to back = back refl
 same_truth false false to back = refl
 
--- For one size and count, blocks allow one list of marks at most.
-pub one_marking : (blocks : List MapBlock) (size count : ℕ) (a b : List Bool) → AreLostBlocks blocks size count a →
-    AreLostBlocks blocks size count b → a ≡ b
-one_marking blocks size count a b first second =
-    same_lists a b (first.one_each ∙ sym second.one_each) (λ k d below.
-    let within : k < count = omega (arith, below, first.one_each) in
-    let also : k < length b = omega (arith, within, second.one_each) in
-    get_or_default a k d false below
+-- For one size and end, blocks allow one list of marks at most.
+pub one_marking : (blocks : List MapBlock) (size end : ℕ) (a b : List Bool) → AreLostBlocks blocks size end a →
+    AreLostBlocks blocks size end b → a ≡ b
+one_marking blocks size end a b first second =
+    same_lists a b (first.one_each ∙ sym second.one_each) (λ k d within.
+    let also : k < length b = omega (arith, within, first.one_each, second.one_each) in
+    get_or_default a k d false within
     ∙ same_truth (get_or a k false) (get_or b k false)
-    (λ marked. (second.lost k within).1 ((first.lost k within).0 marked))
-    (λ marked. (first.lost k within).1 ((second.lost k within).0 marked))
+    (λ marked. (second.lost k also).1 ((first.lost k within).0 marked))
+    (λ marked. (first.lost k within).1 ((second.lost k also).0 marked))
     ∙ get_or_default b k false d also)
-
--- blocks decide one list of first lacking bytes
-not_higher : (blocks : List MapBlock) (size n a b : ℕ) → IsFirstLacking blocks size n a → IsFirstLacking blocks size n b →
-    a < b → ⊥
-not_higher blocks size n a b first second less = first.lacks (omega (arith, less, second.within)) (second.covered a less)
-
--- For one size and count, blocks allow one list of first lacking bytes at most.
-pub one_first_lacking : (blocks : List MapBlock) (size count : ℕ) (a b : List ℕ) → AreFirstLacking blocks size count a →
-    AreFirstLacking blocks size count b → a ≡ b
-one_first_lacking blocks size count a b first second =
-    same_lists a b (first.one_each ∙ sym second.one_each) (λ k d below.
-    let within : k < count = omega (arith, below, first.one_each) in
-    let low = not_higher blocks size k (get_or a k 0) (get_or b k 0) (first.first k within) (second.first k within) in
-    let high = not_higher blocks size k (get_or b k 0) (get_or a k 0) (second.first k within) (first.first k within) in
-    let same : get_or a k 0 ≡ get_or b k 0 = omega (arith, low, high) in
-    get_or_default a k d 0 below ∙ same ∙ get_or_default b k 0 d (omega (arith, within, second.one_each)))
-
--- a block lacks a byte before an end exactly if its first lacking byte is before the end
-pub lacks_before : (blocks : List MapBlock) (size n place end : ℕ) → IsFirstLacking blocks size n place →
-    ((place < size) × (n * size + place < end)) ↔ LacksBefore blocks size n end
-lacks_before blocks size n place end first = (
-  λ early. record {
-    place = n * size + place;
-    low = omega arith;
-    high = omega (arith, early.0);
-    before = early.1;
-    lost = first.lacks early.0;
-  },
-  λ lacks. elim (cases_lt (lacks.place - n * size) place) [
-    | inl under ↦
-        let at : n * size + (lacks.place - n * size) ≡ lacks.place = omega (arith, lacks.low) in
-        absurd (lacks.lost (subst (IsCovered blocks) at (first.covered (lacks.place - n * size) under)))
-    | inr over ↦ (omega (arith, over, lacks.high, lacks.low), omega (arith, over, lacks.before, lacks.low))
-  ],
-)

@@ -11,31 +11,20 @@ pub(crate) struct Gap {
 }
 
 impl Gap {
-    ghost use Rattle.scrub_map.specs.steps.Gaps.{LowersByGap, MarksGap};
+    ghost use Rattle.scrub_map.specs.steps.Gaps.{MarksGap};
 
-    /// Marks each block of `size` bytes that has a byte of the gap.
-    pub(crate) fn mark(self, marks: &mut [bool], size: u64)
+    /// Marks each block of `size` bytes that has a byte of the gap before `end`.
+    pub(crate) fn mark(self, marks: &mut [bool], size: u32, end: u64)
         requires { 0 < size }
-        ensures { MarksGap self size marks.old marks.new }
+        ensures { MarksGap self size end marks.old marks.new }
     {
-        let behind = ((self.to - 1) / size + 1).min(marks.len() as u64);
+        if end <= self.from {
+            return;
+        }
+        let size = u64::from(size);
+        let behind = ((self.to.min(end) - 1) / size + 1).min(marks.len() as u64);
         for number in self.from / size..behind {
             marks[number as usize] = true;
-        }
-    }
-
-    /// Lowers the place of each block of `size` bytes to that of the gap's first byte in it. A place is
-    /// counted from the start of its block.
-    pub(crate) fn lower(self, places: &mut [u32], size: u32)
-        requires { 0 < size }
-        ensures { LowersByGap self size places.old places.new }
-    {
-        let size = u64::from(size);
-        let behind = ((self.to - 1) / size + 1).min(places.len() as u64);
-        for number in self.from / size..behind {
-            let first = self.from.saturating_sub(number * size) as u32;
-            let place = places[number as usize];
-            places[number as usize] = place.min(first);
         }
     }
 }

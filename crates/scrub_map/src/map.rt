@@ -1,6 +1,6 @@
 //! What is kept of a map, and which blocks it lacks. For how its text is read, see `reading`.
 
-ghost use Rattle.std.specs.Prelude.{◌≡◌, ◌≤◌, ◌<◌, ◌+◌, ◌*◌, ◌^◌, List, length, IfOk, OnOk};
+ghost use Rattle.std.specs.Prelude.{◌≡◌, ◌≤◌, ◌<◌, ◌+◌, ◌^◌, List, length, IfOk, OnOk};
 
 use crate::block::MapBlock;
 use crate::gap::Gap;
@@ -16,9 +16,10 @@ pub struct RescueMap {
 
 impl RescueMap {
     ghost use Rattle.std.specs.Prelude.{[], ◌++◌, ◌∷◌};
+    ghost use Rattle.std.specs.Int.{div_ceil};
     ghost use Rattle.scrub_map.specs.declared.block.MapBlock.{MapBlock};
     ghost use Rattle.scrub_map.specs.MissingBytes.{HasGapsBelowEnd, KeepsBlocks};
-    ghost use Rattle.scrub_map.specs.Rescued.{AreFirstLacking, AreLostBlocks};
+    ghost use Rattle.scrub_map.specs.Rescued.{AreLostBlocks};
 
     /// A map without blocks: nothing was rescued.
     pub(crate) fn new(alloc: Global) -> RescueMap
@@ -55,55 +56,30 @@ impl RescueMap {
         Ok(())
     }
 
-    /// Says for each of the first `count` blocks of `size` bytes whether it is lost: whether it has a byte
-    /// that no block of the map with status `+` covers. A block after the end of the map is lost. Bytes after
-    /// the last block asked for are ignored.
+    /// Says for each block of `size` bytes that begins before byte `bytes` whether it is lost: whether it has
+    /// a byte before `bytes` that no block of the map with status `+` covers. All bytes after the end of the
+    /// map are lost.
     pub fn lost_blocks(
         &self,
         alloc: Global,
         size: u32,
-        count: usize,
+        bytes: u64,
     ) -> Result<Vec<bool>, OutOfMemory>
-        requires size { 0 < size }
-        requires within { size * count ≤ 2 ^ 63 }
-        ensures { IfOk result (λ marks. (blocks : List MapBlock) → KeepsBlocks self.now blocks →
-            AreLostBlocks blocks size count marks.items) }
+        requires { 0 < size }
+        ensures one_each { IfOk result (λ marks. length marks.items ≡ div_ceil bytes size) }
+        ensures lost { IfOk result (λ marks. (blocks : List MapBlock) → KeepsBlocks self.now blocks →
+            AreLostBlocks blocks size bytes marks.items) }
     {
+        let count = bytes.div_ceil(u64::from(size)) as usize;
         let mut marks = vec![in alloc; false; count]?;
         for gap in &self.gaps {
-            gap.mark(&mut marks, u64::from(size));
+            gap.mark(&mut marks, size, bytes);
         }
         let behind = Gap {
             from: self.end,
             to: u64::MAX,
         };
-        behind.mark(&mut marks, u64::from(size));
+        behind.mark(&mut marks, size, bytes);
         Ok(marks)
-    }
-
-    /// Says for each of the first `count` blocks of `size` bytes where in it the first byte is that no block
-    /// of the map with status `+` covers: 0 is its first byte, and `size` says that all its bytes are
-    /// covered.
-    pub fn first_lacking(
-        &self,
-        alloc: Global,
-        size: u32,
-        count: usize,
-    ) -> Result<Vec<u32>, OutOfMemory>
-        requires size { 0 < size }
-        requires within { size * count ≤ 2 ^ 63 }
-        ensures { IfOk result (λ places. (blocks : List MapBlock) → KeepsBlocks self.now blocks →
-            AreFirstLacking blocks size count places.items) }
-    {
-        let mut places = vec![in alloc; size; count]?;
-        for gap in &self.gaps {
-            gap.lower(&mut places, size);
-        }
-        let behind = Gap {
-            from: self.end,
-            to: u64::MAX,
-        };
-        behind.lower(&mut places, size);
-        Ok(places)
     }
 }

@@ -1,12 +1,12 @@
 //! Reading the text of a map line by line. For what one line says see `line`, for what is kept of it see
 //! `map`.
 
-ghost use Rattle.std.specs.Prelude.{◌≡◌, ◌≤◌, ◌<◌, ◌+◌, ◌*◌, ◌↔◌, [], ◌∷◌, ◌++◌, ℕ, Bool, List, IfErr, IfOk};
+ghost use Rattle.std.specs.Prelude.{◌≡◌, ◌≤◌, ◌<◌, ◌+◌, [], ◌∷◌, ◌++◌, ℕ, Bool, List, IfErr, IfOk};
 ghost use Rattle.std.specs.Prelude.{OnOk, length, true, false};
 ghost use Rattle.scrub_map.specs.Map.{BeginsMap, IsFirstBadLine, IsMap};
 ghost use Rattle.scrub_map.specs.MissingBytes.{KeepsBlocks};
 ghost use Rattle.scrub_map.specs.Fault.{IfBadLine};
-ghost use Rattle.scrub_map.specs.Rescued.{AreFirstLacking, AreLostBlocks, IsFirstLacking, LacksBefore};
+ghost use Rattle.scrub_map.specs.Rescued.{AreLostBlocks};
 ghost use Rattle.scrub_map.specs.declared.block.MapBlock.{MapBlock};
 
 use crate::line::{block_of, is_silent, is_state, next_line, without_carriage_return};
@@ -165,17 +165,8 @@ pub fn one_first_bad_line()
     ensures one { (text : List ℕ) (j k : ℕ) → IsFirstBadLine text j → IsFirstBadLine text k → j ≡ k }
 {}
 
-/// A law: the blocks of a map decide which blocks of a size are lost.
+/// A law: the blocks of a map decide which blocks of a size are lost before an end.
 pub fn one_list_of_lost_blocks()
-    ensures { (blocks : List MapBlock) (size count : ℕ) (a b : List Bool) →
-        AreLostBlocks blocks size count a → AreLostBlocks blocks size count b → a ≡ b }
-{}
-
-/// A law: the blocks of a map decide the first byte that each block of a size lacks, and a block lacks a byte
-/// before an end exactly if its first lacking byte is before the end.
-pub fn one_list_of_first_lacking_bytes()
-    ensures one { (blocks : List MapBlock) (size count : ℕ) (a b : List ℕ) →
-        AreFirstLacking blocks size count a → AreFirstLacking blocks size count b → a ≡ b }
-    ensures before { (blocks : List MapBlock) (size n place end : ℕ) → IsFirstLacking blocks size n place →
-        ((place < size) × (n * size + place < end)) ↔ LacksBefore blocks size n end }
+    ensures { (blocks : List MapBlock) (size end : ℕ) (a b : List Bool) →
+        AreLostBlocks blocks size end a → AreLostBlocks blocks size end b → a ≡ b }
 {}

@@ -63,23 +63,25 @@ const ALL: &[(u32, u32)] = &[
 
 /// What happens; the number of bytes of the image; how many a read gives at most; the first read that fails,
 /// and how many may; the unreadable pages; the number of reads, and of those that failed. In the short image
-/// page 2 of extent 2 takes two reads.
-const ROWS: [(&str, usize, usize, (u64, u64), &[(u32, u32)], (u64, u64)); 8] = [
-    ("whole", 768, 4096, (0, 0), &[], (13, 0)),
-    ("short", 668, 4096, (0, 0), &[(2, 2), (2, 3)], (14, 0)),
+/// page 2 of extent 2 takes two reads. All pages are first asked for at once.
+const ROWS: [(&str, usize, usize, (u64, u64), &[(u32, u32)], (u64, u64)); 10] = [
+    ("whole", 768, 64, (0, 0), &[], (13, 0)),
+    ("whole, at once", 768, 4096, (0, 0), &[], (2, 0)),
+    ("short", 668, 64, (0, 0), &[(2, 2), (2, 3)], (14, 0)),
     ("empty", 0, 4096, (0, 0), ALL, (13, 0)),
     (
         "a byte too long, which can't be read",
         769,
-        4096,
+        64,
         (12, 1),
         &[],
         (13, 1),
     ),
     ("one byte at a time", 768, 1, (0, 0), &[], (769, 0)),
-    ("a failed page", 768, 4096, (4, 1), &[(1, 0)], (13, 1)),
+    ("a failed page", 768, 64, (4, 1), &[(1, 0)], (13, 1)),
+    ("a failed read of all pages", 768, 4096, (0, 1), &[], (14, 1)),
     ("a failed byte", 768, 1, (319, 1), &[(1, 0)], (769, 1)),
-    ("each read fails", 769, 4096, (0, u64::MAX), ALL, (13, 13)),
+    ("each read fails", 769, 4096, (0, u64::MAX), ALL, (14, 14)),
 ];
 
 #[test]

@@ -65,7 +65,7 @@ pub fn load(alloc: Global, wanted: Wanted) -> Result<(), Stop> {
     let bytes = one_shard_bytes(alloc)?;
     let cut = bytes.get(..668).ok_or(Stop::Wrong)?;
     let mut short = RawBytes::new(cut);
-    let mut failing = RawBytes::failing(&bytes, 4096, 4, 1);
+    let mut failing = RawBytes::failing(&bytes, 64, 4, 1);
     wanted.made()?;
     let of_short = scrub_disk::load(alloc, &mut short, small_geometry(), &[])?;
     let of_failing = scrub_disk::load(alloc, &mut failing, small_geometry(), &[])?;

@@ -1,13 +1,11 @@
 -- What was found in the front of a raw image is what the raw image holds, and there is one answer.
-use Rattle.std.proofs.Common.{◌≡◌, ◌<◌, ◌+◌, ℕ, Bool, List, arith, refl, sym, ◌∙◌, Option, Some, None, IfSome}
+use Rattle.std.proofs.Common.{◌≡◌, ◌<◌, ◌+◌, ℕ, Bool, List, arith, sym, ◌∙◌, Option}
 use Rattle.list_facts.proofs.Rising.{one_rising_by}
 use Rattle.scrub_disk.specs.Limits.{max_extent_bytes}
 use Rattle.scrub_super.specs.declared.unknown_sizes.FoundRecord.{FoundRecord}
 use Rattle.scrub_super.specs.declared.unknown_sizes.LostBytes.{LostBytes}
 use Rattle.scrub_super.specs.Blocks.{byte_left}
-use Rattle.scrub_super.specs.steps.BlocksRead.{AreBlockMarks, AreAllRead}
-use Rattle.scrub_super.specs.UnknownSizes.{IsFoundRecord, AreFoundRecords, AreLostRanges, AreFoundByOwnSizes, AreFoundInSome, AreFoundWith}
-use Rattle.scrub_super.proofs.BlocksFront.{same_left, loses_blocks}
+use Rattle.scrub_super.specs.UnknownSizes.{IsFoundRecord, IsFrontBy, AreFoundRecords, AreLostRanges, AreFoundByOwnSizes, AreFoundInSome}
 
 -- a record depends only on the bytes below 2^26
 pub same_record : (at also : ℕ → Option ℕ) (r : FoundRecord) → ((i : ℕ) → i < max_extent_bytes → at i ≡ also i) →
@@ -36,29 +34,14 @@ same_records {at} {also} same h = record {
   );
 }
 
-found_in : (known : List ℕ) (lacking : List ℕ) {fails : ℕ → ℕ → Bool} (failures : ℕ) {lost : List Bool} {read : List ℕ} {records : List FoundRecord} {ranges : List LostBytes} →
-    AreAllRead known lacking fails failures read lost → AreBlockMarks read lost →
-    AreFoundRecords (byte_left read lost) records → AreLostRanges lost ranges → AreFoundWith known lacking fails failures records ranges
-found_in known lacking failures {lost} all blocks hr hl = record {
-  lost = lost;
-  loses = loses_blocks all blocks;
-  found = record { records_are = same_records (λ i small. sym (same_left all i small)) hr; ranges_are = hl };
-}
-
--- in the raw image's bytes if they are known, or else in those that were read
-pub found_known : (raw : Option (List ℕ)) (lacking : List ℕ) {fails : ℕ → ℕ → Bool} (failures : ℕ) {lost : List Bool} {read : List ℕ} {records : List FoundRecord} {ranges : List LostBytes} →
-    IfSome raw (λ known. AreAllRead known lacking fails failures read lost) → AreBlockMarks read lost →
-    AreFoundRecords (byte_left read lost) records → AreLostRanges lost ranges →
-    AreAllRead read lacking fails failures read lost → AreFoundInSome raw lacking fails failures records ranges
-found_known None lacking failures {lost} {read} all blocks hr hl own = record {
-  bytes = read;
-  known = tt;
-  found = found_in read lacking failures own blocks hr hl;
-}
-found_known (Some known) lacking failures all blocks hr hl own = record {
-  bytes = known;
-  known = refl;
-  found = found_in known lacking failures all blocks hr hl;
+-- what is found in a front is what the bytes have of which it is the front
+pub found_in_front : (raw : Option (List ℕ)) (lacking : ℕ → Bool) (fails : ℕ → ℕ → Bool) (failures : ℕ) {lost : List Bool} {read : List ℕ} {records : List FoundRecord} {ranges : List LostBytes} →
+    IsFrontBy raw lacking fails failures read lost → AreFoundRecords (byte_left read lost) records → AreLostRanges lost ranges →
+    AreFoundInSome raw lacking fails failures records ranges
+found_in_front raw lacking fails failures {lost} f hr hl = record {
+  bytes = f.bytes;
+  known = f.known;
+  found = record { lost = lost; loses = f.loses; found = record { records_are = same_records f.same hr; ranges_are = hl } };
 }
 
 -- records and lost ranges that are found are one answer

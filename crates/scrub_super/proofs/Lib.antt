@@ -24,7 +24,6 @@ pub mod Laws
 pub mod NewestRecords
 -- what each page of extent 0 is
 pub mod PageLaws
-pub mod SameExtentZero
 pub mod PageSteps
 -- records of any sizes in a raw image
 pub mod Geometries

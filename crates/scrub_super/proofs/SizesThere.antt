@@ -1,5 +1,5 @@
 -- Raw bytes have all their records, each by its own sizes, and all their runs of lost blocks.
-use Rattle.std.proofs.Common.{◌≡◌, ◌⊎◌, ◌<◌, ◌≤◌, ◌+◌, ◌*◌, ◌%◌, ◌^◌, ◌++◌, ℕ, zero, suc, Bool, true, false, IsTrue, List, [], ◌∷◌, length, map, take, drop, get_or, All, AllPairs, Contains, arith, refl, sym, ◌∙◌, ap, subst, Option, Some, None, inl, inr}
+use Rattle.std.proofs.Common.{◌≡◌, ◌⊎◌, ◌<◌, ◌≤◌, ◌+◌, ◌-◌, ◌*◌, ◌%◌, ◌^◌, ◌++◌, ℕ, zero, suc, Bool, true, false, IsTrue, List, [], ◌∷◌, length, map, take, drop, get_or, All, AllPairs, Contains, arith, refl, sym, ◌∙◌, ap, subst, Option, Some, None, inl, inr}
 use Rattle.std.specs.Int.{is_power_of_two}
 use Rattle.std.proofs.lemmas.Bool.{cases_lt, false≢true}
 use Rattle.std.specs.List.{range_with_len}
@@ -8,7 +8,7 @@ use Rattle.std.proofs.lemmas.List.FromFn.{get_or-map-range_with_len, length-map-
 use Rattle.std.proofs.lemmas.List.Elements.{All-cons, All-contains, All-nil}
 use Rattle.byteorder.specs.Endian.{big_number}
 use Rattle.byteorder.specs.Numbers.{big_number-reads_back}
-use Rattle.list_facts.proofs.Decisions.{AreThoseBelow, Decided, decided_at_most, decided_both, decided_less, decided_like, decided_number, decided_true, test_of, test_of-holds, test_of-passes, those_below}
+use Rattle.list_facts.proofs.Decisions.{AreThoseBelow, Decided, decided_at_most, decided_both, decided_less, decided_like, decided_number, decided_true, some_below, test_of, test_of-holds, test_of-passes, those_below}
 use Rattle.scrub_disk.specs.declared.geometry.Geometry.{Geometry}
 use Rattle.scrub_disk.specs.Image.{AreBytesAt, extent_bytes}
 use Rattle.scrub_disk.specs.Raw.{MayFailIn}
@@ -368,11 +368,24 @@ some_found bytes lost =
 
 -- ---- which blocks are lost
 
-decided_lacks : (bytes places : List ℕ) (n : ℕ) → Decided (LacksByte bytes places n)
-decided_lacks bytes places n =
-    let all : Decided ((get_or places n 512 < 512) × (n * 512 + get_or places n 512 < length bytes)) =
-    decided_both (decided_less (get_or places n 512) 512) (decided_less (n * 512 + get_or places n 512) (length bytes)) in
-    decided_like all (λ h. record { in_block = h.0; before_end = h.1 }) (λ h. (h.in_block, h.before_end))
+-- byte k of block n is before this end, and is lacking
+abbrev LacksAt : ℕ → (ℕ → Bool) → ℕ → ℕ → Type 0
+LacksAt end lacking n k = (n * 512 + k < end) × (lacking (n * 512 + k) ≡ true)
+
+decided_lacks : (end : ℕ) (lacking : ℕ → Bool) (n : ℕ) → Decided (LacksByte end lacking n)
+decided_lacks end lacking n =
+    elim (some_below (LacksAt end lacking n) (λ k. decided_both (decided_less (n * 512 + k) end) (decided_true (lacking (n * 512 + k)))) 512) [
+      | inl has ↦ inl (record {
+        place = n * 512 + has.0;
+        low = omega arith;
+        high = omega (arith, has.1);
+        before_end = has.2.0;
+        lacks = has.2.1;
+      })
+      | inr none ↦ inr (λ l.
+          let own : n * 512 + (l.place - n * 512) ≡ l.place = omega (arith, l.low) in
+          none (l.place - n * 512) (omega (arith, l.low, l.high)) (rw own l.before_end, rw own l.lacks))
+    ]
 
 -- marks below a number, by a condition that is decided
 record AreMarksOf (P : ℕ → Type 0) (many : ℕ) (marks : List Bool) : Type 0 where
@@ -401,9 +414,9 @@ marks_of P decided many = (
     by n marked (inr high) =
         absurd (false≢true (sym (get_or_past (map (λ n. test_of (decided n)) (range_with_len 0 many)) n false (omega (arith, long, high))) ∙ marked))
 
-some_lost : (bytes lacking : List ℕ) (fails : ℕ → ℕ → Bool) (failures : ℕ) → (lost : List Bool) × LosesBlocks bytes lacking fails failures lost
+some_lost : (bytes : List ℕ) (lacking : ℕ → Bool) (fails : ℕ → ℕ → Bool) (failures : ℕ) → (lost : List Bool) × LosesBlocks bytes lacking fails failures lost
 some_lost bytes lacking fails failures =
-    let marks = marks_of (LacksByte bytes lacking) (decided_lacks bytes lacking) (2 ^ 17) in (
+    let marks = marks_of (LacksByte (length bytes) lacking) (decided_lacks (length bytes) lacking) (2 ^ 17) in (
       marks.0,
       record {
         few_blocks = marks.1.few;
@@ -416,7 +429,7 @@ some_lost bytes lacking fails failures =
     )
 
 -- of the known bytes, or of none, if none are known
-pub some_found_in : (raw : Option (List ℕ)) (lacking : List ℕ) (fails : ℕ → ℕ → Bool) (failures : ℕ) →
+pub some_found_in : (raw : Option (List ℕ)) (lacking : ℕ → Bool) (fails : ℕ → ℕ → Bool) (failures : ℕ) →
     (records : List FoundRecord) × (ranges : List LostBytes) × AreFoundInSome raw lacking fails failures records ranges
 some_found_in raw lacking fails failures = by raw
   where

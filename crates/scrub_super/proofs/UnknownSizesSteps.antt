@@ -17,8 +17,8 @@ use Rattle.scrub_super.specs.Contents.{Contents}
 use Rattle.scrub_super.specs.Record.{record_bytes, BeginsWithRecord}
 use Rattle.scrub_super.specs.steps.RecordRead.{record_body, BeginsWithSome, kind_by}
 use Rattle.scrub_super.specs.Pages.{kind_of}
-use Rattle.scrub_super.specs.Blocks.{IsMarked, byte_left}
-use Rattle.scrub_super.specs.steps.BlocksRead.{AreBlockMarks, IsReadableTo, BeginsInPlace, TellsRecord}
+use Rattle.scrub_super.specs.Blocks.{AreBlockMarks, IsMarked, byte_left}
+use Rattle.scrub_super.specs.steps.BlocksRead.{IsReadableTo, BeginsInPlace, TellsRecord}
 use Rattle.scrub_super.specs.UnknownSizes.{StandsByOwnSizes, IsFoundRecord, AreFoundRecords}
 use Rattle.scrub_super.proofs.Found.{known_kind}
 use Rattle.scrub_super.proofs.OneRecord.{one_record_lem}

@@ -1,9 +1,10 @@
 -- The superblock records of raw bytes, each judged by its own sizes, and the bytes that are lost.
-use Rattle.std.specs.Prelude.{◌≡◌, ◌<◌, ◌≤◌, ◌+◌, ◌*◌, ◌%◌, ◌↔◌, ℕ, List, Bool, Option, AllPairs, Contains, IfSome}
+use Rattle.std.specs.Prelude.{◌≡◌, ◌<◌, ◌≤◌, ◌+◌, ◌*◌, ◌^◌, ◌%◌, ◌↔◌, ℕ, List, Bool, Option, AllPairs, Contains, IfSome}
 use Rattle.std.specs.Prelude.{length as len}
 use Rattle.scrub_disk.specs.declared.geometry.Geometry.{Geometry}
 use Rattle.scrub_disk.specs.Image.{AreBytesAt, extent_bytes}
 use Rattle.scrub_super.specs.declared.unknown_sizes.FoundRecord.{FoundRecord}
+use Rattle.scrub_super.specs.declared.unknown_sizes.front.Front.{Front}
 use Rattle.scrub_super.specs.declared.unknown_sizes.LostBytes.{LostBytes}
 use Rattle.scrub_super.specs.Contents.{Contents}
 use Rattle.scrub_super.specs.Record.{AreContents, record_bytes}
@@ -42,16 +43,35 @@ pub record AreFoundByOwnSizes (bytes : List ℕ) (lost : List Bool) (records : L
   pub records_are : AreFoundRecords (byte_left bytes lost) records
   pub ranges_are : AreLostRanges lost ranges
 
--- all superblock records of raw bytes, and all lost bytes, for some lost blocks that fit these first lacking bytes, the
+-- all superblock records of raw bytes, and all lost bytes, for some lost blocks that fit the bytes that are lacking, the
 -- reads that may fail, and this number of failures
-pub record AreFoundWith (bytes lacking : List ℕ) (fails : ℕ → ℕ → Bool) (failures : ℕ) (records : List FoundRecord) (ranges : List LostBytes) : Type 0 where
+pub record AreFoundWith (bytes : List ℕ) (lacking : ℕ → Bool) (fails : ℕ → ℕ → Bool) (failures : ℕ) (records : List FoundRecord) (ranges : List LostBytes) : Type 0 where
   pub lost : List Bool
   pub loses : LosesBlocks bytes lacking fails failures lost
   pub found : AreFoundByOwnSizes bytes lost records ranges
 
 -- all superblock records and lost bytes of some bytes: those of the raw image if they are known, or else any
-pub record AreFoundInSome (raw : Option (List ℕ)) (lacking : List ℕ) (fails : ℕ → ℕ → Bool) (failures : ℕ)
+pub record AreFoundInSome (raw : Option (List ℕ)) (lacking : ℕ → Bool) (fails : ℕ → ℕ → Bool) (failures : ℕ)
     (records : List FoundRecord) (ranges : List LostBytes) : Type 0 where
   pub bytes : List ℕ
   pub known : IfSome raw (λ text. bytes ≡ text)
   pub found : AreFoundWith bytes lacking fails failures records ranges
+
+-- ---- the front of a raw image
+
+-- the bytes that were read have the bytes below byte 2^26 of some bytes, but for blocks that are lost; these fit the bytes that
+-- are lacking, the reads that may fail, and this number of failures. Those bytes are the raw image's if they are known, or else any
+pub record IsFrontBy (raw : Option (List ℕ)) (lacking : ℕ → Bool) (fails : ℕ → ℕ → Bool) (failures : ℕ)
+    (read : List ℕ) (lost : List Bool) : Type 0 where
+  pub bytes : List ℕ
+  pub known : IfSome raw (λ text. bytes ≡ text)
+  pub loses : LosesBlocks bytes lacking fails failures lost
+  pub same : (i : ℕ) → i < 2 ^ 26 → byte_left read lost i ≡ byte_left bytes lost i
+
+-- the same of a front
+abbrev pub IsFrontOf : Option (List ℕ) → (ℕ → Bool) → (ℕ → ℕ → Bool) → ℕ → Front → Type 0
+IsFrontOf raw lacking fails failures front = IsFrontBy raw lacking fails failures front.bytes.items front.lost.items
+
+-- how many bytes a front has
+abbrev pub front_size : Front → ℕ
+front_size front = len front.bytes.items

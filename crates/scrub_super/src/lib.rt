@@ -25,6 +25,6 @@ pub use plan::{Plan, a_plan_by_given_runs};
 pub use record::{MAX_RUNS, one_record, read_record, write_record};
 pub use superblock::Superblock;
 pub use unknown_sizes::{
-    BLOCK_BYTES, FoundRecord, FoundSuperblocks, LostBytes, MOST_BLOCKS, each_front_has_an_answer,
-    find_superblocks, one_answer_for_lost_blocks,
+    BLOCK_BYTES, FoundRecord, FoundSuperblocks, Front, LostBytes, each_front_has_an_answer,
+    one_answer_for_lost_blocks,
 };

@@ -1,15 +1,18 @@
 //! The answer of a command: its text and its outcome, for one extent, a whole disk or a raw image. For
 //! loading the disk see `disk_image`, and for writing the answer `running`.
 
-ghost use Rattle.std.specs.Prelude.{◌≡◌, ◌≤◌, ◌<◌, ◌^◌, IfOk, true};
+ghost use Rattle.std.specs.Prelude.{◌≡◌, ◌≤◌, ◌<◌, IfOk, true};
 ghost use Rattle.std.specs.List.{list_all};
 ghost use Rattle.std.specs.List.Sorted.{IsStrictlyIncreasing};
+ghost use Rattle.scrub_map.specs.declared.block.MapBlock.{MapBlock};
 ghost use Rattle.scrub_found.specs.Takings.{AreTakingsBy};
 ghost use Rattle.scrub_found.specs.Scrubbed.{is_clean_item};
 ghost use Rattle.scrub_cli.specs.Answer.{IsVersionAnswer};
+ghost use Rattle.scrub_cli.specs.KnownFiles.{KnownRaw};
 ghost use Rattle.scrub_cli.specs.Lines.{lines_of};
 ghost use Rattle.scrub_cli.specs.Outcome.{outcome_of};
 ghost use Rattle.scrub_cli.specs.Manifest.{IsManifestListed};
+ghost use Rattle.scrub_cli.specs.Rescue.{IsFrontRead};
 ghost use Rattle.scrub_cli.specs.Scan.{IsDiskAnswer, acceptance, is_scanned};
 ghost use Rattle.scrub_cli.specs.SizesListed.{AreSizesListed, no_record_line};
 ghost use Rattle.scrub_cli.specs.Superblock.{AreSuperblocksListed};
@@ -17,13 +20,14 @@ ghost use Rattle.scrub_cli.specs.Superblock.{AreSuperblocksListed};
 use crate::commands::remarks::superblock_lines;
 use crate::process::outcome::Outcome;
 use scrub_args::{AcceptedDoubts, ScanOutput, VERSION};
-use scrub_disk::{OutOfMemory, PageSource, RawImage};
+use scrub_disk::{OutOfMemory, PageSource};
 use scrub_found::{ScrubFault, are_clean_items};
 use scrub_listings::{list_locators, list_manifest, list_sizes, list_summary, list_superblocks};
 use scrub_pool::{NoGate, Takings};
 use scrub_reclaim::{Acceptance, list_reclaimable};
 use scrub_report::scrub;
 use scrub_scan::{Item, item_line};
+use scrub_super::Front;
 use std::alloc::Global;
 use std::sync::Wait;
 use std::thread::Threads;
@@ -101,18 +105,12 @@ fn no_record_line(alloc: Global, text: &[u8]) -> Result<Vec<u8>, OutOfMemory>
     )
 }
 
-/// The lines of the superblock records of a raw image, whose blocks lack what `lacking` says.
-pub fn sizes_listing<R: RawImage>(
-    alloc: Global,
-    raw: &mut R,
-    lacking: &[u32],
-) -> Result<Answer, OutOfMemory>
-    requires { R.reads raw.old < 2 ^ 62 }
-    ensures { IfOk result (λ a. AreSizesListed
-        (record { bytes = R.bytes raw.old; fails = R.fails raw.old; most_failures = R.most_failures raw.old })
-        lacking.now a.text.items a.outcome) }
+/// The lines of the superblock records in the front of a raw image.
+pub fn sizes_listing(alloc: Global, front: &Front) -> Result<Answer, OutOfMemory>
+    ensures { IfOk result (λ a. (known : KnownRaw) (blocks : Option (List MapBlock)) →
+        IsFrontRead known blocks front.now → AreSizesListed known blocks a.text.items a.outcome) }
 {
-    let listing = list_sizes(alloc, raw, lacking)?;
+    let listing = list_sizes(alloc, front)?;
     let lines = no_record_line(alloc, &listing.text)?;
     Ok(Answer {
         text: listing.text,

@@ -4,23 +4,21 @@
 ghost use Rattle.std.specs.Prelude.{◌≡◌, ◌<◌, ◌^◌, All, Err, IfOk, IfSome, List, MatchOption, MatchResult};
 ghost use Rattle.std.specs.Prelude.{None, Option, length};
 ghost use Rattle.scrub_disk.specs.Image.{disk_bytes};
-ghost use Rattle.scrub_disk.specs.OneExtent.{IsLoadedExtent, image_of};
+ghost use Rattle.scrub_disk.specs.OneExtent.{image_of};
+ghost use Rattle.scrub_disk.specs.Raw.{IsLoadedIn};
 ghost use Rattle.scrub_map.specs.declared.block.MapBlock.{MapBlock};
-ghost use Rattle.scrub_map.specs.MissingBytes.{KeepsBlocks};
-ghost use Rattle.scrub_cli.specs.DiskExtent.{IsExtentLoaded, IsExtentLoadedBy};
-ghost use Rattle.scrub_cli.specs.DiskExtent.{LosesByMapIn, LosesMarkedIn, LosesPagesIn};
 ghost use Rattle.scrub_cli.specs.DiskGeometry.{AreSizesFoundBy};
-ghost use Rattle.scrub_cli.specs.DiskImage.{IsDiskFault, IsRawFault};
+ghost use Rattle.scrub_cli.specs.DiskImage.{IsDiskFault, IsLoadedDiskIn, IsLoadedInBy, IsRawFault};
 ghost use Rattle.scrub_cli.specs.KnownFiles.{IsKnownAs, KnownRaw};
 ghost use Rattle.scrub_cli.specs.Rescue.{IsMapNamed, KeepsMap};
 
 use crate::commands::disk_image::{Losses, losses_of};
 use crate::commands::opened::Opened;
+use crate::commands::rescue::apply_map;
 use crate::process::fault::Fault;
 use crate::process::images::Images;
 use scrub_args::ImageArgs;
-use scrub_disk::{Geometry, LoadFault, OneExtent, OutOfMemory, PageSource, RawImage, load_extent};
-use scrub_map::RescueMap;
+use scrub_disk::{Geometry, LoadFault, OneExtent, RawImage, load_extent};
 use std::alloc::Global;
 
 /// One extent of the disk of these sizes that the arguments name. What was opened before isn't opened again.
@@ -41,8 +39,8 @@ pub fn load_disk_extent<'a, I: Images>(
     requires found { MatchOption opened (¬ (args.now.sizes ≡ None))
         (λ o. AreSizesFoundBy (I.known images.old args.now.name.now) o.map geometry) }
     ensures { MatchResult result
-        (λ disk. IsExtentLoaded (I.known images.old args.now.name.now) (I.known_map images.old) args.now
-        geometry extent (image_of disk))
+        (λ disk. IsLoadedDiskIn (λ e. e ≡ extent) (I.known images.old args.now.name.now)
+        (I.known_map images.old) args.now geometry (image_of disk))
         (IsDiskFault (I.known images.old args.now.name.now) (I.known_map images.old) args.now geometry) }
 {
     let (losses, mut raw) = losses_of(alloc, geometry, args, opened, images)?;
@@ -60,16 +58,15 @@ fn load_raw_extent<'a, R: RawImage>(
 ) -> Result<OneExtent, Fault<'a>>
     requires few_reads { R.reads raw.old < 2 ^ 62 }
     requires pages { All (λ at. (at.0 < geometry.extents) × (at.1 < geometry.pages)) losses.now.pages.items }
-    requires map { (blocks : Option (List MapBlock)) × KeepsMap losses.now.map blocks }
     requires in_extents { extent < geometry.extents }
     ensures { (known : KnownRaw) → IsKnownAs R.bytes R.fails R.most_failures R.reads known raw.old →
         MatchResult result
         (λ disk. (blocks : Option (List MapBlock)) → KeepsMap losses.now.map blocks →
-        IsExtentLoadedBy known geometry losses.now.pages.items blocks extent (image_of disk))
+        IsLoadedInBy (λ e. e ≡ extent) known geometry losses.now.pages.items blocks (image_of disk))
         (IsRawFault known geometry) }
 {
     let disk = extent_of_raw(alloc, raw, geometry, &losses.pages, extent)?;
-    Ok(apply_map(alloc, disk, &losses.map, extent)?)
+    Ok(apply_map(alloc, disk, &losses.map)?)
 }
 
 /// One extent of a raw image, of whose reads no more fail than its bound allows.
@@ -84,62 +81,10 @@ fn extent_of_raw<R: RawImage>(
     requires in_range { All (λ at. (at.0 < geometry.extents) × (at.1 < geometry.pages)) pages.now }
     requires in_extents { extent < geometry.extents }
     ensures loaded { IfOk result (λ disk.
-        IsLoadedExtent (R.bytes raw.old) (R.fails raw.old) (R.most_failures raw.old) geometry pages.now
-        extent (image_of disk)) }
+        IsLoadedIn (λ e. e ≡ extent) (R.bytes raw.old) (R.fails raw.old) (R.most_failures raw.old) geometry
+        pages.now (image_of disk)) }
     ensures too_long { result ≡ Err LoadFault.TooLong →
         IfSome (R.bytes raw.old) (λ known. disk_bytes geometry < length known) }
 {
     load_extent(alloc, raw, geometry, pages, extent)
-}
-
-/// The extent without its pages that the map lacks, if there is a map.
-fn apply_map(
-    alloc: Global,
-    disk: OneExtent,
-    map: &Option<RescueMap>,
-    extent: u32,
-) -> Result<OneExtent, OutOfMemory>
-    requires in_extents { extent < (image_of disk).geometry.extents }
-    requires map { (blocks : Option (List MapBlock)) × KeepsMap map.now blocks }
-    ensures { IfOk result (λ r. (blocks : Option (List MapBlock)) → KeepsMap map.now blocks →
-        LosesByMapIn blocks extent (image_of disk) (image_of r)) }
-{
-    match map {
-        Some(map) => without_lost(alloc, disk, map, extent),
-        None => Ok(disk),
-    }
-}
-
-/// The extent, with each of its pages unreadable that has a byte which the map lacks.
-fn without_lost(
-    alloc: Global,
-    mut disk: OneExtent,
-    map: &RescueMap,
-    extent: u32,
-) -> Result<OneExtent, OutOfMemory>
-    requires in_extents { extent < (image_of disk).geometry.extents }
-    requires map { (blocks : List MapBlock) × KeepsBlocks map.now blocks }
-    ensures { IfOk result (λ r. (blocks : List MapBlock) → KeepsBlocks map.now blocks →
-        LosesPagesIn blocks extent (image_of disk) (image_of r)) }
-{
-    let geometry = disk.geometry();
-    let pages = geometry.pages() as usize;
-    let first = extent as usize * pages;
-    // A map says which blocks are lost from the first one on.
-    let lost = map.lost_blocks(alloc, geometry.page(), first + pages)?;
-    mark_pages(&mut disk, extent, &lost[first..]);
-    Ok(disk)
-}
-
-/// Makes the marked pages of the extent unreadable. The marks are by the number of a page in the extent.
-fn mark_pages(disk: &mut OneExtent, extent: u32, lost: &[bool])
-    requires in_extents { extent < (image_of disk.old).geometry.extents }
-    requires each_page { length lost.now ≡ (image_of disk.old).geometry.pages }
-    ensures { LosesMarkedIn lost.now (length lost.now) extent (image_of disk.old) (image_of disk.new) }
-{
-    for (page, is_lost) in lost.iter().enumerate() {
-        if *is_lost {
-            disk.mark_bad(extent, page as u32);
-        }
-    }
 }

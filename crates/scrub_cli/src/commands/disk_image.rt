@@ -155,7 +155,6 @@ pub fn load_raw<'a, R: Threads + Sync, I: Images>(
     images: &mut I,
 ) -> Result<PartedDisk, Fault<'a>>
     requires pages { All (λ at. (at.0 < geometry.extents) × (at.1 < geometry.pages)) losses.now.pages.items }
-    requires map { (blocks : Option (List MapBlock)) × KeepsMap losses.now.map blocks }
     requires few_reads { I.Image.reads raw < 2 ^ 62 }
     ensures disk { (known : KnownRaw) →
         IsKnownAs I.Image.bytes I.Image.fails I.Image.most_failures I.Image.reads known raw →

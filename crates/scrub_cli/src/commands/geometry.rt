@@ -1,41 +1,20 @@
 //! The sizes of a disk: those that the arguments give, or else those that its superblock records have.
 
-ghost use Rattle.std.specs.Prelude.{◌≡◌, ◌+◌, ◌<◌, ◌≤◌, ◌^◌, IfOk, IfSome, MatchOption, MatchResult};
-ghost use Rattle.std.specs.Prelude.{None};
-ghost use Rattle.scrub_disk.specs.Limits.{max_extent_bytes};
+ghost use Rattle.std.specs.Prelude.{◌≡◌, IfOk, IfSome, MatchOption, MatchResult, None};
 ghost use Rattle.scrub_listings.specs.declared.sizes_listing.SizesFound.TheVariants.{Certain};
-ghost use Rattle.scrub_cli.specs.DiskGeometry.{AreSizesFound, AreSizesRead, IsFoundFault, IsGeometryFault};
+ghost use Rattle.scrub_cli.specs.DiskGeometry.{AreSizesFound, IsFoundFault, IsGeometryFault};
 ghost use Rattle.scrub_cli.specs.DiskGeometry.{AreSizesFoundBy, IsGeometryOf};
 ghost use Rattle.scrub_cli.specs.KnownFiles.{IsKnownAs};
 ghost use Rattle.scrub_cli.specs.Rescue.{IsMapNamed};
 
 use crate::commands::opened::{Opened, open};
-use crate::commands::rescue::first_lacking;
+use crate::commands::rescue::front_of;
 use crate::process::fault::Fault;
 use crate::process::images::Images;
 use scrub_args::ImageArgs;
-use scrub_disk::{Geometry, OutOfMemory, RawImage};
+use scrub_disk::Geometry;
 use scrub_listings::{SizesFound, find_sizes};
 use std::alloc::Global;
-
-/// What the superblock records in the front of a raw image say of the sizes, whose blocks lack what `lacking`
-/// says.
-fn sizes_of<R: RawImage>(
-    alloc: Global,
-    raw: &mut R,
-    lacking: &[u32],
-) -> Result<SizesFound, OutOfMemory>
-    requires { R.reads raw.old < 2 ^ 62 }
-    ensures sizes { IfOk result (AreSizesRead
-        (record { bytes = R.bytes raw.old; fails = R.fails raw.old; most_failures = R.most_failures raw.old })
-        lacking.now) }
-    ensures same_bytes { R.bytes raw.new ≡ R.bytes raw.old }
-    ensures same_fails { R.fails raw.new ≡ R.fails raw.old }
-    ensures same_bound { R.most_failures raw.new ≡ R.most_failures raw.old }
-    ensures reads { R.reads raw.new ≤ R.reads raw.old + max_extent_bytes }
-{
-    find_sizes(alloc, raw, lacking)
-}
 
 /// The sizes that all superblock records in the front of the image of this name have, without the blocks that
 /// the map lacks, and what was opened to find them. Faults, in this order: a map that can't be opened, its
@@ -60,8 +39,8 @@ fn found_geometry<'a, I: Images>(
     ensures same_maps { I.known_map images.new ≡ I.known_map images.old }
 {
     let mut opened = open(alloc, map, name, images)?;
-    let lacking = first_lacking(alloc, &opened.map)?;
-    match sizes_of(alloc, &mut opened.raw, &lacking)? {
+    let front = front_of(alloc, &mut opened.raw, &opened.map)?;
+    match find_sizes(alloc, &front)? {
         SizesFound::Certain(geometry) => Ok((geometry, opened)),
         SizesFound::Uncertain => Err(Fault::UncertainSizes),
         SizesFound::NotFound => Err(Fault::NoSizes),

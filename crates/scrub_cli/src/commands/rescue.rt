@@ -1,19 +1,19 @@
-//! The map of the rescue that made an image: reading it, and making the pages that it lacks unreadable. For
+//! The map of the rescue that made an image: reading it, and losing the pages and blocks that it lacks. For
 //! its lines see `scrub_map`.
 
-ghost use Rattle.std.specs.Prelude.{◌≡◌, ◌*◌, IfOk, List, MatchResult, Option, length};
-ghost use Rattle.scrub_disk.specs.Parted.{image_of};
+ghost use Rattle.std.specs.Prelude.{◌≡◌, ◌<◌, ◌≤◌, ◌+◌, ◌^◌, IfOk, List, MatchResult, Option};
+ghost use Rattle.scrub_disk.specs.Limits.{max_extent_bytes};
 ghost use Rattle.scrub_map.specs.declared.block.MapBlock.{MapBlock};
 ghost use Rattle.scrub_map.specs.MissingBytes.{KeepsBlocks};
-ghost use Rattle.scrub_cli.specs.SizesListed.{AreLackingBy};
-ghost use Rattle.scrub_cli.specs.Rescue.{IsMapFault, IsMapNamed, KeepsMap, LosesByMap, LosesMarked};
+ghost use Rattle.scrub_cli.specs.KnownFiles.{IsKnownAs, KnownRaw};
+ghost use Rattle.scrub_cli.specs.Rescue.{IsFrontRead, IsMapFault, IsMapNamed, KeepsMap, LosesByMap};
 ghost use Rattle.scrub_cli.specs.Rescue.{LosesPages};
 
 use crate::process::fault::Fault;
 use crate::process::images::{Images, MapReadFault};
-use scrub_disk::{OutOfMemory, PageSource, PartedDisk};
+use scrub_disk::{MarkPages, OutOfMemory, RawImage, mark_lost};
 use scrub_map::{RescueMap, read_map};
-use scrub_super::{BLOCK_BYTES, MOST_BLOCKS};
+use scrub_super::{BLOCK_BYTES, Front};
 use std::alloc::Global;
 
 /// The map of this name, if one is given. Faults, in this order: it can't be opened, and its first line that
@@ -40,27 +40,39 @@ pub fn rescue_map<'a, I: Images>(
     Ok(Some(read_map(alloc, &text)?))
 }
 
-/// The place of the first byte that the map lacks in each of the first blocks of 512 bytes, counted from the
-/// block's start; empty without a map.
-pub fn first_lacking(alloc: Global, map: &Option<RescueMap>) -> Result<Vec<u32>, OutOfMemory>
-    ensures { IfOk result (λ places. (blocks : Option (List MapBlock)) → KeepsMap map.now blocks →
-        AreLackingBy blocks places.items) }
+/// The front of a raw image, without the blocks that the map lacks, if there is a map.
+pub fn front_of<R: RawImage>(
+    alloc: Global,
+    raw: &mut R,
+    map: &Option<RescueMap>,
+) -> Result<Front, OutOfMemory>
+    requires { R.reads raw.old < 2 ^ 62 }
+    ensures front { IfOk result (λ front. (known : KnownRaw) →
+        IsKnownAs R.bytes R.fails R.most_failures R.reads known raw.old →
+        (blocks : Option (List MapBlock)) → KeepsMap map.now blocks → IsFrontRead known blocks front) }
+    ensures same_bytes { R.bytes raw.new ≡ R.bytes raw.old }
+    ensures same_fails { R.fails raw.new ≡ R.fails raw.old }
+    ensures same_bound { R.most_failures raw.new ≡ R.most_failures raw.old }
+    ensures reads { R.reads raw.new ≤ R.reads raw.old + max_extent_bytes }
 {
+    let front = Front::read(alloc, raw)?;
     match map {
-        Some(map) => map.first_lacking(alloc, BLOCK_BYTES as u32, MOST_BLOCKS),
-        None => Ok(Vec::new(alloc)),
+        Some(map) => {
+            let lost = map.lost_blocks(alloc, BLOCK_BYTES as u32, front.size() as u64)?;
+            Ok(front.without(&lost))
+        }
+        None => Ok(front),
     }
 }
 
 /// The disk without the pages that the map lacks, if there is a map.
-pub fn apply_map(
+pub fn apply_map<D: MarkPages + Drop>(
     alloc: Global,
-    disk: PartedDisk,
+    disk: D,
     map: &Option<RescueMap>,
-) -> Result<PartedDisk, OutOfMemory>
-    requires { (blocks : Option (List MapBlock)) × KeepsMap map.now blocks }
+) -> Result<D, OutOfMemory>
     ensures { IfOk result (λ r. (blocks : Option (List MapBlock)) → KeepsMap map.now blocks →
-        LosesByMap blocks (image_of disk) (image_of r)) }
+        LosesByMap blocks (D.image disk) (D.image r)) }
 {
     match map {
         Some(map) => without_lost(alloc, disk, map),
@@ -69,31 +81,17 @@ pub fn apply_map(
 }
 
 /// The disk, with each page unreadable that has a byte which the map lacks.
-fn without_lost(
+fn without_lost<D: MarkPages + Drop>(
     alloc: Global,
-    mut disk: PartedDisk,
+    mut disk: D,
     map: &RescueMap,
-) -> Result<PartedDisk, OutOfMemory>
-    requires { (blocks : List MapBlock) × KeepsBlocks map.now blocks }
+) -> Result<D, OutOfMemory>
     ensures { IfOk result (λ r. (blocks : List MapBlock) → KeepsBlocks map.now blocks →
-        LosesPages blocks (image_of disk) (image_of r)) }
+        LosesPages blocks (D.image disk) (D.image r)) }
 {
     let geometry = disk.geometry();
-    let count = geometry.pages() as usize * geometry.extents() as usize;
-    let lost = map.lost_blocks(alloc, geometry.page(), count)?;
-    mark_pages(&mut disk, &lost);
+    let bytes = geometry.extent_bytes() as u64 * geometry.extents() as u64;
+    let lost = map.lost_blocks(alloc, geometry.page(), bytes)?;
+    mark_lost(&mut disk, &lost);
     Ok(disk)
-}
-
-/// Makes the marked pages unreadable. The marks are by the number of a page among all pages of the disk.
-fn mark_pages(disk: &mut PartedDisk, lost: &[bool])
-    requires { length lost.now ≡ (image_of disk.old).geometry.pages * (image_of disk.old).geometry.extents }
-    ensures { LosesMarked lost.now (length lost.now) (image_of disk.old) (image_of disk.new) }
-{
-    let pages = disk.geometry().pages();
-    for (number, is_lost) in lost.iter().enumerate() {
-        if *is_lost {
-            disk.mark_bad(number as u32 / pages, number as u32 % pages);
-        }
-    }
 }

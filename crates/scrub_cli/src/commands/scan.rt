@@ -6,8 +6,8 @@ ghost use Rattle.std.specs.Prelude.{◌≡◌, ◌≤◌, IfOk, MatchResult, tru
 ghost use Rattle.scrub_disk.specs.Parted.{image_of};
 ghost use Rattle.scrub_disk.specs.OneExtent.{image_of as image_of_extent};
 ghost use Rattle.scrub_args.specs.declared.args.ScanOutput.TheVariants.{Runs};
-ghost use Rattle.scrub_cli.specs.DiskExtent.{IsExtentOfDisk};
-ghost use Rattle.scrub_cli.specs.Scan.{AreTakingsOf, IsDiskOf, IsScanAnswer, IsScanFault, is_scanned};
+ghost use Rattle.scrub_cli.specs.Scan.{AreTakingsOf, IsDiskIn, IsDiskOf, IsScanAnswer, IsScanFault};
+ghost use Rattle.scrub_cli.specs.Scan.{is_scanned};
 ghost use Rattle.scrub_cli.specs.Superblock.{IsSuperblocksAnswer};
 
 use crate::commands::answer::{Answer, disk_answer, superblock_listing};
@@ -123,8 +123,8 @@ fn extent_zero_of<'a, I: Images>(
     images: &mut I,
 ) -> Result<OneExtent, Fault<'a>>
     ensures { MatchResult result
-        (λ disk. IsExtentOfDisk (I.known images.old args.now.name.now) (I.known_map images.old) args.now 0
-        (image_of_extent disk))
+        (λ disk. IsDiskIn (λ e. e ≡ 0) (I.known images.old args.now.name.now) (I.known_map images.old)
+        args.now (image_of_extent disk))
         (IsScanFault (I.known images.old args.now.name.now) (I.known_map images.old) args.now) }
 {
     let (geometry, opened) = geometry_of(alloc, args, images)?;

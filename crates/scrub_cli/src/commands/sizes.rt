@@ -5,7 +5,7 @@ ghost use Rattle.scrub_cli.specs.SizesListed.{IsSizesAnswer, IsSizesFault};
 
 use crate::commands::answer::{Answer, sizes_listing};
 use crate::commands::opened::open;
-use crate::commands::rescue::first_lacking;
+use crate::commands::rescue::front_of;
 use crate::process::fault::Fault;
 use crate::process::images::Images;
 use scrub_args::SizesArgs;
@@ -24,6 +24,6 @@ pub fn sizes<'a, I: Images>(
         (IsSizesFault (I.known_map images.old) args.now) }
 {
     let mut opened = open(alloc, args.map, args.name, images)?;
-    let lacking = first_lacking(alloc, &opened.map)?;
-    Ok(sizes_listing(alloc, &mut opened.raw, &lacking)?)
+    let front = front_of(alloc, &mut opened.raw, &opened.map)?;
+    Ok(sizes_listing(alloc, &front)?)
 }

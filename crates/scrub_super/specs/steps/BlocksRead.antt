@@ -1,5 +1,5 @@
 -- Steps of reading a raw image in blocks, and of the search for records in them.
-use Rattle.std.specs.Prelude.{◌≡◌, ◌<◌, ◌≤◌, ◌+◌, ◌*◌, ◌/◌, ◌^◌, ◌%◌, ℕ, List, Bool, true, false, Some, ◌⊎◌, Contains, slice_get, slice_index, slice_index_or, take, [], ◌∷◌, ◌&&◌, not, if◌then◌else◌, All}
+use Rattle.std.specs.Prelude.{◌≡◌, ◌<◌, ◌≤◌, ◌+◌, ◌*◌, ◌/◌, ◌%◌, ◌↔◌, ℕ, List, Bool, true, false, Some, ◌⊎◌, Contains, slice_get, slice_index, slice_index_or, take, [], ◌∷◌, ◌&&◌, not, if◌then◌else◌, All}
 use Rattle.std.specs.Prelude.{length as len}
 use Rattle.scrub_disk.specs.Limits.{max_extent_bytes}
 use Rattle.scrub_disk.specs.declared.geometry.Geometry.{Geometry}
@@ -11,40 +11,35 @@ use Rattle.scrub_super.specs.declared.unknown_sizes.blocks.Block.{Block}
 use Rattle.scrub_super.specs.Contents.{Contents}
 use Rattle.scrub_super.specs.Record.{BeginsWithRecord, record_bytes}
 use Rattle.scrub_super.specs.Pages.{kind_of}
-use Rattle.scrub_super.specs.Blocks.{IsMarked, LacksByte}
+use Rattle.scrub_super.specs.Blocks.{IsMarked}
 
--- a block at an offset was read into the front of `out`, or is lost, because its first lacking byte is before the end or
--- because a read in it failed
-pub record IsBlockRead (bytes : List ℕ) (fails : ℕ → ℕ → Bool) (offset lacking before after : ℕ) (out : List ℕ) (block : Block) : Type 0 where
+-- a block at an offset was read into the front of `out`, or is lost because a read in it failed
+pub record IsBlockRead (bytes : List ℕ) (fails : ℕ → ℕ → Bool) (offset before after : ℕ) (out : List ℕ) (block : Block) : Type 0 where
   pub read : block.is_lost ≡ false → AreBytesAt (slice_get bytes) offset (take block.len out)
   pub ended : block.len < 512 → len bytes ≤ offset + block.len
-  pub lacks : lacking < 512 → offset + lacking < len bytes → block.is_lost ≡ true
-  pub only : block.is_lost ≡ true → ((lacking < 512) × (offset + lacking < len bytes)) ⊎ ((before < after) × MayFailIn fails offset 512)
+  pub only : block.is_lost ≡ true → (before < after) × MayFailIn fails offset 512
 
 -- the first list begins with the bytes of the second
 abbrev pub BeginsWith : List ℕ → List ℕ → Type 0
 BeginsWith bytes front = (i : ℕ) → i < len front → slice_get bytes i ≡ Some (slice_index front i)
 
--- there is a mark for each block of 512 bytes, and none after the last byte
-pub record AreBlockMarks (bytes : List ℕ) (lost : List Bool) : Type 0 where
-  pub all : len bytes ≤ 512 * len lost
-  pub few : len lost ≤ 2 ^ 17
-  pub begins : (n : ℕ) → IsMarked lost n → n * 512 < len bytes
-
--- the bytes of blocks that aren't lost are those of the raw image, and the lost blocks are those that lack a byte and those
--- that failures cost
-pub record AreBlocksRead (bytes lacking : List ℕ) (fails : ℕ → ℕ → Bool) (failures : ℕ) (read : List ℕ) (lost : List Bool) : Type 0 where
+-- the bytes of blocks that aren't lost are those of the raw image, and the lost blocks are those that failures cost
+pub record AreBlocksRead (bytes : List ℕ) (fails : ℕ → ℕ → Bool) (failures : ℕ) (read : List ℕ) (lost : List Bool) : Type 0 where
   pub held : (i : ℕ) → i < len read → ¬ IsMarked lost (i / 512) → slice_get bytes i ≡ Some (slice_index read i)
-  pub lacks : (n : ℕ) → n < len lost → LacksByte bytes lacking n → IsMarked lost n
   pub failed : List ℕ
   pub few : len failed ≤ failures
   pub each : All (λ n. MayFailIn fails (n * 512) 512) failed
-  pub only : (n : ℕ) → IsMarked lost n → LacksByte bytes lacking n ⊎ Contains failed n
+  pub only : (n : ℕ) → IsMarked lost n → Contains failed n
 
 -- all that matters was read: up to the end of the raw image, or 2^26 bytes
-pub record AreAllRead (bytes lacking : List ℕ) (fails : ℕ → ℕ → Bool) (failures : ℕ) (read : List ℕ) (lost : List Bool) : Type 0 where
-  pub blocks : AreBlocksRead bytes lacking fails failures read lost
+pub record AreAllRead (bytes : List ℕ) (fails : ℕ → ℕ → Bool) (failures : ℕ) (read : List ℕ) (lost : List Bool) : Type 0 where
+  pub blocks : AreBlocksRead bytes fails failures read lost
   pub ended : (len bytes ≤ len read) ⊎ (len read ≡ max_extent_bytes)
+
+-- the first n of these marks are true in the new list, too, and each other mark is as in the old one
+pub record MarksToo (marks : List Bool) (n : ℕ) (old new : List Bool) : Type 0 where
+  pub one_each : len new ≡ len old
+  pub marked : (k : ℕ) → IsMarked new k ↔ (IsMarked old k ⊎ ((k < n) × IsMarked marks k))
 
 -- no byte from the offset on up to `end` is lost, and at `end` the bytes end or one is lost
 pub record IsReadableTo (size : ℕ) (lost : List Bool) (offset end : ℕ) : Type 0 where

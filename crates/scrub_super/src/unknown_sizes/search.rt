@@ -14,8 +14,8 @@ ghost use Rattle.std.specs.Prelude.{OnOk, length, option_to_list};
 ghost use Rattle.scrub_disk.specs.declared.geometry.Geometry.{Geometry};
 ghost use Rattle.scrub_super.specs.declared.unknown_sizes.FoundRecord.{FoundRecord};
 ghost use Rattle.scrub_super.specs.UnknownSizes.{AreFoundRecords};
-ghost use Rattle.scrub_super.specs.Blocks.{byte_left};
-ghost use Rattle.scrub_super.specs.steps.BlocksRead.{AreBlockMarks, IsReadableTo, TellsRecord};
+ghost use Rattle.scrub_super.specs.Blocks.{AreBlockMarks, byte_left};
+ghost use Rattle.scrub_super.specs.steps.BlocksRead.{IsReadableTo, TellsRecord};
 ghost use Rattle.scrub_super.specs.Contents.{Contents};
 ghost use Rattle.scrub_super.specs.Record.{BeginsWithRecord};
 

@@ -4,8 +4,9 @@ use Rattle.std.proofs.Common.{arith, ◌≡◌, ◌≤◌, ◌*◌, ◌∙◌, a
 use Rattle.scrub_disk.specs.Image.{disk_bytes}
 use Rattle.scrub_disk.specs.Joined.{joined}
 use Rattle.scrub_disk.specs.Parted.{image_of}
+use Rattle.scrub_disk.specs.Raw.{every_extent}
 use Rattle.scrub_disk.specs.steps.WholePages.{held_whole}
-use Rattle.scrub_disk.proofs.LostPages.{holds_read, loaded_by_readers, byte_at_end_is_too_long, loses_read}
+use Rattle.scrub_disk.proofs.LostPages.{holds_read, loaded_with, byte_at_end_is_too_long, loses_read}
 use Rattle.scrub_disk.proofs.JoinedBlocks.{whole_disk}
 use Rattle.scrub_disk.proofs.parted_loading.load_in_parts.Goals as goal
 
@@ -19,7 +20,7 @@ returns-then-has_byte_at-clause-too_long g c e known every =
 
 pub returns-clause-loaded : goal.returns-clause-loaded
 returns-clause-loaded g c known every fails all_fail =
-    let disk = c.mark_all.new.disk in
+    let disk = c.mark_named.new.disk in
     let parts = c.in-Ok.read.0 in
     let most = sum_by (λ r. g.R.RawImage.most_failures r) c.args.readers.items in
     let same = c.divide-division.ensures.geometry in
@@ -31,14 +32,14 @@ returns-clause-loaded g c known every fails all_fail =
     (image_of c.from_blocks-disk.result) c.from_blocks-disk.ensures all.0 all.1 read in
     let bounded : g.R.RawImage.failures c.has_byte_at.new.raw ≤ most =
     omega (arith, (g.met.R.RawImage g.world.𝓛 g.world.𝓜 g.world.𝓡 ((λ s x. x), (λ x. x), (λ x. x), λ x. x)).failures_are_bounded c.has_byte_at.new.raw, c.has_byte_at.ensures.image.same_bound, c.in-Ok.ensures.within) in
-    loaded_by_readers known (g.R.RawImage.bytes c.in-Ok.read.1) fails c.args.geometry c.args.bad.now most
+    loaded_with every_extent known (g.R.RawImage.bytes c.in-Ok.read.1) fails c.args.geometry c.args.bad.now most most
     (g.R.RawImage.failures c.in-Ok.read.1) (g.R.RawImage.failures c.has_byte_at.new.raw)
     (c.extent_bytes.result * c.extents.result) c.has_byte_at.result (image_of c.from_blocks-disk.result) (image_of disk)
     (c.in-Ok.ensures.same_bytes known every)
     (ap (λ n. n * c.extents.result) c.extent_bytes.ensures ∙ ap (λ n. c.args.geometry.page * c.args.geometry.pages * n) c.extents.ensures)
-    c.if-has_byte_at.false (ap (λ i. i.geometry) c.from_blocks-disk.ensures) bounded
+    c.if-has_byte_at.false (ap (λ i. i.geometry) c.from_blocks-disk.ensures) (omega arith) (λ rose. omega (arith, rose, bounded))
     (held_whole disk.geometry (joined disk.geometry.page disk.blocks.items) disk.unreadable.items disk.whole)
     holds
     (loses_read c.args.geometry known fails most bytes parts.marks.items (image_of c.from_blocks-disk.result)
     c.from_blocks-disk.ensures all.1 holds read)
-    (rw (c.in-Ok.ensures.same_fails fails all_fail) at c.has_byte_at.ensures.not_there) c.mark_all.ensures
+    (rw (c.in-Ok.ensures.same_fails fails all_fail) at c.has_byte_at.ensures.not_there) c.mark_named.ensures

@@ -1,9 +1,9 @@
 -- Each way out of `load_disk_extent`, in the order of the code.
+use Rattle.std.proofs.Common.{◌≡◌}
 use Rattle.std.proofs.lemmas.Result.{err_from_is_err_and}
 use Rattle.scrub_disk.specs.OneExtent.{image_of}
-use Rattle.scrub_cli.specs.DiskExtent.{IsExtentLoaded}
-use Rattle.scrub_cli.specs.DiskImage.{AreReadBefore, IsDiskFault}
-use Rattle.scrub_cli.proofs.DiskAnswers.{losses_fault, matched, raw_fault}
+use Rattle.scrub_cli.specs.DiskImage.{AreReadBefore, IsDiskFault, IsLoadedDiskIn}
+use Rattle.scrub_cli.proofs.DiskAnswers.{loaded_disk, losses_fault, matched, raw_fault}
 use Rattle.scrub_cli.proofs.NamedPages.{named_in_range}
 use Rattle.scrub_cli.proofs.commands.disk_extent.load_disk_extent.Goals as goal
 
@@ -20,9 +20,6 @@ pub load_raw_extent-requires-clause-pages : goal.load_raw_extent-requires-clause
 load_raw_extent-requires-clause-pages g c =
     named_in_range c.args.geometry c.args.args.now.bad_pages.items c.in_ok-losses.losses.pages.items c.in_ok-losses.ensures.losses.named
 
-pub load_raw_extent-requires-clause-map : goal.load_raw_extent-requires-clause-map
-load_raw_extent-requires-clause-map g c = (c.in_ok-losses.ensures.losses.map.blocks, c.in_ok-losses.ensures.losses.map.keeps)
-
 -- the extent is loaded, or isn't
 pub returns : goal.returns
 returns g c =
@@ -33,21 +30,9 @@ returns g c =
     let losses = c.in_ok-losses.ensures.losses in
     let before : AreReadBefore maps args sizes =
     record { pages = c.in_ok-losses.losses.pages.items; named = losses.named; blocks = losses.map.blocks; mapped = losses.map.are } in
-    matched c.load_raw_extent.result _ (λ d. IsExtentLoaded known maps args sizes c.args.extent (image_of d)) _
+    matched c.load_raw_extent.result _ (λ d. IsLoadedDiskIn (λ e. e ≡ c.args.extent) known maps args sizes (image_of d)) _
     (IsDiskFault known maps args sizes)
     (c.load_raw_extent.ensures known c.in_ok-losses.ensures.raw)
-    (λ d loaded. let l = loaded losses.map.blocks losses.map.keeps in record {
-      whole = l.whole;
-      loaded = record {
-        unreadable = c.in_ok-losses.losses.pages.items;
-        named = losses.named;
-        blocks = losses.map.blocks;
-        mapped = losses.map.are;
-        before = l.loaded.before;
-        loaded = l.loaded.loaded;
-        rescued = l.loaded.rescued;
-        sizes = λ left. c.in_ok-losses.ensures.found left losses.map.blocks losses.map.keeps;
-      };
-      same = l.same;
-    })
+    (λ d loaded. loaded_disk (λ e. e ≡ c.args.extent) known maps args sizes c.in_ok-losses.losses (image_of d) losses
+    c.in_ok-losses.ensures.found loaded)
     (λ fault is. raw_fault known maps args sizes fault before is)

@@ -1,8 +1,9 @@
 -- Each way out of `load_disk`, in the order of the code.
 use Rattle.std.proofs.lemmas.Result.{err_from_is_err_and}
 use Rattle.scrub_disk.specs.Parted.{image_of}
+use Rattle.scrub_disk.specs.Raw.{every_extent}
 use Rattle.scrub_cli.specs.DiskImage.{AreReadBefore, IsDiskFault, IsLoadedDisk}
-use Rattle.scrub_cli.proofs.DiskAnswers.{losses_fault, matched, raw_fault}
+use Rattle.scrub_cli.proofs.DiskAnswers.{loaded_disk, losses_fault, matched, raw_fault}
 use Rattle.scrub_cli.proofs.NamedPages.{named_in_range}
 use Rattle.scrub_cli.proofs.commands.disk_image.load_disk.Goals as goal
 
@@ -19,9 +20,6 @@ pub load_raw-requires-clause-pages : goal.load_raw-requires-clause-pages
 load_raw-requires-clause-pages g c =
     λ κs h. named_in_range c.args.geometry c.args.args.now.bad_pages.items c.in_ok-losses.losses.pages.items c.in_ok-losses.ensures.losses.named
 
-pub load_raw-requires-clause-map : goal.load_raw-requires-clause-map
-load_raw-requires-clause-map g c = λ κs h. (c.in_ok-losses.ensures.losses.map.blocks, c.in_ok-losses.ensures.losses.map.keeps)
-
 -- the image is loaded, or isn't
 pub returns : goal.returns
 returns g c =
@@ -34,14 +32,5 @@ returns g c =
     record { pages = c.in_ok-losses.losses.pages.items; named = losses.named; blocks = losses.map.blocks; mapped = losses.map.are } in
     matched c.load_raw.result _ (λ d. IsLoadedDisk known maps args disk (image_of d)) _ (IsDiskFault known maps args disk)
     (c.load_raw.ensures.disk known c.in_ok-losses.ensures.raw)
-    (λ d loaded. let l = loaded losses.map.blocks losses.map.keeps in record {
-      unreadable = c.in_ok-losses.losses.pages.items;
-      named = losses.named;
-      blocks = losses.map.blocks;
-      mapped = losses.map.are;
-      before = l.before;
-      loaded = l.loaded;
-      rescued = l.rescued;
-      sizes = λ left. c.in_ok-losses.ensures.found left losses.map.blocks losses.map.keeps;
-    })
+    (λ d loaded. loaded_disk every_extent known maps args disk c.in_ok-losses.losses (image_of d) losses c.in_ok-losses.ensures.found loaded)
     (λ fault is. raw_fault known maps args disk fault before is)

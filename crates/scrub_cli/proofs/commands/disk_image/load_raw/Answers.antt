@@ -2,6 +2,7 @@
 use Rattle.std.proofs.Common.{ap, Err}
 use Rattle.std.proofs.lemmas.Result.{err_from_is_err_and}
 use Rattle.scrub_disk.specs.Parted.{image_of}
+use Rattle.scrub_disk.specs.Raw.{every_extent}
 use Rattle.scrub_cli.proofs.DiskAnswers.{load_fault, loaded_as_known}
 use Rattle.scrub_cli.proofs.commands.disk_image.load_raw.Goals as goal
 
@@ -24,6 +25,6 @@ returns-clause-disk g c known is blocks keeps =
     record {
       before = image;
       loaded =
-          loaded_as_known known _ _ c.args.geometry pages image _ _ is.same_bytes is.same_fails is.same_bound c.in_ok-readers.ensures.bounded loaded;
+          loaded_as_known every_extent known _ _ c.args.geometry pages image _ _ is.same_bytes is.same_fails is.same_bound c.in_ok-readers.ensures.bounded loaded;
       rescued = c.in_ok-apply_map.ensures blocks keeps;
     }

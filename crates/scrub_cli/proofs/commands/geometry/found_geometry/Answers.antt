@@ -1,5 +1,6 @@
 -- Something wasn't opened, or the sizes of the records are found, or none.
 use Rattle.std.proofs.lemmas.Result.{err_from_is_err_and}
+use Rattle.scrub_cli.proofs.GeometryAnswers.{sizes_by_front}
 use Rattle.scrub_cli.proofs.OpenedAnswers.{opening_fault_found}
 use Rattle.scrub_cli.proofs.commands.geometry.found_geometry.Goals as goal
 
@@ -9,3 +10,49 @@ returns-in_err-opened-clause-geometry g c =
     rw (p.1, p.2)
     (opening_fault_found (g.I.Images.known c.args.images.now c.args.name.now) (g.I.Images.known_map c.args.images.now) c.args.map c.args.name
     c.in_err-opened.field-0.0 c.in_err-opened.ensures.map)
+
+pub returns-in-Certain-clause-geometry : goal.returns-in-Certain-clause-geometry
+returns-in-Certain-clause-geometry g c =
+    let map = c.in_ok-opened.ensures.map in
+    let known = g.I.Images.known c.args.images.now c.args.name.now in
+    record {
+      blocks = map.blocks;
+      mapped = map.are;
+      sizes =
+          rw (← c.in-Certain.is)
+          (sizes_by_front known map.blocks c.in_ok-front.front c.in_ok-find_sizes.field-0
+          (c.in_ok-front.ensures.front known c.in_ok-opened.ensures.raw map.blocks map.keeps) c.in_ok-find_sizes.ensures);
+    }
+
+pub returns-in-Certain-clause-found : goal.returns-in-Certain-clause-found
+returns-in-Certain-clause-found g c =
+    let known = g.I.Images.known c.args.images.now c.args.name.now in
+    rw (c.open.ensures.same_images, ← c.in-Certain.is)
+    (λ blocks keeps. sizes_by_front known blocks c.in_ok-front.front c.in_ok-find_sizes.field-0
+    (c.in_ok-front.ensures.front known c.in_ok-opened.ensures.raw blocks keeps) c.in_ok-find_sizes.ensures)
+
+pub returns-in-Uncertain-clause-geometry : goal.returns-in-Uncertain-clause-geometry
+returns-in-Uncertain-clause-geometry g c =
+    let map = c.in_ok-opened.ensures.map in
+    let known = g.I.Images.known c.args.images.now c.args.name.now in
+    record {
+      blocks = map.blocks;
+      mapped = map.are;
+      sizes =
+          rw (← c.in-Uncertain.is)
+          (sizes_by_front known map.blocks c.in_ok-front.front c.in_ok-find_sizes.field-0
+          (c.in_ok-front.ensures.front known c.in_ok-opened.ensures.raw map.blocks map.keeps) c.in_ok-find_sizes.ensures);
+    }
+
+pub returns-in-NotFound-clause-geometry : goal.returns-in-NotFound-clause-geometry
+returns-in-NotFound-clause-geometry g c =
+    let map = c.in_ok-opened.ensures.map in
+    let known = g.I.Images.known c.args.images.now c.args.name.now in
+    record {
+      blocks = map.blocks;
+      mapped = map.are;
+      sizes =
+          rw (← c.in-NotFound.is)
+          (sizes_by_front known map.blocks c.in_ok-front.front c.in_ok-find_sizes.field-0
+          (c.in_ok-front.ensures.front known c.in_ok-opened.ensures.raw map.blocks map.keeps) c.in_ok-find_sizes.ensures);
+    }

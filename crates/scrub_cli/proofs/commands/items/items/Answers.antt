@@ -1,13 +1,11 @@
 -- Each way out of `items`, in the order of the code.
-use Rattle.std.proofs.Common.{arith, ap, subst, ◌∙◌}
+use Rattle.std.proofs.Common.{◌≡◌, arith, ap, ◌∙◌}
 use Rattle.std.specs.List.{list_all}
 use Rattle.std.proofs.lemmas.Result.{err_from_is_err_and}
 use Rattle.scrub_disk.specs.OneExtent.{image_of}
-use Rattle.scrub_scan.specs.Extent.{Extent}
-use Rattle.scrub_scan.proofs.SameExtentOf.{same_extent_of}
 use Rattle.scrub_found.specs.Scrubbed.{is_clean_item}
-use Rattle.scrub_cli.specs.DiskExtent.{IsExtentLoaded}
-use Rattle.scrub_cli.specs.Lines.{IsListing, lines_of}
+use Rattle.scrub_cli.specs.DiskImage.{IsLoadedDiskIn}
+use Rattle.scrub_cli.specs.Lines.{lines_of}
 use Rattle.scrub_cli.specs.Outcome.{outcome_of}
 use Rattle.scrub_cli.proofs.ItemsAnswers.{placed, pointer_fault, items_disk_fault, items_geometry_fault, items_answer}
 use Rattle.scrub_cli.proofs.commands.items.items.Goals as goal
@@ -60,13 +58,13 @@ returns g c =
     let maps = g.I.Images.known_map c.args.images.now in
     let answer = c.in_ok-listing.field-0 in
     let tiling = c.in_ok-tiling.tiling in
-    let loaded : IsExtentLoaded known maps args.image disk args.extent (image_of c.in_ok-disk.disk) =
+    let loaded : IsLoadedDiskIn (λ e. e ≡ args.extent) known maps args.image disk (image_of c.in_ok-disk.disk) =
     rw (c.geometry_of.ensures.same_images, c.geometry_of.ensures.same_maps) at c.in_ok-disk.ensures in
-    items_answer known maps args disk loaded.whole c.unwrap_or-pointer.result answer.text.items answer.outcome at.0
-    loaded.loaded at.1
-    (subst (λ (x : Extent). IsListing x answer.text.items answer.outcome) (same_extent_of loaded.same c.unwrap_or-pointer.result) (record {
+    items_answer known maps args disk (image_of c.in_ok-disk.disk) c.unwrap_or-pointer.result answer.text.items answer.outcome at.0
+    loaded at.1
+    (record {
       items = tiling;
       tiled = c.in_ok-tiling.ensures;
       spelled = c.in_ok-listing.ensures.text ∙ ap lines_of c.as_slice.ensures;
       ended = c.in_ok-listing.ensures.outcome ∙ ap (λ is. outcome_of (list_all is_clean_item is)) c.as_slice.ensures;
-    }))
+    })

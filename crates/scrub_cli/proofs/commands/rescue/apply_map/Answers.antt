@@ -1,15 +1,14 @@
 -- With a map the pages that it lacks are lost, and without one none is.
 use Rattle.std.proofs.lemmas.Result.{IfOk-weaker}
-use Rattle.scrub_disk.specs.Parted.{image_of}
-use Rattle.scrub_cli.proofs.Rescues.{loses_by_map, some_blocks}
+use Rattle.scrub_cli.proofs.Rescues.{loses_by_map, loses_none}
 use Rattle.scrub_cli.proofs.commands.rescue.apply_map.Goals as goal
 
-pub without_lost-requires : goal.without_lost-requires
-without_lost-requires c = let kept = rw c.in-Some.is at c.requires in some_blocks c.in-Some.map kept.0 kept.1
-
 pub returns-in-Some : goal.returns-in-Some
-returns-in-Some c =
+returns-in-Some g c =
     rw c.in-Some.is
     (IfOk-weaker c.without_lost.result _ _
-    (λ r loses blocks keeps. loses_by_map c.in-Some.map (image_of c.args.disk) (image_of r) loses blocks keeps)
+    (λ r loses blocks keeps. loses_by_map c.in-Some.map (g.D.PageSource.image c.args.disk) (g.D.PageSource.image r) loses blocks keeps)
     c.without_lost.ensures)
+
+pub returns-in-None : goal.returns-in-None
+returns-in-None g c = rw c.in-None.is (λ blocks keeps. loses_none (g.D.PageSource.image c.args.disk) blocks keeps)

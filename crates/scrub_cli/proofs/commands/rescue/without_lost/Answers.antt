@@ -1,20 +1,27 @@
 -- There is one mark for each page, and each marked page is unreadable.
-use Rattle.std.proofs.Common.{◌∙◌, ap, ap₂, ◌*◌, length}
-use Rattle.scrub_disk.specs.Parted.{image_of}
-use Rattle.scrub_cli.proofs.Rescues.{loses_pages}
+use Rattle.std.proofs.Common.{◌≡◌, ◌∙◌, ap, ◌*◌, length}
+use Rattle.scrub_disk.specs.Image.{disk_bytes}
+use Rattle.scrub_cli.proofs.Rescues.{loses_pages, page_blocks}
 use Rattle.scrub_cli.proofs.commands.rescue.without_lost.Goals as goal
 
-pub mark_pages-requires : goal.mark_pages-requires
-mark_pages-requires c =
-    let are = c.in_ok-lost.ensures c.requires.0 c.requires.1 in
-    ap length c.deref.ensures.value ∙ are.one_each
-    ∙ ap₂ (λ m n. m * n) (c.pages.ensures ∙ ap (λ x. x.pages) c.geometry-geometry.ensures)
-    (c.extents.ensures ∙ ap (λ x. x.extents) c.geometry-geometry.ensures)
+pub mark_lost-requires : goal.mark_lost-requires
+mark_lost-requires g c =
+    let sizes = (g.D.PageSource.image c.args.disk).geometry in
+    let end : c.extent_bytes.result * c.extents.result ≡ disk_bytes sizes =
+    ap (λ n. n * c.extents.result) c.extent_bytes.ensures
+    ∙ ap (λ n. c.geometry-geometry.result.page * c.geometry-geometry.result.pages * n) c.extents.ensures
+    ∙ ap disk_bytes c.geometry-geometry.ensures in
+    page_blocks sizes c.page.result (c.extent_bytes.result * c.extents.result) (length c.deref.result.now)
+    (c.page.ensures ∙ ap (λ x. x.page) c.geometry-geometry.ensures) end
+    (ap length c.deref.ensures.value ∙ c.in_ok-lost.ensures.one_each)
 
 pub returns : goal.returns
-returns c =
-    λ blocks keeps. loses_pages c.deref.result.now c.in_ok-lost.lost.items blocks (image_of c.args.disk)
-    (image_of c.mark_pages.new.disk) c.page.result _
-    c.deref.ensures.value (c.page.ensures ∙ ap (λ x. x.page) c.geometry-geometry.ensures)
-    (ap₂ (λ m n. m * n) (c.pages.ensures ∙ ap (λ x. x.pages) c.geometry-geometry.ensures) (c.extents.ensures ∙ ap (λ x. x.extents) c.geometry-geometry.ensures))
-    (c.in_ok-lost.ensures blocks keeps) c.mark_pages.ensures
+returns g c = λ blocks keeps.
+    let before = g.D.PageSource.image c.args.disk in
+    let end : c.extent_bytes.result * c.extents.result ≡ disk_bytes before.geometry =
+    ap (λ n. n * c.extents.result) c.extent_bytes.ensures
+    ∙ ap (λ n. c.geometry-geometry.result.page * c.geometry-geometry.result.pages * n) c.extents.ensures
+    ∙ ap disk_bytes c.geometry-geometry.ensures in
+    loses_pages c.deref.result.now c.in_ok-lost.lost.items blocks before (g.D.PageSource.image c.mark_lost.new.disk) c.page.result
+    (c.extent_bytes.result * c.extents.result) c.deref.ensures.value
+    (c.page.ensures ∙ ap (λ x. x.page) c.geometry-geometry.ensures) end (c.in_ok-lost.ensures.lost blocks keeps) c.mark_lost.ensures

@@ -16,11 +16,7 @@ returns g c =
     let args = c.args.args.now in
     MatchResult-weaker c.load_disk_extent.result
     (rw (c.geometry_of.ensures.same_images, c.geometry_of.ensures.same_maps) at c.load_disk_extent.ensures)
-    (λ disk loaded. record {
-      whole = loaded.whole;
-      disk = record { geometry = c.in_ok-geometry.geometry; sizes = c.in_ok-geometry.ensures.geometry; loaded = loaded.loaded };
-      same = loaded.same;
-    })
+    (λ disk loaded. record { geometry = c.in_ok-geometry.geometry; sizes = c.in_ok-geometry.ensures.geometry; loaded = loaded })
     (λ fault why. scan_disk_fault (g.I.Images.known c.args.images.now args.name.now)
     (g.I.Images.known_map c.args.images.now) args c.in_ok-geometry.geometry
     fault c.in_ok-geometry.ensures.geometry why)

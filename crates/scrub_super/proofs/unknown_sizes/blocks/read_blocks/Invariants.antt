@@ -9,13 +9,13 @@ abbrev pub invariant-loop-number : goal.invariant-loop-number
 invariant-loop-number g l = record {
   image : IsReadOn g.R.RawImage.bytes g.R.RawImage.fails g.R.RawImage.most_failures g.R.RawImage.failures l.initial.raw l.raw;
   reads : g.R.RawImage.reads l.raw ≤ g.R.RawImage.reads l.initial.raw + l.number * 512;
-  size : length l.blocks.bytes.items ≡ 512 * l.number;
-  marks : length l.blocks.lost.items ≡ l.number;
-  begins : (n : ℕ) → IsMarked l.blocks.lost.items n → n * 512 < length l.blocks.bytes.items;
+  size : length l.bytes.items ≡ 512 * l.number;
+  marks : length l.lost.items ≡ l.number;
+  begins : (n : ℕ) → IsMarked l.lost.items n → n * 512 < length l.bytes.items;
   read : IfSome (g.R.RawImage.bytes l.initial.raw) (λ known.
-      AreBlocksRead known l.lacking (g.R.RawImage.fails l.initial.raw) (g.R.RawImage.failures l.raw - g.R.RawImage.failures l.initial.raw)
-      l.blocks.bytes.items l.blocks.lost.items);
-  own : (known : List ℕ) → BeginsWith known l.blocks.bytes.items →
-      AreBlocksRead known l.lacking (g.R.RawImage.fails l.initial.raw) (g.R.RawImage.failures l.raw - g.R.RawImage.failures l.initial.raw)
-      l.blocks.bytes.items l.blocks.lost.items;
+      AreBlocksRead known (g.R.RawImage.fails l.initial.raw) (g.R.RawImage.failures l.raw - g.R.RawImage.failures l.initial.raw)
+      l.bytes.items l.lost.items);
+  own : (known : List ℕ) → BeginsWith known l.bytes.items →
+      AreBlocksRead known (g.R.RawImage.fails l.initial.raw) (g.R.RawImage.failures l.raw - g.R.RawImage.failures l.initial.raw)
+      l.bytes.items l.lost.items;
 }
