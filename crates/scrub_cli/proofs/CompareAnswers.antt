@@ -26,9 +26,11 @@ module _ (known : List ℕ → KnownRaw) (maps : KnownMaps) (args : CompareArgs)
 
   module _ (g : Sizes) (places : MayBeReset (known args.before.scan.image.name.now) maps args.before g) where
     -- so is one of what is lost
-    pub compare_losses_fault : (fault : Fault) → IsLossesFault maps args.before.scan.image g fault → IsCompareFault known maps args fault
+    pub compare_losses_fault : (fault : Fault) → IsLossesFault (known args.before.scan.image.name.now) maps args.before.scan.image g fault →
+        IsCompareFault known maps args fault
     compare_losses_fault fault =
-        of_losses_fault (IsCompareFault known maps args) maps args.before.scan.image g (λ arg is. (g, places, (each_names g, is)))
+        of_losses_fault (IsCompareFault known maps args) (known args.before.scan.image.name.now) maps args.before.scan.image g
+        (λ arg is. (g, places, (each_names g, is)))
         (λ name is. inr (g, places, (each_names g, is))) (λ k is. inr (g, places, (each_names g, is)))
         (λ name is. inl (inr (g, places, (each_names g, is)))) tt fault
 

@@ -46,32 +46,32 @@ of_bad_page Holds g args bad memory (Output written) is = absurd is
 of_bad_page Holds g args bad memory OutOfMemory is = memory
 
 -- what holds for each fault of what is lost holds for the one that there is
-pub of_losses_fault : (Holds : Fault → Type 0) (maps : KnownMaps) (args : ImageArgs) (g : Sizes) →
-    ((arg : Bor (List ℕ)) → IsLossesFault maps args g (BadPage arg) → Holds (BadPage arg)) →
-    ((name : Bor (List ℕ)) → IsLossesFault maps args g (NoMap name) → Holds (NoMap name)) →
-    ((k : ℕ) → IsLossesFault maps args g (MapLine k) → Holds (MapLine k)) →
-    ((name : Bor (List ℕ)) → IsLossesFault maps args g (NoImage name) → Holds (NoImage name)) → Holds OutOfMemory →
-    (fault : Fault) → IsLossesFault maps args g fault → Holds fault
-of_losses_fault Holds maps args g bad unopened line none memory NotUtf8 is = absurd is
-of_losses_fault Holds maps args g bad unopened line none memory (Help text) is = absurd is
-of_losses_fault Holds maps args g bad unopened line none memory (Args text) is = absurd is
-of_losses_fault Holds maps args g bad unopened line none memory (Geometry fault) is = absurd is
-of_losses_fault Holds maps args g bad unopened line none memory NoSizes is = absurd is
-of_losses_fault Holds maps args g bad unopened line none memory UncertainSizes is = absurd is
-of_losses_fault Holds maps args g bad unopened line none memory Extent is = absurd is
-of_losses_fault Holds maps args g bad unopened line none memory (BadShard text) is = absurd is
-of_losses_fault Holds maps args g bad unopened line none memory Pointer is = absurd is
-of_losses_fault Holds maps args g bad unopened line none memory (BadRun arg) is = absurd is
-of_losses_fault Holds maps args g bad unopened line none memory (BadPage arg) is = bad arg is
-of_losses_fault Holds maps args g bad unopened line none memory (NoMap name) is = unopened name is
-of_losses_fault Holds maps args g bad unopened line none memory (MapLine k) is = line k is
-of_losses_fault Holds maps args g bad unopened line none memory (NoImage name) is = none name is
-of_losses_fault Holds maps args g bad unopened line none memory TooLong is = absurd is
-of_losses_fault Holds maps args g bad unopened line none memory (NoRun arg) is = absurd is
-of_losses_fault Holds maps args g bad unopened line none memory NoShard is = absurd is
-of_losses_fault Holds maps args g bad unopened line none memory (PayloadLost number) is = absurd is
-of_losses_fault Holds maps args g bad unopened line none memory (Output written) is = absurd is
-of_losses_fault Holds maps args g bad unopened line none memory OutOfMemory is = memory
+pub of_losses_fault : (Holds : Fault → Type 0) (known : KnownRaw) (maps : KnownMaps) (args : ImageArgs) (g : Sizes) →
+    ((arg : Bor (List ℕ)) → IsLossesFault known maps args g (BadPage arg) → Holds (BadPage arg)) →
+    ((name : Bor (List ℕ)) → IsLossesFault known maps args g (NoMap name) → Holds (NoMap name)) →
+    ((k : ℕ) → IsLossesFault known maps args g (MapLine k) → Holds (MapLine k)) →
+    ((name : Bor (List ℕ)) → IsLossesFault known maps args g (NoImage name) → Holds (NoImage name)) → Holds OutOfMemory →
+    (fault : Fault) → IsLossesFault known maps args g fault → Holds fault
+of_losses_fault Holds known maps args g bad unopened line none memory NotUtf8 is = absurd is
+of_losses_fault Holds known maps args g bad unopened line none memory (Help text) is = absurd is
+of_losses_fault Holds known maps args g bad unopened line none memory (Args text) is = absurd is
+of_losses_fault Holds known maps args g bad unopened line none memory (Geometry fault) is = absurd is
+of_losses_fault Holds known maps args g bad unopened line none memory NoSizes is = absurd is
+of_losses_fault Holds known maps args g bad unopened line none memory UncertainSizes is = absurd is
+of_losses_fault Holds known maps args g bad unopened line none memory Extent is = absurd is
+of_losses_fault Holds known maps args g bad unopened line none memory (BadShard text) is = absurd is
+of_losses_fault Holds known maps args g bad unopened line none memory Pointer is = absurd is
+of_losses_fault Holds known maps args g bad unopened line none memory (BadRun arg) is = absurd is
+of_losses_fault Holds known maps args g bad unopened line none memory (BadPage arg) is = bad arg is
+of_losses_fault Holds known maps args g bad unopened line none memory (NoMap name) is = unopened name is
+of_losses_fault Holds known maps args g bad unopened line none memory (MapLine k) is = line k is
+of_losses_fault Holds known maps args g bad unopened line none memory (NoImage name) is = none name is
+of_losses_fault Holds known maps args g bad unopened line none memory TooLong is = absurd is
+of_losses_fault Holds known maps args g bad unopened line none memory (NoRun arg) is = absurd is
+of_losses_fault Holds known maps args g bad unopened line none memory NoShard is = absurd is
+of_losses_fault Holds known maps args g bad unopened line none memory (PayloadLost number) is = absurd is
+of_losses_fault Holds known maps args g bad unopened line none memory (Output written) is = absurd is
+of_losses_fault Holds known maps args g bad unopened line none memory OutOfMemory is = memory
 
 -- what holds for each fault of loading a raw image holds for the one that it has
 pub of_raw_fault : (Holds : Fault → Type 0) (known : KnownRaw) (g : Sizes) → (IsRawFault known g TooLong → Holds TooLong) → Holds OutOfMemory →
@@ -98,24 +98,24 @@ of_raw_fault Holds known g long memory (Output written) is = absurd is
 of_raw_fault Holds known g long memory OutOfMemory is = memory
 
 -- an argument that names no page is a fault of what is lost
-pub bad_page_fault : (maps : KnownMaps) (args : ImageArgs) (g : Sizes) (fault : Fault) →
-    IsBadPageFault g args.bad_pages.items fault → IsLossesFault maps args g fault
-bad_page_fault maps args g fault = of_bad_page (IsLossesFault maps args g) g args.bad_pages.items (λ arg is. is) tt fault
+pub bad_page_fault : (known : KnownRaw) (maps : KnownMaps) (args : ImageArgs) (g : Sizes) (fault : Fault) →
+    IsBadPageFault g args.bad_pages.items fault → IsLossesFault known maps args g fault
+bad_page_fault known maps args g fault = of_bad_page (IsLossesFault known maps args g) g args.bad_pages.items (λ arg is. is) tt fault
 
 -- so is that the map or the image isn't opened
-pub opening_fault : (maps : KnownMaps) (args : ImageArgs) (g : Sizes) (pages : List (ℕ × ℕ)) (fault : Fault) →
+pub opening_fault : (known : KnownRaw) (maps : KnownMaps) (args : ImageArgs) (g : Sizes) (pages : List (ℕ × ℕ)) (fault : Fault) →
     (args.sizes ≡ None → ⊥) →
-    NamePages g args.bad_pages.items pages → IsOpeningFault maps args.map args.name fault → IsLossesFault maps args g fault
-opening_fault maps args g pages fault given named =
-    of_opening_fault (IsLossesFault maps args g) maps args.map args.name (λ name why. (given, (pages, named, why)))
+    NamePages g args.bad_pages.items pages → IsOpeningFault known maps args.map args.name fault → IsLossesFault known maps args g fault
+opening_fault known maps args g pages fault given named =
+    of_opening_fault (IsLossesFault known maps args g) known maps args.map args.name (λ name why. (given, (pages, named, why)))
     (λ k why. (given, (pages, named, why)))
-    (λ image why. (given, record { pages = pages; named = named; blocks = why.0; mapped = why.1 }, why.2)) tt fault
+    (λ image why. (given, record { pages = pages; named = named; blocks = why.0; mapped = why.1 }, why.2, why.3)) tt fault
 
 -- each of them is a fault of loading
 pub losses_fault : (known : KnownRaw) (maps : KnownMaps) (args : ImageArgs) (g : Sizes) (fault : Fault) →
-    IsLossesFault maps args g fault → IsDiskFault known maps args g fault
+    IsLossesFault known maps args g fault → IsDiskFault known maps args g fault
 losses_fault known maps args g fault =
-    of_losses_fault (IsDiskFault known maps args g) maps args g (λ arg is. is) (λ name is. is) (λ k is. is) (λ name is. is) tt fault
+    of_losses_fault (IsDiskFault known maps args g) known maps args g (λ arg is. is) (λ name is. is) (λ k is. is) (λ name is. is) tt fault
 
 -- so is a fault of the image
 pub raw_fault : (known : KnownRaw) (maps : KnownMaps) (args : ImageArgs) (g : Sizes) (fault : Fault) → AreReadBefore maps args g →

@@ -80,7 +80,7 @@ disk_fault_with : (known : KnownRaw) (maps : KnownMaps) (args : ImageArgs) (s : 
     IsDiskFault known maps args g fault → IsDiskFault known maps (with_sizes args s) g fault
 disk_fault_with known maps args s g fault =
     of_disk_fault (λ (f : Fault). IsDiskFault known maps (with_sizes args s) g f) known maps args g (λ arg is. is) (λ name is. (given_now, is.1))
-    (λ k is. (given_now, is.1)) (λ name is. (given_now, before_with maps args s g is.1, is.2))
+    (λ k is. (given_now, is.1)) (λ name is. (given_now, before_with maps args s g is.1, is.2, is.3))
     (λ is. (before_with maps args s g is.0, is.1)) tt fault
   where
     given_now : Some s ≡ None → ⊥

@@ -35,40 +35,40 @@ of_map_fault Holds maps named unopened line memory (Output written) is = absurd 
 of_map_fault Holds maps named unopened line memory OutOfMemory is = memory
 
 -- a fault of the map is one of opening
-pub map_fault_opening : (maps : KnownMaps) (named : Option (Bor (List ℕ))) (name : Bor (List ℕ)) (fault : Fault) →
-    IsMapFault maps named fault → IsOpeningFault maps named name fault
-map_fault_opening maps named name fault =
-    of_map_fault (IsOpeningFault maps named name) maps named (λ map is. is) (λ k is. is) tt fault
+pub map_fault_opening : (known : KnownRaw) (maps : KnownMaps) (named : Option (Bor (List ℕ))) (name : Bor (List ℕ)) (fault : Fault) →
+    IsMapFault maps named fault → IsOpeningFault known maps named name fault
+map_fault_opening known maps named name fault =
+    of_map_fault (IsOpeningFault known maps named name) maps named (λ map is. is) (λ k is. is) tt fault
 
 -- what holds for each fault of opening holds for the one that there is
-pub of_opening_fault : (Holds : Fault → Type 0) (maps : KnownMaps) (named : Option (Bor (List ℕ))) (name : Bor (List ℕ)) →
-    ((map : Bor (List ℕ)) → IsOpeningFault maps named name (NoMap map) → Holds (NoMap map)) →
-    ((k : ℕ) → IsOpeningFault maps named name (MapLine k) → Holds (MapLine k)) →
-    ((image : Bor (List ℕ)) → IsOpeningFault maps named name (NoImage image) → Holds (NoImage image)) → Holds OutOfMemory →
-    (fault : Fault) → IsOpeningFault maps named name fault → Holds fault
-of_opening_fault Holds maps named name unopened line none memory NotUtf8 is = absurd is
-of_opening_fault Holds maps named name unopened line none memory (Help text) is = absurd is
-of_opening_fault Holds maps named name unopened line none memory (Args text) is = absurd is
-of_opening_fault Holds maps named name unopened line none memory (Geometry fault) is = absurd is
-of_opening_fault Holds maps named name unopened line none memory NoSizes is = absurd is
-of_opening_fault Holds maps named name unopened line none memory UncertainSizes is = absurd is
-of_opening_fault Holds maps named name unopened line none memory Extent is = absurd is
-of_opening_fault Holds maps named name unopened line none memory (BadShard text) is = absurd is
-of_opening_fault Holds maps named name unopened line none memory Pointer is = absurd is
-of_opening_fault Holds maps named name unopened line none memory (BadRun arg) is = absurd is
-of_opening_fault Holds maps named name unopened line none memory (BadPage arg) is = absurd is
-of_opening_fault Holds maps named name unopened line none memory (NoMap map) is = unopened map is
-of_opening_fault Holds maps named name unopened line none memory (MapLine k) is = line k is
-of_opening_fault Holds maps named name unopened line none memory (NoImage image) is = none image is
-of_opening_fault Holds maps named name unopened line none memory TooLong is = absurd is
-of_opening_fault Holds maps named name unopened line none memory (NoRun arg) is = absurd is
-of_opening_fault Holds maps named name unopened line none memory NoShard is = absurd is
-of_opening_fault Holds maps named name unopened line none memory (PayloadLost number) is = absurd is
-of_opening_fault Holds maps named name unopened line none memory (Output written) is = absurd is
-of_opening_fault Holds maps named name unopened line none memory OutOfMemory is = memory
+pub of_opening_fault : (Holds : Fault → Type 0) (known : KnownRaw) (maps : KnownMaps) (named : Option (Bor (List ℕ))) (name : Bor (List ℕ)) →
+    ((map : Bor (List ℕ)) → IsOpeningFault known maps named name (NoMap map) → Holds (NoMap map)) →
+    ((k : ℕ) → IsOpeningFault known maps named name (MapLine k) → Holds (MapLine k)) →
+    ((image : Bor (List ℕ)) → IsOpeningFault known maps named name (NoImage image) → Holds (NoImage image)) → Holds OutOfMemory →
+    (fault : Fault) → IsOpeningFault known maps named name fault → Holds fault
+of_opening_fault Holds known maps named name unopened line none memory NotUtf8 is = absurd is
+of_opening_fault Holds known maps named name unopened line none memory (Help text) is = absurd is
+of_opening_fault Holds known maps named name unopened line none memory (Args text) is = absurd is
+of_opening_fault Holds known maps named name unopened line none memory (Geometry fault) is = absurd is
+of_opening_fault Holds known maps named name unopened line none memory NoSizes is = absurd is
+of_opening_fault Holds known maps named name unopened line none memory UncertainSizes is = absurd is
+of_opening_fault Holds known maps named name unopened line none memory Extent is = absurd is
+of_opening_fault Holds known maps named name unopened line none memory (BadShard text) is = absurd is
+of_opening_fault Holds known maps named name unopened line none memory Pointer is = absurd is
+of_opening_fault Holds known maps named name unopened line none memory (BadRun arg) is = absurd is
+of_opening_fault Holds known maps named name unopened line none memory (BadPage arg) is = absurd is
+of_opening_fault Holds known maps named name unopened line none memory (NoMap map) is = unopened map is
+of_opening_fault Holds known maps named name unopened line none memory (MapLine k) is = line k is
+of_opening_fault Holds known maps named name unopened line none memory (NoImage image) is = none image is
+of_opening_fault Holds known maps named name unopened line none memory TooLong is = absurd is
+of_opening_fault Holds known maps named name unopened line none memory (NoRun arg) is = absurd is
+of_opening_fault Holds known maps named name unopened line none memory NoShard is = absurd is
+of_opening_fault Holds known maps named name unopened line none memory (PayloadLost number) is = absurd is
+of_opening_fault Holds known maps named name unopened line none memory (Output written) is = absurd is
+of_opening_fault Holds known maps named name unopened line none memory OutOfMemory is = memory
 
 -- each of them is one of finding the sizes
 pub opening_fault_found : (known : KnownRaw) (maps : KnownMaps) (named : Option (Bor (List ℕ))) (name : Bor (List ℕ)) (fault : Fault) →
-    IsOpeningFault maps named name fault → IsFoundFault known maps named name fault
+    IsOpeningFault known maps named name fault → IsFoundFault known maps named name fault
 opening_fault_found known maps named name fault =
-    of_opening_fault (IsFoundFault known maps named name) maps named name (λ map is. is) (λ k is. is) (λ image is. is) tt fault
+    of_opening_fault (IsFoundFault known maps named name) known maps named name (λ map is. is) (λ k is. is) (λ image is. is) tt fault

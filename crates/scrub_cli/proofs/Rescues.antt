@@ -1,5 +1,5 @@
 -- Pages and blocks that are lost because a map lacks a byte of them.
-use Rattle.std.proofs.Common.{◌≡◌, ◌<◌, ◌≤◌, ◌+◌, ◌*◌, ℕ, List, Bool, true, false, Option, None, Some, length, get_or, arith, ap, refl, ◌∙◌}
+use Rattle.std.proofs.Common.{◌≡◌, ◌<◌, ◌≤◌, ◌+◌, ◌*◌, ℕ, List, Bool, true, false, Option, None, Some, length, get_or, arith, ap, refl, sym, ◌∙◌, subst, inl, inr}
 use Rattle.std.specs.Int.{div_ceil}
 use Rattle.std.proofs.Math.Nat.{mul-le-mul_right}
 use Rattle.std.proofs.lemmas.Bool.{cases_lt}
@@ -58,7 +58,10 @@ pub loses_pages : (marks lost : List Bool) (blocks : List MapBlock) (before imag
     size ≡ before.geometry.page → end ≡ disk_bytes before.geometry → AreLostBlocks blocks size end lost →
     MarksLost marks (length marks) before image → LosesPages blocks before image
 loses_pages marks lost blocks before image size end same size_is end_is are marked =
-    let known : AreLostBlocks blocks before.geometry.page (disk_bytes before.geometry) marks = rw (same, ← size_is, ← end_is) are in
+    let known : AreLostBlocks blocks before.geometry.page (disk_bytes before.geometry) marks =
+    subst (λ (ms : List Bool). AreLostBlocks blocks before.geometry.page (disk_bytes before.geometry) ms) (sym same)
+    (subst (λ (n : ℕ). AreLostBlocks blocks n (disk_bytes before.geometry) lost) size_is
+    (subst (λ (n : ℕ). AreLostBlocks blocks size n lost) end_is are)) in
     let many : length marks ≡ before.geometry.pages * before.geometry.extents =
     page_blocks before.geometry before.geometry.page (disk_bytes before.geometry) (length marks) refl refl known.one_each in
     let number_below : (e q : ℕ) → e < before.geometry.extents → q < before.geometry.pages → page_number before.geometry e q < length marks =

@@ -1,5 +1,5 @@
 -- What the command `compare` answers for two image files, and why it doesn't.
-use Rattle.std.specs.Prelude.{◌≡◌, ◌<◌, ◌⊎◌, ℕ, List, Bool, Option, IfSome, length}
+use Rattle.std.specs.Prelude.{◌≡◌, ◌<◌, ◌⊎◌, ℕ, List, Bool, Option, IfSome, IsTrue, length}
 use Rattle.scrub_disk.specs.declared.geometry.Geometry.{Geometry as Sizes}
 use Rattle.scrub_disk.specs.Image.{Image, disk_bytes}
 use Rattle.scrub_map.specs.declared.block.MapBlock.{MapBlock}
@@ -69,7 +69,7 @@ pub record IsEarlierLoaded (known : List ℕ → KnownRaw) (maps : KnownMaps) (a
 abbrev pub IsCompareFault : (List ℕ → KnownRaw) → KnownMaps → CompareArgs → Fault → Type 0
 IsCompareFault known maps args (NoImage name) =
     IsManifestFault (known args.before.scan.image.name.now) maps args.before (NoImage name)
-    ⊎ ((g : Sizes) × IsEarlierLoaded known maps args g × (name ≡ args.after))
+    ⊎ ((g : Sizes) × IsEarlierLoaded known maps args g × (name ≡ args.after) × IsTrue (known args.after.now).fails_to_open)
 IsCompareFault known maps args TooLong =
     IsManifestFault (known args.before.scan.image.name.now) maps args.before TooLong
     ⊎ ((g : Sizes) × IsEarlierLoaded known maps args g × IfSome (known args.after.now).bytes (λ bytes. disk_bytes g < length bytes))

@@ -39,7 +39,7 @@ AreSizesFoundBy known map g = (blocks : Option (List MapBlock)) → KeepsMap map
 abbrev pub IsFoundFault : KnownRaw → KnownMaps → Option (Bor (List ℕ)) → Bor (List ℕ) → Fault → Type 0
 IsFoundFault known maps named name NoSizes = AreSizesFound known maps named NotFound
 IsFoundFault known maps named name UncertainSizes = AreSizesFound known maps named Uncertain
-IsFoundFault known maps named name fault = IsOpeningFault maps named name fault
+IsFoundFault known maps named name fault = IsOpeningFault known maps named name fault
 
 -- why sizes that are given are refused: the first limit that they break
 abbrev pub IsGivenFault : GivenSizes → Fault → Type 0

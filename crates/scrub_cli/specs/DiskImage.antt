@@ -1,6 +1,6 @@
 -- The disk that the arguments name: the pages that they give as unreadable, the image that is loaded, without what its map
 -- lacks, and why none is.
-use Rattle.std.specs.Prelude.{◌≡◌, ◌<◌, ℕ, List, length, take, slice_index_or, Option, None, IfSome}
+use Rattle.std.specs.Prelude.{◌≡◌, ◌<◌, ℕ, List, length, take, slice_index_or, Option, None, IfSome, IsTrue}
 use Rattle.std.specs.Borrow.{Bor}
 use Rattle.std.specs.List.{AllZip}
 use Rattle.scrub_disk.specs.declared.geometry.Geometry.{Geometry as Sizes}
@@ -71,14 +71,19 @@ abbrev pub IsMapFaultBehind : KnownMaps → ImageArgs → Sizes → Fault → Ty
 IsMapFaultBehind maps args g fault =
     (pages : List (ℕ × ℕ)) × NamePages g args.bad_pages.items pages × IsMapFault maps args.map fault
 
--- why no disk of these sizes is loaded: a page argument, then the map, then the image, each only if nothing before it
--- failed; or memory ran out, anywhere. If the sizes are left out, map and image are open by then
+-- why what is lost isn't known, or the image isn't opened: a page argument, then the map, then the image, each only if nothing
+-- before it failed; or memory ran out, anywhere. If the sizes are left out, map and image are open by then
+abbrev pub IsLossesFault : KnownRaw → KnownMaps → ImageArgs → Sizes → Fault → Type 0
+IsLossesFault known maps args g (NoMap name) = ¬ (args.sizes ≡ None) × IsMapFaultBehind maps args g (NoMap name)
+IsLossesFault known maps args g (MapLine k) = ¬ (args.sizes ≡ None) × IsMapFaultBehind maps args g (MapLine k)
+IsLossesFault known maps args g (NoImage name) =
+    ¬ (args.sizes ≡ None) × AreReadBefore maps args g × (name ≡ args.name) × IsTrue known.fails_to_open
+IsLossesFault known maps args g fault = IsBadPageFault g args.bad_pages.items fault
+
+-- why no disk of these sizes is loaded: one of these faults; or else the image is too long
 abbrev pub IsDiskFault : KnownRaw → KnownMaps → ImageArgs → Sizes → Fault → Type 0
-IsDiskFault known maps args g (NoMap name) = ¬ (args.sizes ≡ None) × IsMapFaultBehind maps args g (NoMap name)
-IsDiskFault known maps args g (MapLine k) = ¬ (args.sizes ≡ None) × IsMapFaultBehind maps args g (MapLine k)
-IsDiskFault known maps args g (NoImage name) = ¬ (args.sizes ≡ None) × AreReadBefore maps args g × (name ≡ args.name)
 IsDiskFault known maps args g TooLong = AreReadBefore maps args g × IfSome known.bytes (λ bytes. disk_bytes g < length bytes)
-IsDiskFault known maps args g fault = IsBadPageFault g args.bad_pages.items fault
+IsDiskFault known maps args g fault = IsLossesFault known maps args g fault
 
 -- ---- in two steps
 
@@ -97,13 +102,6 @@ pub record IsLoadedInBy (wanted : ℕ → Type 0) (known : KnownRaw) (g : Sizes)
 -- an image that was loaded so, with all its extents
 abbrev pub IsLoadedBy : KnownRaw → Sizes → List (ℕ × ℕ) → Option (List MapBlock) → Image → Type 0
 IsLoadedBy = IsLoadedInBy every_extent
-
--- why what is lost isn't known, or the image isn't opened: a page argument, then the map, then the image; or memory ran out
-abbrev pub IsLossesFault : KnownMaps → ImageArgs → Sizes → Fault → Type 0
-IsLossesFault maps args g (NoMap name) = ¬ (args.sizes ≡ None) × IsMapFaultBehind maps args g (NoMap name)
-IsLossesFault maps args g (MapLine k) = ¬ (args.sizes ≡ None) × IsMapFaultBehind maps args g (MapLine k)
-IsLossesFault maps args g (NoImage name) = ¬ (args.sizes ≡ None) × AreReadBefore maps args g × (name ≡ args.name)
-IsLossesFault maps args g fault = IsBadPageFault g args.bad_pages.items fault
 
 -- why a raw image of which this is known isn't loaded: it is too long, or memory ran out
 abbrev pub IsRawFault : KnownRaw → Sizes → Fault → Type 0

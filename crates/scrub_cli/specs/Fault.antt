@@ -1,5 +1,5 @@
 -- The program's fault for the fault of a call; the status and the text of each.
-use Rattle.std.specs.Prelude.{◌≡◌, ◌++◌, ◌∷◌, [], ℕ, List, codes}
+use Rattle.std.specs.Prelude.{◌≡◌, ◌++◌, ◌∷◌, [], ℕ, Bool, List, codes}
 use Rattle.std.specs.Fmt.{decimal}
 use Rattle.scrub_listings.specs.Manifest.{two_digits}
 use Rattle.scrub_disk.specs.declared.geometry.GeometryFault.TheVariants.{PageSize, Pages, Extents, ExtentBytes, TotalBytes}
@@ -11,8 +11,7 @@ use Rattle.scrub_args.specs.declared.args.ArgsFault.{ArgsFault}
 use Rattle.scrub_args.specs.declared.args.ArgsFault.TheVariants.{Refused, Help as help, OutOfMemory as no_memory_to_read}
 use Rattle.scrub_cli.specs.declared.process.fault.Fault.{Fault}
 use Rattle.scrub_cli.specs.declared.process.fault.Fault.TheVariants.{NotUtf8, Help, Args, Geometry, NoSizes, UncertainSizes, Extent, BadShard, Pointer, BadRun, BadPage, NoMap, MapLine, NoImage, TooLong, NoRun, NoShard, PayloadLost, Output, OutOfMemory}
-use Rattle.scrub_report.specs.Output.{AppendsFront}
-use Rattle.scrub_cli.specs.Streams.{Held}
+use Rattle.scrub_cli.specs.Streams.{Gets, Held}
 
 -- the fault of the program for a fault of loading
 abbrev pub fault_of_load : LoadFault → Fault
@@ -87,8 +86,8 @@ text_of (PayloadLost number) = line (codes "payload lost: " ++ two_digits number
 text_of (Output written) = line (codes "output failed after " ++ decimal written ++ codes " bytes")
 text_of OutOfMemory = line (codes "out of memory")
 
--- the run ended with the fault's status, and its error stream got the fault's text, or the beginning of it if that
--- stream failed
-pub record IsReported (fault : Fault) (ended : ℕ) (err : Held) : Type 0 where
+-- the run ended with the fault's status, and its error stream got the fault's text, or the beginning of it if it isn't said
+-- that all was told
+pub record IsReported (fault : Fault) (ended : ℕ) (told : Bool) (err : Held) : Type 0 where
   pub status : ended ≡ status_of fault
-  pub text : AppendsFront err.0 err.1 (text_of fault)
+  pub text : Gets told err (text_of fault)

@@ -1,12 +1,11 @@
 -- How a run ends that wrote a whole answer: its exit status, and what it reports on the error stream.
 use Rattle.std.specs.Prelude.{◌≡◌, ◌<◌, ◌++◌, [], Bool, true, false, ℕ, List, length}
-use Rattle.std.specs.Io.KnownBytes.{Appends, Keeps}
-use Rattle.scrub_report.specs.Output.{AppendsFront}
+use Rattle.std.specs.Io.KnownBytes.{Keeps}
 use Rattle.scrub_cli.specs.declared.process.outcome.Outcome.{Outcome}
 use Rattle.scrub_cli.specs.declared.process.outcome.Outcome.TheVariants.{Clean, Findings, Warned, Remarked}
 use Rattle.scrub_cli.specs.declared.process.fault.Fault.TheVariants.{Output}
 use Rattle.scrub_cli.specs.Fault.{status_of, text_of}
-use Rattle.scrub_cli.specs.Streams.{Held}
+use Rattle.scrub_cli.specs.Streams.{Gets, Held}
 
 -- the outcome of what is clean, or has findings
 abbrev pub outcome_of : Bool → Outcome
@@ -32,19 +31,13 @@ status_of_outcome Findings = 1
 status_of_outcome (Warned lines) = 1
 status_of_outcome (Remarked lines) = 1
 
--- after its answer a run reports its lines, or the beginning of them if the error stream failed; or it leaves that stream as it was
-abbrev pub Warns : Outcome → Held → Type 0
-Warns Clean err = Keeps err.0 err.1
-Warns Findings err = Keeps err.0 err.1
-Warns (Warned lines) err = AppendsFront err.0 err.1 lines.items
-Warns (Remarked lines) err = AppendsFront err.0 err.1 lines.items
-
--- it reports the whole of that
-abbrev pub WarnsWhole : Outcome → Held → Type 0
-WarnsWhole Clean err = Keeps err.0 err.1
-WarnsWhole Findings err = Keeps err.0 err.1
-WarnsWhole (Warned lines) err = Appends err.0 err.1 lines.items
-WarnsWhole (Remarked lines) err = Appends err.0 err.1 lines.items
+-- after its answer a run reports its lines, or the beginning of them if it isn't said that all was told; or it leaves the error
+-- stream as it was
+abbrev pub Warns : Outcome → Bool → Held → Type 0
+Warns Clean told err = Keeps err.0 err.1
+Warns Findings told err = Keeps err.0 err.1
+Warns (Warned lines) told err = Gets told err lines.items
+Warns (Remarked lines) told err = Gets told err lines.items
 
 -- the lines that a run reports even if its output fails, before that
 abbrev pub lines_before : Outcome → List ℕ
@@ -52,7 +45,7 @@ lines_before (Remarked lines) = lines.items
 lines_before outcome = []
 
 -- the run ended with the status of an output that failed after this many bytes, and its error stream got these lines and then the
--- text of that, or the beginning of both if that stream failed
-pub record IsReportedBehind (lines : List ℕ) (count ended : ℕ) (err : Held) : Type 0 where
+-- text of that, or the beginning of both if it isn't said that all was told
+pub record IsReportedBehind (lines : List ℕ) (count ended : ℕ) (told : Bool) (err : Held) : Type 0 where
   pub status : ended ≡ status_of (Output count)
-  pub text : AppendsFront err.0 err.1 (lines ++ text_of (Output count))
+  pub text : Gets told err (lines ++ text_of (Output count))

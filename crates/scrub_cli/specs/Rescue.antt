@@ -1,5 +1,5 @@
 -- The map of the rescue that made an image: what is read of a map that is named, and the pages that are lost by it.
-use Rattle.std.specs.Prelude.{◌≡◌, ◌<◌, ◌≤◌, ◌↔◌, ℕ, List, Bool, true, false, Option, None, Some, IfSome}
+use Rattle.std.specs.Prelude.{◌≡◌, ◌<◌, ◌≤◌, ◌↔◌, ℕ, List, Bool, true, false, Option, None, Some, IfSome, IsTrue}
 use Rattle.std.specs.Borrow.{Bor}
 use Rattle.scrub_disk.specs.BytesAndMarks.{page_number}
 use Rattle.scrub_disk.specs.Image.{Image, disk_bytes}
@@ -29,7 +29,7 @@ abbrev pub AreBlocksOf : KnownMaps → Option (Bor (List ℕ)) → Option (List 
 AreBlocksOf maps None None = Unit {0}
 AreBlocksOf maps None (Some blocks) = ⊥
 AreBlocksOf maps (Some name) None = ⊥
-AreBlocksOf maps (Some name) (Some blocks) = HasBlocks (maps name.now) blocks
+AreBlocksOf maps (Some name) (Some blocks) = HasBlocks (maps name.now).text blocks
 
 -- what is kept of a map lacks just the bytes that these blocks don't cover, and nothing is kept if none is named
 abbrev pub KeepsMap : Option RescueMap → Option (List MapBlock) → Type 0
@@ -44,12 +44,12 @@ pub record IsMapNamed (maps : KnownMaps) (named : Option (Bor (List ℕ))) (map 
   pub are : AreBlocksOf maps named blocks
   pub keeps : KeepsMap map blocks
 
--- why the map that is named isn't read: it can't be opened, of which nothing here decides; this line of its text is the
--- first that breaks the rules; or memory ran out
+-- why the map that is named isn't read: it can't be opened, which it may fail to be; this line of its text is the first
+-- that breaks the rules; or memory ran out
 abbrev pub IsMapFault : KnownMaps → Option (Bor (List ℕ)) → Fault → Type 0
-IsMapFault maps named (NoMap name) = named ≡ Some name
+IsMapFault maps named (NoMap name) = (named ≡ Some name) × IsTrue (maps name.now).fails_to_open
 IsMapFault maps named (MapLine k) =
-    (name : Bor (List ℕ)) × (text : List ℕ) × (named ≡ Some name) × IsTextOf (maps name.now) text × IsFirstBadLine text k
+    (name : Bor (List ℕ)) × (text : List ℕ) × (named ≡ Some name) × IsTextOf (maps name.now).text text × IsFirstBadLine text k
 IsMapFault maps named OutOfMemory = Unit {0}
 IsMapFault maps named fault = ⊥
 

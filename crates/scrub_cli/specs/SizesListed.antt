@@ -35,5 +35,5 @@ pub record IsSizesAnswer (known : KnownRaw) (maps : KnownMaps) (args : SizesArgs
   pub listed : AreSizesListed known blocks text outcome
 
 -- why `sizes` gives no listing: the map and the image aren't opened, or memory ran out; no image is too long
-abbrev pub IsSizesFault : KnownMaps → SizesArgs → Fault → Type 0
-IsSizesFault maps args fault = IsOpeningFault maps args.map args.name fault
+abbrev pub IsSizesFault : KnownRaw → KnownMaps → SizesArgs → Fault → Type 0
+IsSizesFault known maps args fault = IsOpeningFault known maps args.map args.name fault

@@ -2,7 +2,7 @@
 //! arguments, the files and the streams of the system.
 #![tactic(auto)]
 
-ghost use Rattle.std.specs.Prelude.{◌≡◌, ◌⊎◌, IfErr, MatchResult, drop, map};
+ghost use Rattle.std.specs.Prelude.{◌≡◌, ◌⊎◌, Bool, IfErr, MatchResult, drop, map};
 ghost use Rattle.std.specs.Process.{exit_status};
 ghost use Rattle.scrub_cli.specs.Answer.{RunWrites, WritesNone};
 ghost use Rattle.scrub_cli.specs.KnownFiles.{image_file, map_file};
@@ -60,12 +60,12 @@ fn run_process<R: Files<File = File> + AllocGlobal + Threads + Wait + Sync, O: W
         (λ all. RunWrites (λ _. image_file) map_file (map (λ arg. arg.bytes.items) (drop 1 all.items))
         (exit_status result)
         (O.contents out.old, O.contents out.new) (E.contents err.old, E.contents err.new))
-        (λ fault. WritesNone fault (exit_status result)
+        (λ fault. (told : Bool) × WritesNone fault (exit_status result) told
         (O.contents out.old, O.contents out.new) (E.contents err.old, E.contents err.new)) }
 {
     let status = match args {
         Ok(args) => run_args(rt, without_program_name(&args), out, err),
-        Err(fault) => fault.end(err),
+        Err(fault) => fault.end(err).0,
     };
     ExitCode::from(status)
 }
@@ -89,6 +89,6 @@ fn run_args<R: Files<File = File> + AllocGlobal + Threads + Wait + Sync, O: Writ
             let mut files = NamedFiles { runtime: rt };
             run(rt, rt.alloc(), args.as_slice(), &mut files, out, err)
         }
-        Err(OutOfMemory) => Fault::OutOfMemory.end(err),
+        Err(OutOfMemory) => Fault::OutOfMemory.end(err).0,
     }
 }

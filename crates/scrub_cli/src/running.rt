@@ -1,7 +1,7 @@
 //! A whole run: it parses the arguments, makes the answer, writes it and returns the status.
 
-ghost use Rattle.std.specs.Prelude.{MatchResult};
-ghost use Rattle.scrub_cli.specs.Answer.{IsAnswerOfRun, IsFault, RunWrites, WritesAnswer};
+ghost use Rattle.std.specs.Prelude.{MatchResult, is_ok};
+ghost use Rattle.scrub_cli.specs.Answer.{IsAnswerOfRun, IsFault, RunTells, RunWrites, WritesAnswer};
 ghost use Rattle.scrub_args.specs.Args.{texts};
 
 use crate::commands::answer::{Answer, version};
@@ -16,7 +16,7 @@ use crate::commands::sizes::sizes;
 use crate::process::fault::Fault;
 use crate::process::images::Images;
 use scrub_args::{Request, read_args};
-use scrub_report::write_out;
+use scrub_report::{WriteFault, write_out};
 use std::alloc::Global;
 use std::io::Write;
 use std::sync::Wait;
@@ -50,18 +50,36 @@ fn answer<'a, R: Threads + Wait + Sync, I: Images>(
     }
 }
 
-/// Writes the answer, and returns the status of the run.
-fn write_answer<O: Write, E: Write>(answer: &Answer, out: &mut O, err: &mut E) -> u8
-    ensures { WritesAnswer answer.now.text.items answer.now.outcome result
+/// Writes the answer, and returns what `Fault::end` does.
+fn write_answer<O: Write, E: Write>(
+    answer: &Answer,
+    out: &mut O,
+    err: &mut E,
+) -> (u8, Result<(), WriteFault>)
+    ensures { WritesAnswer answer.now.text.items answer.now.outcome result.0 (is_ok result.1)
         (O.contents out.old, O.contents out.new) (E.contents err.old, E.contents err.new) }
 {
     match write_out(out, &answer.text) {
-        Ok(()) => {
-            // If the error stream failed, there is nowhere left to report that.
-            let _ = answer.outcome.warn(err);
-            answer.outcome.status()
-        }
+        Ok(()) => (answer.outcome.status(), answer.outcome.warn(err)),
         Err(fault) => answer.outcome.end_output(fault.written, err),
+    }
+}
+
+/// Does what `run` does, and returns what `Fault::end` does.
+fn run_telling<R: Threads + Wait + Sync, I: Images, O: Write, E: Write>(
+    rt: &R,
+    alloc: Global,
+    args: &[&str],
+    images: &mut I,
+    out: &mut O,
+    err: &mut E,
+) -> (u8, Result<(), WriteFault>)
+    ensures { RunTells (I.known images.old) (I.known_map images.old) (texts args.entry.now) result.0
+        (is_ok result.1) (O.contents out.old, O.contents out.new) (E.contents err.old, E.contents err.new) }
+{
+    match answer(rt, alloc, args, images) {
+        Ok(answer) => write_answer(&answer, out, err),
+        Err(fault) => fault.end(err),
     }
 }
 
@@ -83,8 +101,6 @@ pub fn run<R: Threads + Wait + Sync, I: Images, O: Write, E: Write>(
     ensures { RunWrites (I.known images.old) (I.known_map images.old) (texts args.entry.now) result
         (O.contents out.old, O.contents out.new) (E.contents err.old, E.contents err.new) }
 {
-    match answer(rt, alloc, args, images) {
-        Ok(answer) => write_answer(&answer, out, err),
-        Err(fault) => fault.end(err),
-    }
+    // If the error stream failed, there is nowhere left to report that.
+    run_telling(rt, alloc, args, images, out, err).0
 }

@@ -1,5 +1,5 @@
 -- An image without doubts that can't be accepted is safe with itself: there is no line of any kind.
-use Rattle.std.proofs.Common.{◌≡◌, ◌<◌, ◌+◌, ◌++◌, ◌∷◌, ◌==◌, ◌&&◌, ◌||◌, [], ℕ, Bool, true, false, not, max, is_none, List, Option, Some, None, length, get_or, codes, arith, refl, sym, ◌∙◌, ap, subst, if◌then◌else◌}
+use Rattle.std.proofs.Common.{◌≡◌, ◌+◌, ◌++◌, ◌∷◌, ◌==◌, ◌&&◌, ◌||◌, [], ℕ, Bool, true, false, not, max, is_none, List, Option, Some, None, length, get_or, codes, arith, refl, sym, ◌∙◌, ap, subst, if◌then◌else◌}
 use Rattle.std.specs.Prelude.{nat_lt, option_map}
 use Rattle.std.specs.Fmt.{decimal}
 use Rattle.std.specs.List.{All, enumerate_from, flat_map, range_with_len}

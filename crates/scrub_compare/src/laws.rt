@@ -13,10 +13,10 @@ ghost use Rattle.scrub_compare.specs.Laws.{IsSafe, IsSameButMore, IsUndone, Keep
 ghost use Rattle.scrub_compare.specs.Laws.{NoneIsCrowded, NonePointsInto};
 
 /// A law: if what was written between two images is safe, nothing that is named is lost. Take an image that
-/// differs from the later one only in this: the extents to be reset have any write pointers and any bytes, and
-/// the generation and the bytes of extent 0 may be others. All its index runs are read. Its manifest is that
-/// of the earlier image, except that fewer runs may be hidden, and last words may have risen (from `none`
-/// over `loose` to `spare`): a locator that dangles may have got a better copy, and has lost none.
+/// differs from the later one only in this: the extents to be reset have any write pointers and any bytes,
+/// and the generation and the bytes of extent 0 may be others. All its index runs are read. Its manifest is
+/// that of the earlier image, except that fewer runs may be hidden, and last words may have risen (from
+/// `none` over `loose` to `spare`): a locator that dangles may have got a better copy, and has lost none.
 pub fn nothing_is_lost()
     ensures { (resets : List ℕ) (before after other : Image) (a b : List ℕ) (v w : Bool) →
         IsSafe resets before after → IsAfterReset resets after other → IsManifest before a v →

@@ -79,7 +79,14 @@ const ROWS: [(&str, usize, usize, (u64, u64), &[(u32, u32)], (u64, u64)); 10] = 
     ),
     ("one byte at a time", 768, 1, (0, 0), &[], (769, 0)),
     ("a failed page", 768, 64, (4, 1), &[(1, 0)], (13, 1)),
-    ("a failed read of all pages", 768, 4096, (0, 1), &[], (14, 1)),
+    (
+        "a failed read of all pages",
+        768,
+        4096,
+        (0, 1),
+        &[],
+        (14, 1),
+    ),
     ("a failed byte", 768, 1, (319, 1), &[(1, 0)], (769, 1)),
     ("each read fails", 769, 4096, (0, u64::MAX), ALL, (14, 14)),
 ];

@@ -6,7 +6,6 @@ use Rattle.std.specs.Option.{option_and_then}
 use Rattle.std.proofs.lemmas.Bool.{and_parts, eq-eqb, eqb-true, false≢true}
 use Rattle.std.proofs.lemmas.Option.{same_Some}
 use Rattle.std.proofs.lemmas.List.Elements.{All-contains, All-contains_itself}
-use Rattle.std.proofs.lemmas.List.Sums.{AllPass-from_list_all}
 use Rattle.list_facts.proofs.Elements.{Contains-behind, Contains-cases, Contains-from_map, Contains-map}
 use Rattle.list_facts.proofs.Bools.{false_from_not}
 use Rattle.scrub_disk.specs.declared.geometry.Geometry.{Geometry}

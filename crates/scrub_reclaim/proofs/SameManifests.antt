@@ -1,6 +1,6 @@
 -- A manifest rests on the superblock that counts, but for its generation, and on the bytes below the write pointers of the
 -- extents in use; its last words on all bytes of these.
-use Rattle.std.proofs.Common.{◌≡◌, ◌≢◌, ◌<◌, ◌≤◌, ◌-◌, ◌==◌, ◌&&◌, ℕ, zero, suc, not, Bool, true, false, Some, List, [], MatchBool, MatchOption, get_or, length, if◌then◌else◌, arith, refl, sym, ◌∙◌, ap, subst}
+use Rattle.std.proofs.Common.{◌≡◌, ◌≢◌, ◌≤◌, ◌-◌, ◌==◌, ◌&&◌, ℕ, zero, suc, not, Bool, true, false, Some, List, [], MatchBool, MatchOption, get_or, length, if◌then◌else◌, arith, refl, sym, ◌∙◌, ap, subst}
 use Rattle.std.specs.Bool.{⊤}
 use Rattle.std.proofs.Math.Path.{fun_ext}
 use Rattle.std.specs.List.{All, AllZip, Contains, filter}
@@ -16,7 +16,6 @@ use Rattle.scrub_scan.specs.declared.standing.Standing.{Standing}
 use Rattle.scrub_scan.specs.AllFindings.{extent_numbers}
 use Rattle.scrub_scan.specs.Scanned.{Scanned}
 use Rattle.scrub_check.specs.declared.statuses.checked.Checked.{Checked}
-use Rattle.scrub_check.specs.declared.statuses.status.Status.{Status}
 use Rattle.scrub_check.specs.declared.statuses.status.Status.TheVariants.{OutOfRange, Sound}
 use Rattle.scrub_check.specs.Spares.{asks_for_spares, is_copy_of, spares_by, spares_of}
 use Rattle.scrub_check.specs.Status.{HasStatus, HasStatusIn, HasStatusInRetired, is_retired}
@@ -33,7 +32,7 @@ use Rattle.scrub_reclaim.proofs.LooseFrames.{carried_over}
 use Rattle.scrub_reclaim.proofs.Reset.{plan_found, plan_in, same_text, same_verdict}
 use Rattle.scrub_reclaim.proofs.ResetForms.{IsAlikeIn, along, same_after, same_form, same_frames}
 use Rattle.scrub_reclaim.proofs.RisenTexts.{last_words_alone}
-use Rattle.scrub_reclaim.proofs.SameExtents.{AreAlike, IsScannedBy, IsTheSame, alike_back, alike_items, carries, carries_in_retired, in_disk, same_numbers, scanned_by, scans_alike}
+use Rattle.scrub_reclaim.proofs.SameExtents.{AreAlike, IsScannedBy, IsTheSame, alike_back, alike_items, carries, carries_in_retired, in_disk, same_numbers, scanned_by}
 
 -- ---- the extents in use
 

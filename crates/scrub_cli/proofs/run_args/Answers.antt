@@ -1,5 +1,5 @@
 -- The run gets the given arguments.
-use Rattle.std.proofs.Common.{◌≡◌, inr, map, rules}
+use Rattle.std.proofs.Common.{◌≡◌, inr, is_ok, map, rules}
 use Rattle.std.proofs.lemmas.Iterator.{YieldsList-from_map_by, YieldsList-from_slice}
 use Rattle.std.proofs.lemmas.Iterator.Consumers.{map_from_collect}
 use Rattle.scrub_cli.specs.declared.process.fault.Fault.TheVariants.{OutOfMemory}
@@ -16,11 +16,14 @@ returns-in-Ok g c =
     rw same at c.run.ensures
 
 pub returns-in-Err : goal.returns-in-Err
-returns-in-Err g c = inr (
-  OutOfMemory,
-  tt,
-  record {
-    kept = Keeps-refl (g.O.Write.contents c.args.out.now);
-    reported = c.end.ensures;
-  },
+returns-in-Err g c = (
+  is_ok c.end.result.1,
+  inr (
+    OutOfMemory,
+    tt,
+    record {
+      kept = Keeps-refl (g.O.Write.contents c.args.out.now);
+      reported = c.end.ensures;
+    },
+  ),
 )

@@ -1,7 +1,7 @@
 //! The answer of a command: its text and its outcome, for one extent, a whole disk or a raw image. For
 //! loading the disk see `disk_image`, and for writing the answer `running`.
 
-ghost use Rattle.std.specs.Prelude.{◌≡◌, ◌≤◌, ◌<◌, IfOk, true};
+ghost use Rattle.std.specs.Prelude.{◌≡◌, ◌≤◌, ◌<◌, IfOk, List, Option, true};
 ghost use Rattle.std.specs.List.{list_all};
 ghost use Rattle.std.specs.List.Sorted.{IsStrictlyIncreasing};
 ghost use Rattle.scrub_map.specs.declared.block.MapBlock.{MapBlock};

@@ -102,7 +102,7 @@ pub fn losses_of<'a, I: Images>(
         (λ o. AreSizesFoundBy (I.known images.old args.now.name.now) o.map geometry) }
     ensures losses { MatchResult result
         (λ r. AreLossesKept (I.known_map images.old) args.now geometry r.0)
-        (IsLossesFault (I.known_map images.old) args.now geometry) }
+        (IsLossesFault (I.known images.old args.now.name.now) (I.known_map images.old) args.now geometry) }
     ensures raw { IfOk result (λ r.
         IsKnownAs I.Image.bytes I.Image.fails I.Image.most_failures I.Image.reads
         (I.known images.old args.now.name.now) r.1) }

@@ -40,7 +40,8 @@ fn found_geometry<'a, I: Images>(
 {
     let mut opened = open(alloc, map, name, images)?;
     let front = front_of(alloc, &mut opened.raw, &opened.map)?;
-    match find_sizes(alloc, &front)? {
+    let found = find_sizes(alloc, &front)?;
+    match found {
         SizesFound::Certain(geometry) => Ok((geometry, opened)),
         SizesFound::Uncertain => Err(Fault::UncertainSizes),
         SizesFound::NotFound => Err(Fault::NoSizes),

@@ -32,7 +32,7 @@ pub fn open<'a, I: Images>(
 ) -> Result<Opened<I::Image>, Fault<'a>>
     ensures map { MatchResult result
         (λ o. IsMapNamed (I.known_map images.old) map.entry o.map)
-        (IsOpeningFault (I.known_map images.old) map.entry name.entry) }
+        (IsOpeningFault (I.known images.old name.entry.now) (I.known_map images.old) map.entry name.entry) }
     ensures raw { IfOk result (λ o.
         IsKnownAs I.Image.bytes I.Image.fails I.Image.most_failures I.Image.reads
         (I.known images.old name.entry.now) o.raw) }
@@ -60,7 +60,8 @@ pub fn open_unless_opened<'a, I: Images>(
         (I.known images.old args.now.name.now) o.raw) }
     ensures map { MatchResult result
         (λ o. IsMapNamed (I.known_map images.old) args.now.map o.map)
-        (IsOpeningFault (I.known_map images.old) args.now.map args.now.name) }
+        (IsOpeningFault (I.known images.old args.now.name.now) (I.known_map images.old) args.now.map
+        args.now.name) }
     ensures raw { IfOk result (λ o.
         IsKnownAs I.Image.bytes I.Image.fails I.Image.most_failures I.Image.reads
         (I.known images.old args.now.name.now) o.raw) }

@@ -21,7 +21,7 @@ pub fn sizes<'a, I: Images>(
     ensures { MatchResult result
         (λ a. IsSizesAnswer (I.known images.old args.now.name.now) (I.known_map images.old) args.now
         a.text.items a.outcome)
-        (IsSizesFault (I.known_map images.old) args.now) }
+        (IsSizesFault (I.known images.old args.now.name.now) (I.known_map images.old) args.now) }
 {
     let mut opened = open(alloc, args.map, args.name, images)?;
     let front = front_of(alloc, &mut opened.raw, &opened.map)?;

@@ -1,7 +1,7 @@
 //! Why a run ends without a whole answer: the status and the line on the error stream for each reason, in one
 //! place.
 
-ghost use Rattle.std.specs.Prelude.{◌≡◌, ◌++◌, OnOk, codes};
+ghost use Rattle.std.specs.Prelude.{◌≡◌, ◌++◌, OnOk, codes, is_ok};
 ghost use Rattle.std.specs.Fmt.{decimal};
 ghost use Rattle.std.specs.Io.KnownBytes.{Appends};
 ghost use Rattle.scrub_cli.specs.declared.process.fault.Fault.TheVariants.{Geometry, OutOfMemory};
@@ -203,13 +203,12 @@ impl Fault<'_> {
         }
     }
 
-    /// Reports the fault on the error stream, and returns the exit status. If the error stream fails, there
-    /// is nowhere left to report that.
-    pub fn end<E: Write>(&self, err: &mut E) -> u8
-        ensures { IsReported self.now result (E.contents err.old, E.contents err.new) }
+    /// Reports the fault on the error stream, and returns the exit status, and a fault of that stream, if it
+    /// didn't take the whole text.
+    pub fn end<E: Write>(&self, err: &mut E) -> (u8, Result<(), WriteFault>)
+        ensures { IsReported self.now result.0 (is_ok result.1) (E.contents err.old, E.contents err.new) }
     {
-        let _ = self.write_to(err);
-        self.status()
+        (self.status(), self.write_to(err))
     }
 }
 

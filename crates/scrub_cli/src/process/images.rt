@@ -1,7 +1,8 @@
 //! Where raw images and the maps of rescues come from, by name. For the pages of an image see `scrub_disk`,
 //! and for the lines of a map `scrub_map`.
 
-ghost use Rattle.std.specs.Prelude.{◌≡◌, ◌≤◌, ◌<◌, ◌^◌, ℕ, All, List, IfOk, IfSome, sum_by, vec_len};
+ghost use Rattle.std.specs.Prelude.{◌≡◌, ◌≤◌, ◌<◌, ◌^◌, ℕ, All, Err, List, IfNone, IfOk, IfSome, IsTrue};
+ghost use Rattle.std.specs.Prelude.{sum_by, vec_len};
 ghost use Rattle.scrub_cli.specs.KnownFiles.{KnownMaps, KnownRaw};
 
 use scrub_disk::{OutOfMemory, RawImage};
@@ -18,7 +19,8 @@ pub enum MapReadFault {
 
 /// Raw images and maps by name. Contracts see what is known of them before they are opened: of an image its
 /// bytes, if they are known, which of its reads may fail, and how many fail at most; of a map its text, if
-/// that is known. Of files neither bytes nor text are known, and each read may fail.
+/// that is known; and of each whether it may fail to open. Of files neither bytes nor text are known, each
+/// may fail to open, and so may each read.
 pub trait Images {
     type Image: RawImage + Send + Drop;
 
@@ -33,6 +35,7 @@ pub trait Images {
         ensures bounded { IfSome result (λ image. Self.Image.most_failures image ≡
             (known self.old name.now).most_failures) }
         ensures unread { IfSome result (λ image. Self.Image.reads image ≡ 0) }
+        ensures unopened { IfNone result (IsTrue (known self.old name.now).fails_to_open) }
         ensures same_images { known self.new ≡ known self.old }
         ensures same_maps { known_map self.new ≡ known_map self.old };
 
@@ -64,13 +67,12 @@ pub trait Images {
         Ok(readers)
     }
 
-    /// The whole text of the map of this name. Here no map can be opened.
-    fn map(&mut self, _alloc: Global, _name: &str) -> Result<Vec<u8>, MapReadFault>
-        ensures known { IfOk result (λ text. IfSome (known_map self.old _name.now)
+    /// The whole text of the map of this name.
+    fn map(&mut self, alloc: Global, name: &str) -> Result<Vec<u8>, MapReadFault>
+        ensures known { IfOk result (λ text. IfSome (known_map self.old name.now).text
             (λ bytes. text.items ≡ bytes)) }
+        ensures unopened { result ≡ Err MapReadFault.NotOpened →
+            IsTrue (known_map self.old name.now).fails_to_open }
         ensures same_images { known self.new ≡ known self.old }
-        ensures same_maps { known_map self.new ≡ known_map self.old }
-    {
-        Err(MapReadFault::NotOpened)
-    }
+        ensures same_maps { known_map self.new ≡ known_map self.old };
 }

@@ -1,9 +1,9 @@
 //! How a run ends that wrote a whole answer: the status, and what it reports on the error stream. For a run
 //! without one see `fault`.
 
-ghost use Rattle.std.specs.Prelude.{◌≡◌, OnOk};
+ghost use Rattle.std.specs.Prelude.{◌≡◌, OnOk, false, is_ok, true};
 ghost use Rattle.scrub_cli.specs.Outcome.{IsWarnedOutcome, IsOutcomeWith, IsReportedBehind, Warns};
-ghost use Rattle.scrub_cli.specs.Outcome.{WarnsWhole, lines_before, outcome_of, status_of_outcome};
+ghost use Rattle.scrub_cli.specs.Outcome.{lines_before, outcome_of, status_of_outcome};
 
 use crate::process::fault::Fault;
 use scrub_report::{WriteFault, write_out};
@@ -68,8 +68,8 @@ impl Outcome {
 
     /// Reports the outcome's lines on the error stream. A fault says that the error stream failed.
     pub fn warn<E: Write>(&self, err: &mut E) -> Result<(), WriteFault>
-        ensures front { Warns self.now (E.contents err.old, E.contents err.new) }
-        ensures whole { OnOk result (WarnsWhole self.now (E.contents err.old, E.contents err.new)) }
+        ensures front { Warns self.now false (E.contents err.old, E.contents err.new) }
+        ensures whole { OnOk result (Warns self.now true (E.contents err.old, E.contents err.new)) }
     {
         match self {
             Outcome::Clean | Outcome::Findings => Ok(()),
@@ -87,15 +87,16 @@ impl Outcome {
         }
     }
 
-    /// Reports that the output failed after this many bytes, behind these lines, and returns the exit status.
-    pub fn end_output<E: Write>(&self, written: usize, err: &mut E) -> u8
-        ensures { IsReportedBehind (lines_before self.now) written result
+    /// Reports that the output failed after this many bytes, behind these lines. It returns what `Fault::end`
+    /// does.
+    pub fn end_output<E: Write>(&self, written: usize, err: &mut E) -> (u8, Result<(), WriteFault>)
+        ensures { IsReportedBehind (lines_before self.now) written result.0 (is_ok result.1)
             (E.contents err.old, E.contents err.new) }
     {
         let fault = Fault::Output { written };
         match write_out(err, self.lines_before()) {
             Ok(()) => fault.end(err),
-            Err(_) => fault.status(),
+            Err(of_lines) => (fault.status(), Err(of_lines)),
         }
     }
 }

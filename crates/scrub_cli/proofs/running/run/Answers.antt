@@ -1,14 +1,6 @@
--- A fault is reported, and nothing is written to the output.
-use Rattle.std.proofs.Common.{inr}
-use Rattle.std.proofs.KnownBytes.{Keeps-refl}
+-- The status is that of the run, whether or not all was told.
+use Rattle.std.proofs.Common.{is_ok}
 use Rattle.scrub_cli.proofs.running.run.Goals as goal
 
-pub returns-in-Err : goal.returns-in-Err
-returns-in-Err g c = inr (
-  c.in-Err.fault,
-  c.in-Err.ensures,
-  record {
-    kept = Keeps-refl (g.O.Write.contents c.args.out.now);
-    reported = c.end.ensures;
-  },
-)
+pub returns : goal.returns
+returns g c = (is_ok c.run_telling.result.1, c.run_telling.ensures)

@@ -31,7 +31,8 @@ returns-in_err-losses-clause-answer g c =
     } in
     let p = err_from_is_err_and c.from_residual-in_err-losses.result c.from_residual-in_err-losses.ensures.1 in
     rw (p.1, p.2)
-    (compare_losses_fault known maps args c.requires.no_runs sizes places c.in_err-losses.field-0.0 (rw c.geometry_of.ensures.same_maps at c.in_err-losses.ensures.losses))
+    (compare_losses_fault known maps args c.requires.no_runs sizes places c.in_err-losses.field-0.0
+    (rw (c.geometry_of.ensures.same_images, c.geometry_of.ensures.same_maps) at c.in_err-losses.ensures.losses))
 
 pub load_raw-requires-clause-pages : goal.load_raw-requires-clause-pages
 load_raw-requires-clause-pages g c =
@@ -77,7 +78,12 @@ returns-in_default-clause-answer g c =
       image = image_of c.in_ok-before.before;
       loaded = one;
     } in
-    inr (sizes, earlier, refl)
+    inr (
+      sizes,
+      earlier,
+      refl,
+      rw (c.load_raw.ensures.same_images, c.losses_of.ensures.same_images, c.geometry_of.ensures.same_images) at c.in_default.ensures.unopened,
+    )
 
 pub load_raw-requires-2-clause-pages : goal.load_raw-requires-2-clause-pages
 load_raw-requires-2-clause-pages g c =

@@ -9,7 +9,7 @@ pub returns-in_err-pages-clause-losses : goal.returns-in_err-pages-clause-losses
 returns-in_err-pages-clause-losses g c =
     let p = err_from_is_err_and c.from_residual.result c.from_residual.ensures.1 in
     rw (p.1, p.2)
-    (bad_page_fault (g.I.Images.known_map c.args.images.now) c.args.args.now c.args.geometry c.in_err-pages.field-0.0
+    (bad_page_fault (g.I.Images.known c.args.images.now c.args.args.now.name.now) (g.I.Images.known_map c.args.images.now) c.args.args.now c.args.geometry c.in_err-pages.field-0.0
     (rw c.deref.ensures.value at c.in_err-pages.ensures))
 
 -- the map or the image wasn't opened
@@ -17,7 +17,7 @@ pub returns-in_err-opened-clause-losses : goal.returns-in_err-opened-clause-loss
 returns-in_err-opened-clause-losses g c =
     let p = err_from_is_err_and c.from_residual-in_err-opened.result c.from_residual-in_err-opened.ensures.1 in
     rw (p.1, p.2)
-    (opening_fault (g.I.Images.known_map c.args.images.now) c.args.args.now c.args.geometry c.in_ok-pages.pages.items
+    (opening_fault (g.I.Images.known c.args.images.now c.args.args.now.name.now) (g.I.Images.known_map c.args.images.now) c.args.args.now c.args.geometry c.in_ok-pages.pages.items
     c.in_err-opened.field-0.0 (rw c.in_err-opened.ensures.not_again at c.requires.found) (rw c.deref.ensures.value at c.in_ok-pages.ensures) c.in_err-opened.ensures.map)
 
 pub returns-clause-found : goal.returns-clause-found

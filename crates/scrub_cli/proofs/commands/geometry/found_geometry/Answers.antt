@@ -20,16 +20,16 @@ returns-in-Certain-clause-geometry g c =
       mapped = map.are;
       sizes =
           rw (← c.in-Certain.is)
-          (sizes_by_front known map.blocks c.in_ok-front.front c.in_ok-find_sizes.field-0
-          (c.in_ok-front.ensures.front known c.in_ok-opened.ensures.raw map.blocks map.keeps) c.in_ok-find_sizes.ensures);
+          (sizes_by_front known map.blocks c.in_ok-front.front c.in_ok-found.found
+          (c.in_ok-front.ensures.front known c.in_ok-opened.ensures.raw map.blocks map.keeps) c.in_ok-found.ensures);
     }
 
 pub returns-in-Certain-clause-found : goal.returns-in-Certain-clause-found
 returns-in-Certain-clause-found g c =
     let known = g.I.Images.known c.args.images.now c.args.name.now in
     rw (c.open.ensures.same_images, ← c.in-Certain.is)
-    (λ blocks keeps. sizes_by_front known blocks c.in_ok-front.front c.in_ok-find_sizes.field-0
-    (c.in_ok-front.ensures.front known c.in_ok-opened.ensures.raw blocks keeps) c.in_ok-find_sizes.ensures)
+    (λ blocks keeps. sizes_by_front known blocks c.in_ok-front.front c.in_ok-found.found
+    (c.in_ok-front.ensures.front known c.in_ok-opened.ensures.raw blocks keeps) c.in_ok-found.ensures)
 
 pub returns-in-Uncertain-clause-geometry : goal.returns-in-Uncertain-clause-geometry
 returns-in-Uncertain-clause-geometry g c =
@@ -40,12 +40,12 @@ returns-in-Uncertain-clause-geometry g c =
       mapped = map.are;
       sizes =
           rw (← c.in-Uncertain.is)
-          (sizes_by_front known map.blocks c.in_ok-front.front c.in_ok-find_sizes.field-0
-          (c.in_ok-front.ensures.front known c.in_ok-opened.ensures.raw map.blocks map.keeps) c.in_ok-find_sizes.ensures);
+          (sizes_by_front known map.blocks c.in_ok-front.front c.in_ok-found.found
+          (c.in_ok-front.ensures.front known c.in_ok-opened.ensures.raw map.blocks map.keeps) c.in_ok-found.ensures);
     }
 
-pub returns-in-NotFound-clause-geometry : goal.returns-in-NotFound-clause-geometry
-returns-in-NotFound-clause-geometry g c =
+pub returns-clause-geometry : goal.returns-clause-geometry
+returns-clause-geometry g c =
     let map = c.in_ok-opened.ensures.map in
     let known = g.I.Images.known c.args.images.now c.args.name.now in
     record {
@@ -53,6 +53,6 @@ returns-in-NotFound-clause-geometry g c =
       mapped = map.are;
       sizes =
           rw (← c.in-NotFound.is)
-          (sizes_by_front known map.blocks c.in_ok-front.front c.in_ok-find_sizes.field-0
-          (c.in_ok-front.ensures.front known c.in_ok-opened.ensures.raw map.blocks map.keeps) c.in_ok-find_sizes.ensures);
+          (sizes_by_front known map.blocks c.in_ok-front.front c.in_ok-found.found
+          (c.in_ok-front.ensures.front known c.in_ok-opened.ensures.raw map.blocks map.keeps) c.in_ok-found.ensures);
     }

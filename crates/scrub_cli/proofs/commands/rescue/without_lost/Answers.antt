@@ -1,5 +1,5 @@
 -- There is one mark for each page, and each marked page is unreadable.
-use Rattle.std.proofs.Common.{◌≡◌, ◌∙◌, ap, ◌*◌, length}
+use Rattle.std.proofs.Common.{rules, ◌≡◌, ◌∙◌, ap, ◌*◌, length}
 use Rattle.scrub_disk.specs.Image.{disk_bytes}
 use Rattle.scrub_cli.proofs.Rescues.{loses_pages, page_blocks}
 use Rattle.scrub_cli.proofs.commands.rescue.without_lost.Goals as goal
@@ -11,9 +11,12 @@ mark_lost-requires g c =
     ap (λ n. n * c.extents.result) c.extent_bytes.ensures
     ∙ ap (λ n. c.geometry-geometry.result.page * c.geometry-geometry.result.pages * n) c.extents.ensures
     ∙ ap disk_bytes c.geometry-geometry.ensures in
-    page_blocks sizes c.page.result (c.extent_bytes.result * c.extents.result) (length c.deref.result.now)
-    (c.page.ensures ∙ ap (λ x. x.page) c.geometry-geometry.ensures) end
-    (ap length c.deref.ensures.value ∙ c.in_ok-lost.ensures.one_each)
+    (
+      search rules,
+      page_blocks sizes c.page.result (c.extent_bytes.result * c.extents.result) (length c.deref.result.now)
+          (c.page.ensures ∙ ap (λ x. x.page) c.geometry-geometry.ensures) end
+          (ap length c.deref.ensures.value ∙ c.in_ok-lost.ensures.one_each),
+    )
 
 pub returns : goal.returns
 returns g c = λ blocks keeps.
