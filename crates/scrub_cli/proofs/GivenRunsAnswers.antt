@@ -1,4 +1,4 @@
--- The index runs that arguments give, from what the parts find, and why there are none.
+-- The index runs that arguments give, from what the parts find.
 use Rattle.std.proofs.Common.{◌≡◌, ◌==◌, ◌<◌, ◌≤◌, ◌+◌, ◌∙◌, ◌++◌, ◌∷◌, [], ℕ, zero, suc, Bool, true, false, List, All, length, take, get_or, arith, ap, refl, sym, subst}
 use Rattle.std.specs.Prelude.{if◌then◌else◌, slice_index_or}
 use Rattle.std.specs.Borrow.{Bor}
@@ -15,12 +15,9 @@ use Rattle.scrub_frame.specs.declared.locator.Locator.{Locator}
 use Rattle.scrub_frame.specs.Locator.{IsLocator}
 use Rattle.scrub_loose.specs.Outer.{IsRunThere}
 use Rattle.scrub_args.specs.declared.args.ImageArgs.{ImageArgs}
-use Rattle.scrub_cli.specs.declared.process.fault.Fault.{Fault}
-use Rattle.scrub_cli.specs.declared.process.fault.Fault.TheVariants.{NotUtf8, Help, Args, Geometry, NoSizes, UncertainSizes, Extent, BadShard, Pointer, BadRun, BadPage, NoMap, MapLine, NoImage, TooLong, NoRun, NoShard, PayloadLost, Output, OutOfMemory}
-use Rattle.scrub_cli.specs.DiskImage.{IsDiskFault, IsLoadedDisk}
-use Rattle.scrub_cli.specs.GivenRuns.{AreRunsAt, EachNamesRun, GiveRuns, IsBadRunFault, IsFirstNoRun, IsNoRunFault, IsRunsFault, NameRuns, NamesRunPlace, is_of_place, once, with_one}
+use Rattle.scrub_cli.specs.DiskImage.{IsLoadedDisk}
+use Rattle.scrub_cli.specs.GivenRuns.{AreRunsAt, GiveRuns, IsFirstNoRun, NameRuns, NamesRunPlace, is_of_place, once, with_one}
 use Rattle.scrub_cli.specs.KnownFiles.{KnownMaps, KnownRaw}
-use Rattle.scrub_cli.proofs.DiskAnswers.{of_disk_fault}
 use Rattle.scrub_cli.proofs.Rescues.{lost_geometry}
 
 -- ---- places
@@ -123,102 +120,3 @@ no_run_there image args places count runs arg at named below stands first none =
 pub loaded_geometry : (known : KnownRaw) (maps : KnownMaps) (args : ImageArgs) (g : Sizes) (image : Image) → IsLoadedDisk known maps args g image →
     image.geometry ≡ g
 loaded_geometry known maps args g image x = lost_geometry x.blocks x.before image x.rescued ∙ x.loaded.geometry
-
--- what holds for each fault of loading a disk with the runs that arguments give holds for the one that there is
-pub of_runs_fault : (Holds : Fault → Type 0) (known : KnownRaw) (maps : KnownMaps) (args : ImageArgs) (words : List (Bor (List ℕ))) (g : Sizes) →
-    ((arg : Bor (List ℕ)) → IsRunsFault known maps args words g (BadRun arg) → Holds (BadRun arg)) →
-    ((arg : Bor (List ℕ)) → IsRunsFault known maps args words g (BadPage arg) → Holds (BadPage arg)) →
-    ((name : Bor (List ℕ)) → IsRunsFault known maps args words g (NoMap name) → Holds (NoMap name)) →
-    ((k : ℕ) → IsRunsFault known maps args words g (MapLine k) → Holds (MapLine k)) →
-    ((name : Bor (List ℕ)) → IsRunsFault known maps args words g (NoImage name) → Holds (NoImage name)) →
-    (IsRunsFault known maps args words g TooLong → Holds TooLong) →
-    ((arg : Bor (List ℕ)) → IsRunsFault known maps args words g (NoRun arg) → Holds (NoRun arg)) → Holds OutOfMemory →
-    (fault : Fault) → IsRunsFault known maps args words g fault → Holds fault
-of_runs_fault Holds known maps args words g no_place bad unopened line none long no_run memory NotUtf8 is = absurd is.1
-of_runs_fault Holds known maps args words g no_place bad unopened line none long no_run memory (Help text) is = absurd is.1
-of_runs_fault Holds known maps args words g no_place bad unopened line none long no_run memory (Args text) is = absurd is.1
-of_runs_fault Holds known maps args words g no_place bad unopened line none long no_run memory (Geometry fault) is = absurd is.1
-of_runs_fault Holds known maps args words g no_place bad unopened line none long no_run memory NoSizes is = absurd is.1
-of_runs_fault Holds known maps args words g no_place bad unopened line none long no_run memory UncertainSizes is = absurd is.1
-of_runs_fault Holds known maps args words g no_place bad unopened line none long no_run memory Extent is = absurd is.1
-of_runs_fault Holds known maps args words g no_place bad unopened line none long no_run memory (BadShard text) is = absurd is.1
-of_runs_fault Holds known maps args words g no_place bad unopened line none long no_run memory Pointer is = absurd is.1
-of_runs_fault Holds known maps args words g no_place bad unopened line none long no_run memory (BadRun arg) is = no_place arg is
-of_runs_fault Holds known maps args words g no_place bad unopened line none long no_run memory (BadPage arg) is = bad arg is
-of_runs_fault Holds known maps args words g no_place bad unopened line none long no_run memory (NoMap name) is = unopened name is
-of_runs_fault Holds known maps args words g no_place bad unopened line none long no_run memory (MapLine k) is = line k is
-of_runs_fault Holds known maps args words g no_place bad unopened line none long no_run memory (NoImage name) is = none name is
-of_runs_fault Holds known maps args words g no_place bad unopened line none long no_run memory TooLong is = long is
-of_runs_fault Holds known maps args words g no_place bad unopened line none long no_run memory (NoRun arg) is = no_run arg is
-of_runs_fault Holds known maps args words g no_place bad unopened line none long no_run memory NoShard is = absurd is.1
-of_runs_fault Holds known maps args words g no_place bad unopened line none long no_run memory (PayloadLost number) is = absurd is.1
-of_runs_fault Holds known maps args words g no_place bad unopened line none long no_run memory (Output written) is = absurd is.1
-of_runs_fault Holds known maps args words g no_place bad unopened line none long no_run memory OutOfMemory is = memory
-
--- what holds for each fault of the places that arguments name holds for the one that they have
-pub of_bad_run : (Holds : Fault → Type 0) (g : Sizes) (args : List (Bor (List ℕ))) →
-    ((arg : Bor (List ℕ)) → IsBadRunFault g args (BadRun arg) → Holds (BadRun arg)) → Holds OutOfMemory →
-    (fault : Fault) → IsBadRunFault g args fault → Holds fault
-of_bad_run Holds g args bad memory NotUtf8 is = absurd is
-of_bad_run Holds g args bad memory (Help text) is = absurd is
-of_bad_run Holds g args bad memory (Args text) is = absurd is
-of_bad_run Holds g args bad memory (Geometry fault) is = absurd is
-of_bad_run Holds g args bad memory NoSizes is = absurd is
-of_bad_run Holds g args bad memory UncertainSizes is = absurd is
-of_bad_run Holds g args bad memory Extent is = absurd is
-of_bad_run Holds g args bad memory (BadShard text) is = absurd is
-of_bad_run Holds g args bad memory Pointer is = absurd is
-of_bad_run Holds g args bad memory (BadRun arg) is = bad arg is
-of_bad_run Holds g args bad memory (BadPage arg) is = absurd is
-of_bad_run Holds g args bad memory (NoMap name) is = absurd is
-of_bad_run Holds g args bad memory (MapLine k) is = absurd is
-of_bad_run Holds g args bad memory (NoImage name) is = absurd is
-of_bad_run Holds g args bad memory TooLong is = absurd is
-of_bad_run Holds g args bad memory (NoRun arg) is = absurd is
-of_bad_run Holds g args bad memory NoShard is = absurd is
-of_bad_run Holds g args bad memory (PayloadLost number) is = absurd is
-of_bad_run Holds g args bad memory (Output written) is = absurd is
-of_bad_run Holds g args bad memory OutOfMemory is = memory
-
--- what holds for each fault of the runs at the places that arguments name holds for the one that there is
-pub of_no_run : (Holds : Fault → Type 0) (image : Image) (args : List (Bor (List ℕ))) →
-    ((arg : Bor (List ℕ)) → IsNoRunFault image args (NoRun arg) → Holds (NoRun arg)) → Holds OutOfMemory →
-    (fault : Fault) → IsNoRunFault image args fault → Holds fault
-of_no_run Holds image args lacks memory NotUtf8 is = absurd is
-of_no_run Holds image args lacks memory (Help text) is = absurd is
-of_no_run Holds image args lacks memory (Args text) is = absurd is
-of_no_run Holds image args lacks memory (Geometry fault) is = absurd is
-of_no_run Holds image args lacks memory NoSizes is = absurd is
-of_no_run Holds image args lacks memory UncertainSizes is = absurd is
-of_no_run Holds image args lacks memory Extent is = absurd is
-of_no_run Holds image args lacks memory (BadShard text) is = absurd is
-of_no_run Holds image args lacks memory Pointer is = absurd is
-of_no_run Holds image args lacks memory (BadRun arg) is = absurd is
-of_no_run Holds image args lacks memory (BadPage arg) is = absurd is
-of_no_run Holds image args lacks memory (NoMap name) is = absurd is
-of_no_run Holds image args lacks memory (MapLine k) is = absurd is
-of_no_run Holds image args lacks memory (NoImage name) is = absurd is
-of_no_run Holds image args lacks memory TooLong is = absurd is
-of_no_run Holds image args lacks memory (NoRun arg) is = lacks arg is
-of_no_run Holds image args lacks memory NoShard is = absurd is
-of_no_run Holds image args lacks memory (PayloadLost number) is = absurd is
-of_no_run Holds image args lacks memory (Output written) is = absurd is
-of_no_run Holds image args lacks memory OutOfMemory is = memory
-
--- an argument that names no place is a fault of both
-pub bad_run_fault : (known : KnownRaw) (maps : KnownMaps) (args : ImageArgs) (words : List (Bor (List ℕ))) (g : Sizes) (fault : Fault) →
-    IsBadRunFault g words fault → IsRunsFault known maps args words g fault
-bad_run_fault known maps args words g fault = of_bad_run (IsRunsFault known maps args words g) g words (λ arg is. is) tt fault
-
--- so is a fault of the disk
-pub runs_disk_fault : (known : KnownRaw) (maps : KnownMaps) (args : ImageArgs) (words : List (Bor (List ℕ))) (g : Sizes) (fault : Fault) →
-    EachNamesRun g words → IsDiskFault known maps args g fault → IsRunsFault known maps args words g fault
-runs_disk_fault known maps args words g fault each =
-    of_disk_fault (IsRunsFault known maps args words g) known maps args g (λ arg is. (each, is)) (λ name is. (each, is)) (λ k is. (each, is))
-    (λ name is. (each, is)) (λ is. (each, is)) tt fault
-
--- so is a place without a run
-pub no_run_fault : (known : KnownRaw) (maps : KnownMaps) (args : ImageArgs) (words : List (Bor (List ℕ))) (g : Sizes) (image : Image) (fault : Fault) →
-    IsLoadedDisk known maps args g image → IsNoRunFault image words fault → IsRunsFault known maps args words g fault
-no_run_fault known maps args words g image fault loaded =
-    of_no_run (IsRunsFault known maps args words g) image words (λ arg is. (image, loaded, is)) tt fault

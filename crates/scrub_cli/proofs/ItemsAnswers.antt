@@ -3,17 +3,14 @@ use Rattle.std.proofs.Common.{◌≡◌, ◌<◌, ◌≤◌, ◌∙◌, ap, inl,
 use Rattle.scrub_disk.specs.declared.geometry.Geometry.{Geometry as Sizes}
 use Rattle.scrub_disk.specs.Image.{Image, extent_bytes}
 use Rattle.scrub_scan.specs.Extent.{extent_of}
-use Rattle.scrub_cli.specs.declared.process.fault.Fault.{Fault}
 use Rattle.scrub_cli.specs.declared.process.fault.Fault.TheVariants.{Pointer}
 use Rattle.scrub_cli.specs.declared.process.outcome.Outcome.{Outcome}
 use Rattle.scrub_args.specs.declared.args.ItemsArgs.{ItemsArgs}
-use Rattle.scrub_cli.specs.DiskImage.{IsDiskFault, IsLoadedDiskIn}
+use Rattle.scrub_cli.specs.DiskImage.{IsLoadedDiskIn}
 use Rattle.scrub_cli.specs.Items.{given_pointer, AreInDisk, IsItemsAnswer, IsItemsFault}
-use Rattle.scrub_cli.specs.DiskGeometry.{IsGeometryFault, IsGeometryOf}
+use Rattle.scrub_cli.specs.DiskGeometry.{IsGeometryOf}
 use Rattle.scrub_cli.specs.KnownFiles.{KnownMaps, KnownRaw}
 use Rattle.scrub_cli.specs.Lines.{IsListing}
-use Rattle.scrub_cli.proofs.DiskAnswers.{of_disk_fault}
-use Rattle.scrub_cli.proofs.ScanAnswers.{of_geometry_fault}
 
 -- what is known if the sizes, the extent and the pointer aren't refused; an extent has `size` bytes
 pub placed : (known : KnownRaw) (maps : KnownMaps) (args : ItemsArgs) (g : Sizes) (pointer size limit : ℕ) →
@@ -34,23 +31,7 @@ pub pointer_fault : (known : KnownRaw) (maps : KnownMaps) (args : ItemsArgs) (g 
     IsItemsFault known maps args Pointer
 pointer_fault known maps args g pointer size limit sizes in_disk is size_is limit_is past =
     let pointer_is : pointer ≡ given_pointer args g = is ∙ ap (unwrap_or args.pointer) size_is in
-    (g, sizes, in_disk, rw (← pointer_is) (rw limit_is at past))
-
--- a fault of the image is one of `items`
-pub items_disk_fault : (known : KnownRaw) (maps : KnownMaps) (args : ItemsArgs) (g : Sizes) (fault : Fault) →
-    AreInDisk known maps args g →
-    IsDiskFault known maps args.image g fault → IsItemsFault known maps args fault
-items_disk_fault known maps args g fault places =
-    of_disk_fault (IsItemsFault known maps args) known maps args.image g (λ arg is. (g, places, is))
-    (λ name is. inr (g, places, is))
-    (λ k is. inr (g, places, is)) (λ name is. inr (g, places, is)) (λ is. (g, places, is)) tt fault
-
--- so is a fault of the sizes
-pub items_geometry_fault : (known : KnownRaw) (maps : KnownMaps) (args : ItemsArgs) (fault : Fault) →
-    IsGeometryFault known maps args.image fault → IsItemsFault known maps args fault
-items_geometry_fault known maps args fault =
-    of_geometry_fault (IsItemsFault known maps args) known maps args.image (λ limit is. is) (λ is. is) (λ is. is) (λ name is. inl is)
-    (λ k is. inl is) (λ name is. inl is) tt fault
+    inr (inr (g, sizes, inl (in_disk, rw (← pointer_is) (rw limit_is at past))))
 
 -- The listing of the extent under the pointer, in the image that was loaded, is the answer of `items`.
 pub items_answer : (known : KnownRaw) (maps : KnownMaps) (args : ItemsArgs) (g : Sizes) (image : Image) (pointer : ℕ)

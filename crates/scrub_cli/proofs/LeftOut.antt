@@ -7,6 +7,7 @@ use Rattle.scrub_disk.specs.Faults.{HasSizes}
 use Rattle.scrub_disk.specs.Image.{Image}
 use Rattle.scrub_frame.specs.declared.locator.Locator.{Locator}
 use Rattle.scrub_listings.specs.declared.sizes_listing.SizesFound.TheVariants.{Certain}
+use Rattle.scrub_run.specs.declared.shard_id.ShardId.{ShardId}
 use Rattle.scrub_args.specs.declared.args.GivenSizes.{GivenSizes}
 use Rattle.scrub_args.specs.declared.args.ImageArgs.{ImageArgs}
 use Rattle.scrub_args.specs.declared.args.ItemsArgs.{ItemsArgs}
@@ -16,20 +17,18 @@ use Rattle.scrub_args.specs.declared.args.ShardArgs.{ShardArgs}
 use Rattle.scrub_args.specs.declared.args.ShardsArgs.{ShardsArgs}
 use Rattle.scrub_shard.specs.declared.shard.ShardAnswer.{ShardAnswer}
 use Rattle.scrub_cli.specs.declared.process.fault.Fault.{Fault}
-use Rattle.scrub_cli.specs.declared.process.fault.Fault.TheVariants.{NotUtf8, Help, Args, Geometry, NoSizes, UncertainSizes, Extent, BadShard, Pointer, BadRun, BadPage, NoMap, MapLine, NoImage, TooLong, NoRun, NoShard, PayloadLost, Output, OutOfMemory}
+use Rattle.scrub_cli.specs.declared.process.fault.Fault.TheVariants.{OutOfMemory}
 use Rattle.scrub_cli.specs.declared.process.outcome.Outcome.{Outcome}
 use Rattle.scrub_cli.specs.Answer.{IsAnswerOf, IsFaultOf}
-use Rattle.scrub_cli.specs.DiskGeometry.{AreSizesFound, IsGeometryFault, IsGeometryOf}
+use Rattle.scrub_cli.specs.DiskGeometry.{AreSizesFound, IsFoundFault, IsGeometryFault, IsGeometryOf, IsSizedFault}
 use Rattle.scrub_cli.specs.DiskImage.{AreReadBefore, IsDiskFault, IsLoadedDiskIn}
 use Rattle.scrub_cli.specs.GivenRuns.{IsLoadedWithRuns, IsRunsFault}
-use Rattle.scrub_cli.specs.Items.{AreInDisk, IsItemsFault, IsPlacedFault}
+use Rattle.scrub_cli.specs.Items.{AreInDisk, IsPlaceFault, given_pointer}
 use Rattle.scrub_cli.specs.KnownFiles.{KnownMaps, KnownRaw}
 use Rattle.scrub_cli.specs.LeftOut.{AreFoundFor, FindsSizes, IsFindingFault, LeavesOut, request_with, with_sizes}
-use Rattle.scrub_cli.specs.Scan.{IsDiskIn, IsLoadFault, IsScanFault}
-use Rattle.scrub_cli.specs.Shard.{IsFaultAfterId, IsShardFault, IsShardLost, IsShardRead}
-use Rattle.scrub_cli.specs.Shards.{IsShardsDisk, IsShardsFault, IsShardsLoadFault}
-use Rattle.scrub_cli.proofs.DiskAnswers.{of_disk_fault}
-use Rattle.scrub_cli.proofs.GivenRunsAnswers.{of_runs_fault}
+use Rattle.scrub_cli.specs.Scan.{IsDiskIn, IsScanFault}
+use Rattle.scrub_cli.specs.Shard.{IsIdFault, IsNamed, IsShardLost, IsShardRead}
+use Rattle.scrub_cli.specs.Shards.{IsShardsDisk}
 
 -- ---- the sizes, and the disk
 
@@ -55,8 +54,8 @@ found_for known maps args g out sizes = record {
 memory_fault : (known : KnownRaw) (maps : KnownMaps) (args : ImageArgs) → IsGeometryFault known maps args OutOfMemory
 memory_fault known maps args = by args.sizes
   where
-    by : (o : Option GivenSizes) → MatchOption o (Unit {0}) (λ s. Unit {0})
-    by None = tt
+    by : (o : Option GivenSizes) → MatchOption o (IsFoundFault known maps args.map args.name OutOfMemory) (λ s. Unit {0})
+    by None = inl (inl tt)
     by (Some s) = tt
 
 -- the disk is loaded by the other arguments alone
@@ -78,13 +77,9 @@ before_with maps args s g x = record { pages = x.pages; named = x.named; blocks 
 
 disk_fault_with : (known : KnownRaw) (maps : KnownMaps) (args : ImageArgs) (s : GivenSizes) (g : Sizes) (fault : Fault) →
     IsDiskFault known maps args g fault → IsDiskFault known maps (with_sizes args s) g fault
-disk_fault_with known maps args s g fault =
-    of_disk_fault (λ (f : Fault). IsDiskFault known maps (with_sizes args s) g f) known maps args g (λ arg is. is) (λ name is. (given_now, is.1))
-    (λ k is. (given_now, is.1)) (λ name is. (given_now, before_with maps args s g is.1, is.2, is.3))
-    (λ is. (before_with maps args s g is.0, is.1)) tt fault
-  where
-    given_now : Some s ≡ None → ⊥
-    given_now e = none-some s (sym e)
+disk_fault_with known maps args s g fault (inl (inl bad)) = inl (inl bad)
+disk_fault_with known maps args s g fault (inl (inr is)) = inl (inr ((λ e. none-some s (sym e)), is.1, is.2))
+disk_fault_with known maps args s g fault (inr is) = inr (before_with maps args s g is.0, is.1)
 
 -- the same with index runs that are given
 with_runs : {known : KnownRaw} {maps : KnownMaps} {args : ImageArgs} {words : List (Bor (List ℕ))} {g : Sizes} {image : Image} {given_runs : Option (List Locator)}
@@ -94,14 +89,21 @@ with_runs {known} {maps} {args} {words} {g} {image} s x = record { loaded = load
 
 runs_fault_with : (known : KnownRaw) (maps : KnownMaps) (args : ImageArgs) (words : List (Bor (List ℕ))) (s : GivenSizes) (g : Sizes) (fault : Fault) →
     IsRunsFault known maps args words g fault → IsRunsFault known maps (with_sizes args s) words g fault
-runs_fault_with known maps args words s g fault =
-    of_runs_fault (λ (f : Fault). IsRunsFault known maps (with_sizes args s) words g f) known maps args words g (λ arg is. is)
-    (λ arg is. (is.0, disk_fault_with known maps args s g (BadPage arg) is.1))
-    (λ name is. (is.0, disk_fault_with known maps args s g (NoMap name) is.1))
-    (λ k is. (is.0, disk_fault_with known maps args s g (MapLine k) is.1))
-    (λ name is. (is.0, disk_fault_with known maps args s g (NoImage name) is.1))
-    (λ is. (is.0, disk_fault_with known maps args s g TooLong is.1))
-    (λ arg is. (is.0, loaded_with known maps args s g is.0 is.1, is.2)) tt fault
+runs_fault_with known maps args words s g fault (inl bad) = inl bad
+runs_fault_with known maps args words s g fault (inr (inl is)) = inr (inl (is.0, disk_fault_with known maps args s g fault is.1))
+runs_fault_with known maps args words s g fault (inr (inr is)) = inr (inr (is.0, loaded_with known maps args s g is.0 is.1, is.2))
+
+-- a fault of a command without sizes is one of finding them, or one with sizes that are found
+module _ (known : List ℕ → KnownRaw) (maps : KnownMaps) (args : ImageArgs) (out : args.sizes ≡ None) (Why : Sizes → Fault → Type 0)
+    (WhyWith : GivenSizes → Sizes → Fault → Type 0) (why_with : (g : Sizes) (fault : Fault) → Why g fault → WhyWith (given g) g fault) where
+  sized_fault_with : (fault : Fault) → IsSizedFault (known args.name.now) maps args Why fault →
+      IsGeometryFault (known args.name.now) maps args fault
+      ⊎ ((s : GivenSizes) × AreFoundFor known maps args s × IsSizedFault (known args.name.now) maps (with_sizes args s) (WhyWith s) fault)
+  sized_fault_with fault (inl memory) =
+      inl (subst (IsGeometryFault (known args.name.now) maps args) (sym memory) (memory_fault (known args.name.now) maps args))
+  sized_fault_with fault (inr (inl is)) = inl is
+  sized_fault_with fault (inr (inr is)) =
+      inr (given is.0, found_for known maps args is.0 out is.1, inr (inr (is.0, has_given is.0, why_with is.0 fault is.2)))
 
 -- ---- a whole disk
 
@@ -114,39 +116,14 @@ module _ (known : List ℕ → KnownRaw) (maps : KnownMaps) (args : ImageArgs) (
     loaded = loaded_with (known args.name.now) maps args (given x.geometry) x.geometry image x.loaded;
   }
 
-  abbrev OrWith : Fault → Type 0
-  OrWith fault =
-      IsGeometryFault (known args.name.now) maps args fault
-      ⊎ ((s : GivenSizes) × AreFoundFor known maps args s × IsScanFault (known args.name.now) maps (with_sizes args s) fault)
-
-  load_fault_with : (fault : Fault) → (x : IsLoadFault (known args.name.now) maps args fault) →
-      IsLoadFault (known args.name.now) maps (with_sizes args (given x.0)) fault
-  load_fault_with fault x = (x.0, has_given x.0, disk_fault_with (known args.name.now) maps args (given x.0) x.0 fault x.2)
-
-  scan_fault_with : (fault : Fault) → IsScanFault (known args.name.now) maps args fault → OrWith fault
-  scan_fault_with NotUtf8 is = inr (given is.0, found_for known maps args is.0 out is.1, load_fault_with NotUtf8 is)
-  scan_fault_with (Help text) is = inr (given is.0, found_for known maps args is.0 out is.1, load_fault_with (Help text) is)
-  scan_fault_with (Args text) is = inr (given is.0, found_for known maps args is.0 out is.1, load_fault_with (Args text) is)
-  scan_fault_with (Geometry limit) is = inl is
-  scan_fault_with NoSizes is = inl is
-  scan_fault_with UncertainSizes is = inl is
-  scan_fault_with Extent is = inr (given is.0, found_for known maps args is.0 out is.1, load_fault_with Extent is)
-  scan_fault_with (BadShard text) is = inr (given is.0, found_for known maps args is.0 out is.1, load_fault_with (BadShard text) is)
-  scan_fault_with Pointer is = inr (given is.0, found_for known maps args is.0 out is.1, load_fault_with Pointer is)
-  scan_fault_with (BadRun arg) is = inr (given is.0, found_for known maps args is.0 out is.1, load_fault_with (BadRun arg) is)
-  scan_fault_with (BadPage arg) is = inr (given is.0, found_for known maps args is.0 out is.1, load_fault_with (BadPage arg) is)
-  scan_fault_with (NoMap name) (inl is) = inl is
-  scan_fault_with (NoMap name) (inr is) = inr (given is.0, found_for known maps args is.0 out is.1, inr (load_fault_with (NoMap name) is))
-  scan_fault_with (MapLine k) (inl is) = inl is
-  scan_fault_with (MapLine k) (inr is) = inr (given is.0, found_for known maps args is.0 out is.1, inr (load_fault_with (MapLine k) is))
-  scan_fault_with (NoImage name) (inl is) = inl is
-  scan_fault_with (NoImage name) (inr is) = inr (given is.0, found_for known maps args is.0 out is.1, inr (load_fault_with (NoImage name) is))
-  scan_fault_with TooLong is = inr (given is.0, found_for known maps args is.0 out is.1, load_fault_with TooLong is)
-  scan_fault_with (NoRun arg) is = inr (given is.0, found_for known maps args is.0 out is.1, load_fault_with (NoRun arg) is)
-  scan_fault_with NoShard is = inr (given is.0, found_for known maps args is.0 out is.1, load_fault_with NoShard is)
-  scan_fault_with (PayloadLost number) is = inr (given is.0, found_for known maps args is.0 out is.1, load_fault_with (PayloadLost number) is)
-  scan_fault_with (Output written) is = inr (given is.0, found_for known maps args is.0 out is.1, load_fault_with (Output written) is)
-  scan_fault_with OutOfMemory is = inl (memory_fault (known args.name.now) maps args)
+-- a fault of loading it
+disk_fault_left_out : (known : List ℕ → KnownRaw) (maps : KnownMaps) (args : ImageArgs) → args.sizes ≡ None → (fault : Fault) →
+    IsScanFault (known args.name.now) maps args fault →
+    IsGeometryFault (known args.name.now) maps args fault
+    ⊎ ((s : GivenSizes) × AreFoundFor known maps args s × IsScanFault (known args.name.now) maps (with_sizes args s) fault)
+disk_fault_left_out known maps args out =
+    sized_fault_with known maps args out _ (λ s. IsDiskFault (known args.name.now) maps (with_sizes args s))
+    (λ g. disk_fault_with (known args.name.now) maps args (given g) g)
 
 -- ---- one extent
 
@@ -158,40 +135,15 @@ module _ (known : List ℕ → KnownRaw) (maps : KnownMaps) (args : ItemsArgs) (
       AreInDisk (known args.image.name.now) maps (items_with (given h)) h
   places_with h x = record { sizes = has_given h; in_disk = x.in_disk; in_extent = x.in_extent }
 
-  placed_fault_with : (fault : Fault) → (x : IsPlacedFault (known args.image.name.now) maps args fault) →
-      IsPlacedFault (known args.image.name.now) maps (items_with (given x.0)) fault
-  placed_fault_with fault x =
-      (x.0, places_with x.0 x.1, disk_fault_with (known args.image.name.now) maps args.image (given x.0) x.0 fault x.2)
-
-  abbrev ItemsOrWith : Fault → Type 0
-  ItemsOrWith fault =
-      IsGeometryFault (known args.image.name.now) maps args.image fault
-      ⊎ ((s : GivenSizes) × AreFoundFor known maps args.image s × IsItemsFault (known args.image.name.now) maps (items_with s) fault)
-
-  items_fault_with : (fault : Fault) → IsItemsFault (known args.image.name.now) maps args fault → ItemsOrWith fault
-  items_fault_with NotUtf8 is = inr (given is.0, found_for known maps args.image is.0 out is.1.sizes, placed_fault_with NotUtf8 is)
-  items_fault_with (Help text) is = inr (given is.0, found_for known maps args.image is.0 out is.1.sizes, placed_fault_with (Help text) is)
-  items_fault_with (Args text) is = inr (given is.0, found_for known maps args.image is.0 out is.1.sizes, placed_fault_with (Args text) is)
-  items_fault_with (Geometry limit) is = inl is
-  items_fault_with NoSizes is = inl is
-  items_fault_with UncertainSizes is = inl is
-  items_fault_with Extent is = inr (given is.0, found_for known maps args.image is.0 out is.1, (is.0, has_given is.0, is.2))
-  items_fault_with (BadShard text) is = inr (given is.0, found_for known maps args.image is.0 out is.1.sizes, placed_fault_with (BadShard text) is)
-  items_fault_with Pointer is = inr (given is.0, found_for known maps args.image is.0 out is.1, (is.0, has_given is.0, is.2, is.3))
-  items_fault_with (BadRun arg) is = inr (given is.0, found_for known maps args.image is.0 out is.1.sizes, placed_fault_with (BadRun arg) is)
-  items_fault_with (BadPage arg) is = inr (given is.0, found_for known maps args.image is.0 out is.1.sizes, placed_fault_with (BadPage arg) is)
-  items_fault_with (NoMap name) (inl is) = inl is
-  items_fault_with (NoMap name) (inr is) = inr (given is.0, found_for known maps args.image is.0 out is.1.sizes, inr (placed_fault_with (NoMap name) is))
-  items_fault_with (MapLine k) (inl is) = inl is
-  items_fault_with (MapLine k) (inr is) = inr (given is.0, found_for known maps args.image is.0 out is.1.sizes, inr (placed_fault_with (MapLine k) is))
-  items_fault_with (NoImage name) (inl is) = inl is
-  items_fault_with (NoImage name) (inr is) = inr (given is.0, found_for known maps args.image is.0 out is.1.sizes, inr (placed_fault_with (NoImage name) is))
-  items_fault_with TooLong is = inr (given is.0, found_for known maps args.image is.0 out is.1.sizes, placed_fault_with TooLong is)
-  items_fault_with (NoRun arg) is = inr (given is.0, found_for known maps args.image is.0 out is.1.sizes, placed_fault_with (NoRun arg) is)
-  items_fault_with NoShard is = inr (given is.0, found_for known maps args.image is.0 out is.1.sizes, placed_fault_with NoShard is)
-  items_fault_with (PayloadLost number) is = inr (given is.0, found_for known maps args.image is.0 out is.1.sizes, placed_fault_with (PayloadLost number) is)
-  items_fault_with (Output written) is = inr (given is.0, found_for known maps args.image is.0 out is.1.sizes, placed_fault_with (Output written) is)
-  items_fault_with OutOfMemory is = inl (memory_fault (known args.image.name.now) maps args.image)
+  items_why_with : (g : Sizes) (fault : Fault) →
+      IsPlaceFault args.extent (given_pointer args g) g fault
+      ⊎ (AreInDisk (known args.image.name.now) maps args g × IsDiskFault (known args.image.name.now) maps args.image g fault) →
+      IsPlaceFault args.extent (given_pointer args g) g fault
+      ⊎ (AreInDisk (known args.image.name.now) maps (items_with (given g)) g
+      × IsDiskFault (known args.image.name.now) maps (with_sizes args.image (given g)) g fault)
+  items_why_with g fault (inl is) = inl is
+  items_why_with g fault (inr is) =
+      inr (places_with g is.0, disk_fault_with (known args.image.name.now) maps args.image (given g) g fault is.1)
 
 -- ---- one shard
 
@@ -199,61 +151,36 @@ module _ (known : List ℕ → KnownRaw) (maps : KnownMaps) (args : ShardArgs) (
   abbrev shard_with : GivenSizes → ShardArgs
   shard_with s = record args { scan = record args.scan { image = with_sizes args.scan.image s } }
 
-  read_with : {image : Image} {by : Option (List Locator)} {answer : ShardAnswer} (x : IsShardRead (known args.scan.image.name.now) maps args image by answer) →
-      IsShardRead (known args.scan.image.name.now) maps (shard_with (given x.geometry)) image by answer
-  read_with x = record {
-    geometry = x.geometry;
-    id = x.id;
-    named = record { sizes = has_given x.geometry; id_is = x.named.id_is };
-    loaded = with_runs (given x.geometry) x.loaded;
-    answered = x.answered;
-  }
+  named_with : (g : Sizes) (id : ShardId) → IsNamed (known args.scan.image.name.now) maps args g id →
+      IsNamed (known args.scan.image.name.now) maps (shard_with (given g)) g id
+  named_with g id x = record { sizes = has_given g; id_is = x.id_is }
 
-  lost_with : (fault : Fault) → (x : IsShardLost (known args.scan.image.name.now) maps args fault) →
-      IsShardLost (known args.scan.image.name.now) maps (shard_with (given x.is_read.geometry)) fault
-  lost_with fault x = record { image = x.image; given = x.given; answer = x.answer; is_read = read_with x.is_read; why = x.why }
+  read_with : {id : ShardId} {image : Image} {by : Option (List Locator)} {answer : ShardAnswer} (g : Sizes) →
+      IsShardRead (known args.scan.image.name.now) maps args g id image by answer →
+      IsShardRead (known args.scan.image.name.now) maps (shard_with (given g)) g id image by answer
+  read_with g x = record { loaded = with_runs (given g) x.loaded; answered = x.answered }
 
-  id_fault_with : (fault : Fault) → (x : IsFaultAfterId (known args.scan.image.name.now) maps args fault) →
-      IsFaultAfterId (known args.scan.image.name.now) maps (shard_with (given x.0)) fault
-  id_fault_with fault x = (
-    x.0,
-    x.1,
-    record { sizes = has_given x.0; id_is = x.2.id_is },
-    runs_fault_with (known args.scan.image.name.now) maps args.scan.image args.runs.items (given x.0) x.0 fault x.3,
-  )
+  shard_read_with : (g : Sizes) (id : ShardId) (fault : Fault) →
+      IsRunsFault (known args.scan.image.name.now) maps args.scan.image args.runs.items g fault
+      ⊎ IsShardLost (known args.scan.image.name.now) maps args g id fault →
+      IsRunsFault (known args.scan.image.name.now) maps (with_sizes args.scan.image (given g)) args.runs.items g fault
+      ⊎ IsShardLost (known args.scan.image.name.now) maps (shard_with (given g)) g id fault
+  shard_read_with g id fault (inl is) =
+      inl (runs_fault_with (known args.scan.image.name.now) maps args.scan.image args.runs.items (given g) g fault is)
+  shard_read_with g id fault (inr x) =
+      inr (record { image = x.image; given = x.given; answer = x.answer; is_read = read_with g x.is_read; why = x.why })
 
-  abbrev ShardOrWith : Fault → Type 0
-  ShardOrWith fault =
-      IsGeometryFault (known args.scan.image.name.now) maps args.scan.image fault
-      ⊎ ((s : GivenSizes) × AreFoundFor known maps args.scan.image s × IsShardFault (known args.scan.image.name.now) maps (shard_with s) fault)
-
-  shard_fault_with : (fault : Fault) → IsShardFault (known args.scan.image.name.now) maps args fault → ShardOrWith fault
-  shard_fault_with NotUtf8 is = inr (given is.0, found_for known maps args.scan.image is.0 out is.2.sizes, id_fault_with NotUtf8 is)
-  shard_fault_with (Help text) is = inr (given is.0, found_for known maps args.scan.image is.0 out is.2.sizes, id_fault_with (Help text) is)
-  shard_fault_with (Args text) is = inr (given is.0, found_for known maps args.scan.image is.0 out is.2.sizes, id_fault_with (Args text) is)
-  shard_fault_with (Geometry limit) is = inl is
-  shard_fault_with NoSizes is = inl is
-  shard_fault_with UncertainSizes is = inl is
-  shard_fault_with Extent is = inr (given is.0, found_for known maps args.scan.image is.0 out is.2.sizes, id_fault_with Extent is)
-  shard_fault_with (BadShard text) is =
-      inr (given is.0, found_for known maps args.scan.image is.0 out is.1, (is.0, has_given is.0, is.2, is.3))
-  shard_fault_with Pointer is = inr (given is.0, found_for known maps args.scan.image is.0 out is.2.sizes, id_fault_with Pointer is)
-  shard_fault_with (BadRun arg) is = inr (given is.0, found_for known maps args.scan.image is.0 out is.2.sizes, id_fault_with (BadRun arg) is)
-  shard_fault_with (BadPage arg) is = inr (given is.0, found_for known maps args.scan.image is.0 out is.2.sizes, id_fault_with (BadPage arg) is)
-  shard_fault_with (NoMap name) (inl is) = inl is
-  shard_fault_with (NoMap name) (inr is) = inr (given is.0, found_for known maps args.scan.image is.0 out is.2.sizes, inr (id_fault_with (NoMap name) is))
-  shard_fault_with (MapLine k) (inl is) = inl is
-  shard_fault_with (MapLine k) (inr is) = inr (given is.0, found_for known maps args.scan.image is.0 out is.2.sizes, inr (id_fault_with (MapLine k) is))
-  shard_fault_with (NoImage name) (inl is) = inl is
-  shard_fault_with (NoImage name) (inr is) = inr (given is.0, found_for known maps args.scan.image is.0 out is.2.sizes, inr (id_fault_with (NoImage name) is))
-  shard_fault_with TooLong is = inr (given is.0, found_for known maps args.scan.image is.0 out is.2.sizes, id_fault_with TooLong is)
-  shard_fault_with (NoRun arg) is = inr (given is.0, found_for known maps args.scan.image is.0 out is.2.sizes, id_fault_with (NoRun arg) is)
-  shard_fault_with NoShard is =
-      inr (given is.is_read.geometry, found_for known maps args.scan.image is.is_read.geometry out is.is_read.named.sizes, lost_with NoShard is)
-  shard_fault_with (PayloadLost number) is =
-      inr (given is.is_read.geometry, found_for known maps args.scan.image is.is_read.geometry out is.is_read.named.sizes, lost_with (PayloadLost number) is)
-  shard_fault_with (Output written) is = inr (given is.0, found_for known maps args.scan.image is.0 out is.2.sizes, id_fault_with (Output written) is)
-  shard_fault_with OutOfMemory is = inl (memory_fault (known args.scan.image.name.now) maps args.scan.image)
+  shard_why_with : (g : Sizes) (fault : Fault) →
+      IsIdFault args.id fault
+      ⊎ ((id : ShardId) × IsNamed (known args.scan.image.name.now) maps args g id
+      × (IsRunsFault (known args.scan.image.name.now) maps args.scan.image args.runs.items g fault
+      ⊎ IsShardLost (known args.scan.image.name.now) maps args g id fault)) →
+      IsIdFault args.id fault
+      ⊎ ((id : ShardId) × IsNamed (known args.scan.image.name.now) maps (shard_with (given g)) g id
+      × (IsRunsFault (known args.scan.image.name.now) maps (with_sizes args.scan.image (given g)) args.runs.items g fault
+      ⊎ IsShardLost (known args.scan.image.name.now) maps (shard_with (given g)) g id fault))
+  shard_why_with g fault (inl is) = inl is
+  shard_why_with g fault (inr is) = inr (is.0, named_with g is.0 is.1, shard_read_with g is.0 fault is.2)
 
 -- ---- all shards
 
@@ -264,41 +191,6 @@ module _ (known : List ℕ → KnownRaw) (maps : KnownMaps) (args : ShardsArgs) 
   shards_disk_with : {image : Image} {by : Option (List Locator)} (x : IsShardsDisk (known args.scan.image.name.now) maps args image by) →
       IsShardsDisk (known args.scan.image.name.now) maps (shards_with (given x.geometry)) image by
   shards_disk_with x = record { geometry = x.geometry; sizes = has_given x.geometry; loaded = with_runs (given x.geometry) x.loaded }
-
-  shards_load_fault_with : (fault : Fault) → (x : IsShardsLoadFault (known args.scan.image.name.now) maps args fault) →
-      IsShardsLoadFault (known args.scan.image.name.now) maps (shards_with (given x.0)) fault
-  shards_load_fault_with fault x =
-      (x.0, has_given x.0, runs_fault_with (known args.scan.image.name.now) maps args.scan.image args.runs.items (given x.0) x.0 fault x.2)
-
-  abbrev ShardsOrWith : Fault → Type 0
-  ShardsOrWith fault =
-      IsGeometryFault (known args.scan.image.name.now) maps args.scan.image fault
-      ⊎ ((s : GivenSizes) × AreFoundFor known maps args.scan.image s × IsShardsFault (known args.scan.image.name.now) maps (shards_with s) fault)
-
-  shards_fault_with : (fault : Fault) → IsShardsFault (known args.scan.image.name.now) maps args fault → ShardsOrWith fault
-  shards_fault_with NotUtf8 is = inr (given is.0, found_for known maps args.scan.image is.0 out is.1, shards_load_fault_with NotUtf8 is)
-  shards_fault_with (Help text) is = inr (given is.0, found_for known maps args.scan.image is.0 out is.1, shards_load_fault_with (Help text) is)
-  shards_fault_with (Args text) is = inr (given is.0, found_for known maps args.scan.image is.0 out is.1, shards_load_fault_with (Args text) is)
-  shards_fault_with (Geometry limit) is = inl is
-  shards_fault_with NoSizes is = inl is
-  shards_fault_with UncertainSizes is = inl is
-  shards_fault_with Extent is = inr (given is.0, found_for known maps args.scan.image is.0 out is.1, shards_load_fault_with Extent is)
-  shards_fault_with (BadShard text) is = inr (given is.0, found_for known maps args.scan.image is.0 out is.1, shards_load_fault_with (BadShard text) is)
-  shards_fault_with Pointer is = inr (given is.0, found_for known maps args.scan.image is.0 out is.1, shards_load_fault_with Pointer is)
-  shards_fault_with (BadRun arg) is = inr (given is.0, found_for known maps args.scan.image is.0 out is.1, shards_load_fault_with (BadRun arg) is)
-  shards_fault_with (BadPage arg) is = inr (given is.0, found_for known maps args.scan.image is.0 out is.1, shards_load_fault_with (BadPage arg) is)
-  shards_fault_with (NoMap name) (inl is) = inl is
-  shards_fault_with (NoMap name) (inr is) = inr (given is.0, found_for known maps args.scan.image is.0 out is.1, inr (shards_load_fault_with (NoMap name) is))
-  shards_fault_with (MapLine k) (inl is) = inl is
-  shards_fault_with (MapLine k) (inr is) = inr (given is.0, found_for known maps args.scan.image is.0 out is.1, inr (shards_load_fault_with (MapLine k) is))
-  shards_fault_with (NoImage name) (inl is) = inl is
-  shards_fault_with (NoImage name) (inr is) = inr (given is.0, found_for known maps args.scan.image is.0 out is.1, inr (shards_load_fault_with (NoImage name) is))
-  shards_fault_with TooLong is = inr (given is.0, found_for known maps args.scan.image is.0 out is.1, shards_load_fault_with TooLong is)
-  shards_fault_with (NoRun arg) is = inr (given is.0, found_for known maps args.scan.image is.0 out is.1, shards_load_fault_with (NoRun arg) is)
-  shards_fault_with NoShard is = inr (given is.0, found_for known maps args.scan.image is.0 out is.1, shards_load_fault_with NoShard is)
-  shards_fault_with (PayloadLost number) is = inr (given is.0, found_for known maps args.scan.image is.0 out is.1, shards_load_fault_with (PayloadLost number) is)
-  shards_fault_with (Output written) is = inr (given is.0, found_for known maps args.scan.image is.0 out is.1, shards_load_fault_with (Output written) is)
-  shards_fault_with OutOfMemory is = inl (memory_fault (known args.scan.image.name.now) maps args.scan.image)
 
 -- ---- each request
 
@@ -319,29 +211,34 @@ answer_left_out known maps (Items args) text outcome x out = (
   },
 )
 answer_left_out known maps (Scan wanted args) text outcome x out = (
-  given x.disk.geometry,
-  found_for known maps args.image x.disk.geometry out x.disk.sizes,
-  record { image = x.image; disk = disk_with known maps args.image out x.image x.disk; answered = x.answered },
+  given x.1.disk.geometry,
+  found_for known maps args.image x.1.disk.geometry out x.1.disk.sizes,
+  (x.0, record { disk = disk_with known maps args.image out x.0 x.1.disk; answered = x.1.answered }),
 )
 answer_left_out known maps (Manifest args) text outcome x out = absurd out
 answer_left_out known maps (Compare args) text outcome x out = absurd out
 answer_left_out known maps (Shard args) text outcome x out = (
-  given x.is_read.geometry,
-  found_for known maps args.scan.image x.is_read.geometry out x.is_read.named.sizes,
-  record {
-    image = x.image;
-    given = x.given;
-    answer = x.answer;
-    is_read = read_with known maps args out x.is_read;
-    remarks = x.remarks;
-    are_remarks = x.are_remarks;
-    written = x.written;
-  },
+  given x.2.geometry,
+  found_for known maps args.scan.image x.2.geometry out x.2.named.sizes,
+  (
+    x.0,
+    x.1,
+    record {
+      geometry = x.2.geometry;
+      id = x.2.id;
+      named = named_with known maps args out x.2.geometry x.2.id x.2.named;
+      answer = x.2.answer;
+      is_read = read_with known maps args out x.2.geometry x.2.is_read;
+      remarks = x.2.remarks;
+      are_remarks = x.2.are_remarks;
+      written = x.2.written;
+    },
+  ),
 )
 answer_left_out known maps (Shards args) text outcome x out = (
-  given x.disk.geometry,
-  found_for known maps args.scan.image x.disk.geometry out x.disk.sizes,
-  record { image = x.image; given = x.given; disk = shards_disk_with known maps args out x.disk; archived = x.archived },
+  given x.2.disk.geometry,
+  found_for known maps args.scan.image x.2.disk.geometry out x.2.disk.sizes,
+  (x.0, x.1, record { disk = shards_disk_with known maps args out x.2.disk; archived = x.2.archived }),
 )
 answer_left_out known maps (Superblocks args) text outcome x out = (
   given x.disk.geometry,
@@ -356,11 +253,23 @@ pub fault_left_out : (known : List ℕ → KnownRaw) (maps : KnownMaps) (request
     IsFindingFault known maps request fault
     ⊎ ((s : GivenSizes) × FindsSizes known maps request s × IsFaultOf known maps (request_with request s) fault)
 fault_left_out known maps Demo fault is out = absurd out
-fault_left_out known maps (Items args) fault is out = items_fault_with known maps args out fault is
-fault_left_out known maps (Scan wanted args) fault is out = scan_fault_with known maps args.image out fault is
+fault_left_out known maps (Items args) fault is out =
+    sized_fault_with known maps args.image out _ (λ s g why. IsPlaceFault args.extent (given_pointer args g) g why
+    ⊎ (AreInDisk (known args.image.name.now) maps (items_with known maps args out s) g
+    × IsDiskFault (known args.image.name.now) maps (with_sizes args.image s) g why))
+    (items_why_with known maps args out) fault is
+fault_left_out known maps (Scan wanted args) fault is out = disk_fault_left_out known maps args.image out fault is
 fault_left_out known maps (Manifest args) fault is out = absurd out
 fault_left_out known maps (Compare args) fault is out = absurd out
-fault_left_out known maps (Shard args) fault is out = shard_fault_with known maps args out fault is
-fault_left_out known maps (Shards args) fault is out = shards_fault_with known maps args out fault is
-fault_left_out known maps (Superblocks args) fault is out = scan_fault_with known maps args out fault is
+fault_left_out known maps (Shard args) fault is out =
+    sized_fault_with known maps args.scan.image out _ (λ s g why. IsIdFault args.id why
+    ⊎ ((id : ShardId) × IsNamed (known args.scan.image.name.now) maps (shard_with known maps args out s) g id
+    × (IsRunsFault (known args.scan.image.name.now) maps (with_sizes args.scan.image s) args.runs.items g why
+    ⊎ IsShardLost (known args.scan.image.name.now) maps (shard_with known maps args out s) g id why)))
+    (shard_why_with known maps args out) fault is
+fault_left_out known maps (Shards args) fault is out =
+    sized_fault_with known maps args.scan.image out _
+    (λ s. IsRunsFault (known args.scan.image.name.now) maps (with_sizes args.scan.image s) args.runs.items)
+    (λ g. runs_fault_with (known args.scan.image.name.now) maps args.scan.image args.runs.items (given g) g) fault is
+fault_left_out known maps (Superblocks args) fault is out = disk_fault_left_out known maps args out fault is
 fault_left_out known maps (sizes_of_image args) fault is out = absurd out

@@ -1,5 +1,5 @@
 -- The sizes of a disk: those that the arguments give, or else those that its superblock records have.
-use Rattle.std.specs.Prelude.{◌≤◌, ℕ, List, Bool, Option, MatchOption}
+use Rattle.std.specs.Prelude.{◌≡◌, ◌≤◌, ◌⊎◌, ℕ, List, Bool, Option, MatchOption}
 use Rattle.std.specs.Borrow.{Bor}
 use Rattle.scrub_disk.specs.declared.geometry.Geometry.{Geometry as Sizes}
 use Rattle.scrub_disk.specs.Faults.{HasSizes, IsFirstBroken}
@@ -35,11 +35,15 @@ pub record AreSizesFound (known : KnownRaw) (maps : KnownMaps) (named : Option (
 abbrev pub AreSizesFoundBy : KnownRaw → Option RescueMap → Sizes → Type 0
 AreSizesFoundBy known map g = (blocks : Option (List MapBlock)) → KeepsMap map blocks → AreSizesWithout known blocks (Certain g)
 
--- why no sizes are found: the map and the image aren't opened, or else the sizes aren't found, or aren't certain; or memory ran out
+-- no sizes are found, or none for certain
+abbrev pub IsUnfound : KnownRaw → KnownMaps → Option (Bor (List ℕ)) → Fault → Type 0
+IsUnfound known maps named NoSizes = AreSizesFound known maps named NotFound
+IsUnfound known maps named UncertainSizes = AreSizesFound known maps named Uncertain
+IsUnfound known maps named fault = ⊥
+
+-- why no sizes are found: the map and the image aren't opened, or memory ran out; or else their records don't tell
 abbrev pub IsFoundFault : KnownRaw → KnownMaps → Option (Bor (List ℕ)) → Bor (List ℕ) → Fault → Type 0
-IsFoundFault known maps named name NoSizes = AreSizesFound known maps named NotFound
-IsFoundFault known maps named name UncertainSizes = AreSizesFound known maps named Uncertain
-IsFoundFault known maps named name fault = IsOpeningFault known maps named name fault
+IsFoundFault known maps named name fault = IsOpeningFault known maps named name fault ⊎ IsUnfound known maps named fault
 
 -- why sizes that are given are refused: the first limit that they break
 abbrev pub IsGivenFault : GivenSizes → Fault → Type 0
@@ -56,3 +60,9 @@ IsGeometryOf known maps args g =
 abbrev pub IsGeometryFault : KnownRaw → KnownMaps → ImageArgs → Fault → Type 0
 IsGeometryFault known maps args fault =
     MatchOption args.sizes (IsFoundFault known maps args.map args.name fault) (λ s. IsGivenFault s fault)
+
+-- why there is no answer for the disk that the arguments name: memory ran out, it has no sizes, or it has these, and this is why
+abbrev pub IsSizedFault : KnownRaw → KnownMaps → ImageArgs → (Sizes → Fault → Type 0) → Fault → Type 0
+IsSizedFault known maps args Why fault =
+    (fault ≡ OutOfMemory)
+    ⊎ (IsGeometryFault known maps args fault ⊎ ((g : Sizes) × IsGeometryOf known maps args g × Why g fault))

@@ -1,6 +1,6 @@
 -- The disk that the arguments name: the pages that they give as unreadable, the image that is loaded, without what its map
 -- lacks, and why none is.
-use Rattle.std.specs.Prelude.{◌≡◌, ◌<◌, ℕ, List, length, take, slice_index_or, Option, None, IfSome, IsTrue}
+use Rattle.std.specs.Prelude.{◌≡◌, ◌<◌, ◌⊎◌, ℕ, List, length, take, slice_index_or, Option, None, IfSome}
 use Rattle.std.specs.Borrow.{Bor}
 use Rattle.std.specs.List.{AllZip}
 use Rattle.scrub_disk.specs.declared.geometry.Geometry.{Geometry as Sizes}
@@ -9,12 +9,13 @@ use Rattle.scrub_disk.specs.Raw.{IsLoadedIn, every_extent}
 use Rattle.scrub_listings.specs.declared.sizes_listing.SizesFound.TheVariants.{Certain}
 use Rattle.scrub_map.specs.declared.block.MapBlock.{MapBlock}
 use Rattle.scrub_cli.specs.declared.process.fault.Fault.{Fault}
-use Rattle.scrub_cli.specs.declared.process.fault.Fault.TheVariants.{BadPage, NoMap, MapLine, NoImage, TooLong, OutOfMemory}
+use Rattle.scrub_cli.specs.declared.process.fault.Fault.TheVariants.{BadPage, TooLong, OutOfMemory}
 use Rattle.scrub_args.specs.declared.args.ImageArgs.{ImageArgs}
 use Rattle.scrub_cli.specs.DiskGeometry.{AreSizesWithout}
 use Rattle.scrub_cli.specs.KnownFiles.{KnownMaps, KnownRaw}
 use Rattle.scrub_args.specs.Pair.{IsPair}
-use Rattle.scrub_cli.specs.Rescue.{AreBlocksOf, IsMapFault, IsMapNamed, LosesByMap}
+use Rattle.scrub_cli.specs.Opened.{IsOpeningFault}
+use Rattle.scrub_cli.specs.Rescue.{AreBlocksOf, IsMapNamed, LosesByMap}
 use Rattle.scrub_cli.specs.declared.commands.disk_image.Losses.{Losses}
 
 -- the argument is a pair of an extent of a disk of these sizes and a page of that extent
@@ -26,6 +27,10 @@ pub record NamesPage (g : Sizes) (arg : List ℕ) (at : ℕ × ℕ) : Type 0 whe
 -- the arguments name these pages, in order
 abbrev pub NamePages : Sizes → List (Bor (List ℕ)) → List (ℕ × ℕ) → Type 0
 NamePages g args pages = AllZip (λ arg at. NamesPage g arg.now at) args pages
+
+-- each of the arguments names a page
+abbrev pub EachNamesPage : Sizes → List (Bor (List ℕ)) → Type 0
+EachNamesPage g args = (pages : List (ℕ × ℕ)) × NamePages g args pages
 
 -- the first of the arguments that names no page
 pub record IsFirstBadPage (g : Sizes) (args : List (Bor (List ℕ))) (arg : Bor (List ℕ)) : Type 0 where
@@ -66,24 +71,22 @@ pub record AreReadBefore (maps : KnownMaps) (args : ImageArgs) (g : Sizes) : Typ
   pub blocks : Option (List MapBlock)
   pub mapped : AreBlocksOf maps args.map blocks
 
--- the arguments name pages, but their map isn't read
-abbrev pub IsMapFaultBehind : KnownMaps → ImageArgs → Sizes → Fault → Type 0
-IsMapFaultBehind maps args g fault =
-    (pages : List (ℕ × ℕ)) × NamePages g args.bad_pages.items pages × IsMapFault maps args.map fault
-
--- why what is lost isn't known, or the image isn't opened: a page argument, then the map, then the image, each only if nothing
--- before it failed; or memory ran out, anywhere. If the sizes are left out, map and image are open by then
+-- why what is lost isn't known, or the image isn't opened: an argument that names no page, or else the map or the image. If the sizes
+-- are left out, both are open by then
 abbrev pub IsLossesFault : KnownRaw → KnownMaps → ImageArgs → Sizes → Fault → Type 0
-IsLossesFault known maps args g (NoMap name) = ¬ (args.sizes ≡ None) × IsMapFaultBehind maps args g (NoMap name)
-IsLossesFault known maps args g (MapLine k) = ¬ (args.sizes ≡ None) × IsMapFaultBehind maps args g (MapLine k)
-IsLossesFault known maps args g (NoImage name) =
-    ¬ (args.sizes ≡ None) × AreReadBefore maps args g × (name ≡ args.name) × IsTrue known.fails_to_open
-IsLossesFault known maps args g fault = IsBadPageFault g args.bad_pages.items fault
+IsLossesFault known maps args g fault =
+    IsBadPageFault g args.bad_pages.items fault
+    ⊎ (¬ (args.sizes ≡ None) × EachNamesPage g args.bad_pages.items × IsOpeningFault known maps args.map args.name fault)
 
--- why no disk of these sizes is loaded: one of these faults; or else the image is too long
+-- why a raw image of which this is known isn't loaded: it is too long, or memory ran out
+abbrev pub IsRawFault : KnownRaw → Sizes → Fault → Type 0
+IsRawFault known g TooLong = IfSome known.bytes (λ bytes. disk_bytes g < length bytes)
+IsRawFault known g OutOfMemory = Unit {0}
+IsRawFault known g fault = ⊥
+
+-- why no disk of these sizes is loaded: what is lost isn't known, the image isn't opened, or else it isn't loaded
 abbrev pub IsDiskFault : KnownRaw → KnownMaps → ImageArgs → Sizes → Fault → Type 0
-IsDiskFault known maps args g TooLong = AreReadBefore maps args g × IfSome known.bytes (λ bytes. disk_bytes g < length bytes)
-IsDiskFault known maps args g fault = IsLossesFault known maps args g fault
+IsDiskFault known maps args g fault = IsLossesFault known maps args g fault ⊎ (AreReadBefore maps args g × IsRawFault known g fault)
 
 -- ---- in two steps
 
@@ -102,9 +105,3 @@ pub record IsLoadedInBy (wanted : ℕ → Type 0) (known : KnownRaw) (g : Sizes)
 -- an image that was loaded so, with all its extents
 abbrev pub IsLoadedBy : KnownRaw → Sizes → List (ℕ × ℕ) → Option (List MapBlock) → Image → Type 0
 IsLoadedBy = IsLoadedInBy every_extent
-
--- why a raw image of which this is known isn't loaded: it is too long, or memory ran out
-abbrev pub IsRawFault : KnownRaw → Sizes → Fault → Type 0
-IsRawFault known g TooLong = IfSome known.bytes (λ bytes. disk_bytes g < length bytes)
-IsRawFault known g OutOfMemory = Unit {0}
-IsRawFault known g fault = ⊥

@@ -1,6 +1,6 @@
 -- The index runs that arguments give, to go by in place of a superblock: the places that they name, and the locators of the runs
 -- at these places.
-use Rattle.std.specs.Prelude.{◌≡◌, ◌<◌, ◌≤◌, ◌&&◌, ◌==◌, ◌++◌, ◌∷◌, [], ℕ, Bool, List, Option, None, Some, length, take, fold, slice_index_or, if◌then◌else◌}
+use Rattle.std.specs.Prelude.{◌≡◌, ◌<◌, ◌≤◌, ◌⊎◌, ◌&&◌, ◌==◌, ◌++◌, ◌∷◌, [], ℕ, Bool, List, Option, None, Some, length, take, fold, slice_index_or, if◌then◌else◌}
 use Rattle.std.specs.Borrow.{Bor}
 use Rattle.std.specs.List.{AllZip, list_any}
 use Rattle.scrub_disk.specs.declared.geometry.Geometry.{Geometry as Sizes}
@@ -105,18 +105,10 @@ pub record IsLoadedWithRuns (known : KnownRaw) (maps : KnownMaps) (args : ImageA
   pub loaded : IsLoadedDisk known maps args g image
   pub gives : IsGivenBy image words given
 
--- each of these arguments names a place, but no disk is loaded
-abbrev pub IsFaultAfterRuns : KnownRaw → KnownMaps → ImageArgs → List (Bor (List ℕ)) → Sizes → Fault → Type 0
-IsFaultAfterRuns known maps args words g fault = EachNamesRun g words × IsDiskFault known maps args g fault
-
--- the disk is loaded, but at the place of this argument there is no index run
-abbrev pub LacksRun : KnownRaw → KnownMaps → ImageArgs → List (Bor (List ℕ)) → Sizes → Bor (List ℕ) → Type 0
-LacksRun known maps args words g arg = (image : Image) × IsLoadedDisk known maps args g image × IsFirstNoRun image words arg
-
 -- why no disk of these sizes is loaded that has the index runs which arguments give: an argument that names no place, then the disk,
 -- then a place without a run, each only if nothing before it failed; or memory ran out, anywhere
 abbrev pub IsRunsFault : KnownRaw → KnownMaps → ImageArgs → List (Bor (List ℕ)) → Sizes → Fault → Type 0
-IsRunsFault known maps args words g (BadRun arg) = IsFirstBadRun g words arg
-IsRunsFault known maps args words g (NoRun arg) = LacksRun known maps args words g arg
-IsRunsFault known maps args words g OutOfMemory = Unit {0}
-IsRunsFault known maps args words g fault = IsFaultAfterRuns known maps args words g fault
+IsRunsFault known maps args words g fault =
+    IsBadRunFault g words fault
+    ⊎ (EachNamesRun g words × IsDiskFault known maps args g fault
+    ⊎ ((image : Image) × IsLoadedDisk known maps args g image × IsNoRunFault image words fault))

@@ -22,7 +22,7 @@ pub record IsKnownAs {R : Type 0} (bytes : R → Option (List ℕ)) (fails : R �
 abbrev pub image_file : KnownRaw
 image_file = record { bytes = None; fails = λ offset count. true; most_failures = 2 ^ 70; fails_to_open = true }
 
--- what is known of a map: its text, if it is, and whether it may fail to open
+-- what is known of a map: its text, if it is, and whether it may fail to open or to be read
 pub record KnownMap : Type 0 where
   pub text : Option (List ℕ)
   pub fails_to_open : Bool
@@ -31,6 +31,6 @@ pub record KnownMap : Type 0 where
 abbrev pub KnownMaps : Type 0
 KnownMaps = List ℕ → KnownMap
 
--- what is known of maps in files: no text, and each may fail to open
+-- what is known of maps in files: no text, and each may fail to open or to be read
 abbrev pub map_file : KnownMaps
 map_file name = record { text = None; fails_to_open = true }

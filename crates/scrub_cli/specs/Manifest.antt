@@ -9,10 +9,10 @@ use Rattle.scrub_found.specs.GivenRuns.{AreTakingsFrom}
 use Rattle.scrub_listings.specs.declared.remarks.SuperblockRemark.{SuperblockRemark}
 use Rattle.scrub_listings.specs.Manifest.{IsManifestFrom, IsRemarkedManifest}
 use Rattle.scrub_cli.specs.declared.process.fault.Fault.{Fault}
-use Rattle.scrub_cli.specs.declared.process.fault.Fault.TheVariants.{Geometry, NoSizes, UncertainSizes, Extent, NoMap, MapLine, NoImage, OutOfMemory}
+use Rattle.scrub_cli.specs.declared.process.fault.Fault.TheVariants.{Extent}
 use Rattle.scrub_cli.specs.declared.process.outcome.Outcome.{Outcome}
 use Rattle.scrub_args.specs.declared.args.ManifestArgs.{ManifestArgs}
-use Rattle.scrub_cli.specs.DiskGeometry.{IsGeometryFault, IsGeometryOf}
+use Rattle.scrub_cli.specs.DiskGeometry.{IsGeometryOf, IsSizedFault}
 use Rattle.scrub_cli.specs.GivenRuns.{IsLoadedWithRuns, IsRunsFault}
 use Rattle.scrub_cli.specs.KnownFiles.{KnownMaps, KnownRaw}
 use Rattle.scrub_cli.specs.Outcome.{IsWarnedOutcome, outcome_of}
@@ -57,37 +57,32 @@ pub record IsManifestDisk (known : KnownRaw) (maps : KnownMaps) (args : Manifest
   pub places : MayBeReset known maps args geometry
   pub loaded : IsLoadedWithRuns known maps args.scan.image args.runs.items geometry image given
 
--- the answer of `manifest`: the manifest of an image that was loaded so, by the index runs that are given, or as if these extents
--- had been reset, with its outcome
-pub record IsManifestAnswer (known : KnownRaw) (maps : KnownMaps) (args : ManifestArgs) (text : List ℕ) (outcome : Outcome) : Type 0 where
-  pub image : Image
-  pub given : Option (List Locator)
+-- the text is the manifest of this image, which was loaded so, by the index runs that are given, or as if these extents had been
+-- reset, with its outcome
+pub record IsManifestFor (known : KnownRaw) (maps : KnownMaps) (args : ManifestArgs) (text : List ℕ) (outcome : Outcome) (image : Image)
+    (given : Option (List Locator)) : Type 0 where
   pub disk : IsManifestDisk known maps args image given
   pub listed : IsManifestOf given args.resets.items image text outcome
+
+-- the answer of `manifest`: that of some such image
+abbrev pub IsManifestAnswer : KnownRaw → KnownMaps → ManifestArgs → List ℕ → Outcome → Type 0
+IsManifestAnswer known maps args text outcome =
+    (image : Image) × (given : Option (List Locator)) × IsManifestFor known maps args text outcome image given
 
 -- that answer, and what the workers that were asked for took of the image
-pub record AreManifestTakings (known : KnownRaw) (maps : KnownMaps) (args : ManifestArgs) (text : List ℕ) (outcome : Outcome)
-    (takings : TakingsValue) : Type 0 where
-  pub image : Image
-  pub given : Option (List Locator)
-  pub disk : IsManifestDisk known maps args image given
-  pub listed : IsManifestOf given args.resets.items image text outcome
-  pub taken : AreTakingsFrom given image args.scan.workers takings
+abbrev pub AreManifestTakings : KnownRaw → KnownMaps → ManifestArgs → List ℕ → Outcome → TakingsValue → Type 0
+AreManifestTakings known maps args text outcome takings =
+    (image : Image) × (given : Option (List Locator)) × IsManifestFor known maps args text outcome image given
+    × AreTakingsFrom given image args.scan.workers takings
 
--- why no disk is loaded that has the index runs which are given, though the extents can be reset
-abbrev pub IsFaultAfterResets : KnownRaw → KnownMaps → ManifestArgs → Fault → Type 0
-IsFaultAfterResets known maps args fault =
-    (g : Sizes) × MayBeReset known maps args g × IsRunsFault known maps args.scan.image args.runs.items g fault
+-- one of these extents of a disk of these sizes can't be reset
+abbrev pub IsResetFault : List ℕ → Sizes → Fault → Type 0
+IsResetFault extents g Extent = may_all_be_reset g extents ≡ false
+IsResetFault extents g fault = ⊥
 
 -- why there is no manifest: each fault only if none before it applies, or memory ran out, anywhere
 abbrev pub IsManifestFault : KnownRaw → KnownMaps → ManifestArgs → Fault → Type 0
-IsManifestFault known maps args (Geometry fault) = IsGeometryFault known maps args.scan.image (Geometry fault)
-IsManifestFault known maps args NoSizes = IsGeometryFault known maps args.scan.image NoSizes
-IsManifestFault known maps args UncertainSizes = IsGeometryFault known maps args.scan.image UncertainSizes
-IsManifestFault known maps args Extent =
-    (g : Sizes) × IsGeometryOf known maps args.scan.image g × (may_all_be_reset g args.resets.items ≡ false)
-IsManifestFault known maps args OutOfMemory = Unit {0}
-IsManifestFault known maps args (NoMap name) = IsGeometryFault known maps args.scan.image (NoMap name) ⊎ IsFaultAfterResets known maps args (NoMap name)
-IsManifestFault known maps args (MapLine k) = IsGeometryFault known maps args.scan.image (MapLine k) ⊎ IsFaultAfterResets known maps args (MapLine k)
-IsManifestFault known maps args (NoImage name) = IsGeometryFault known maps args.scan.image (NoImage name) ⊎ IsFaultAfterResets known maps args (NoImage name)
-IsManifestFault known maps args fault = IsFaultAfterResets known maps args fault
+IsManifestFault known maps args fault =
+    IsSizedFault known maps args.scan.image
+    (λ g why. IsResetFault args.resets.items g why
+    ⊎ (MayBeReset known maps args g × IsRunsFault known maps args.scan.image args.runs.items g why)) fault

@@ -1,5 +1,5 @@
 -- What the commands `scan`, `index`, `locators`, `runs`, `summary` and `reclaimable` answer for an image file, and why they don't.
-use Rattle.std.specs.Prelude.{◌≡◌, ◌⊎◌, ℕ, List, Bool, true, false, Option}
+use Rattle.std.specs.Prelude.{◌≡◌, ℕ, List, Bool, true, false, Option}
 use Rattle.scrub_disk.specs.declared.geometry.Geometry.{Geometry as Sizes}
 use Rattle.scrub_disk.specs.Image.{Image}
 use Rattle.scrub_disk.specs.Raw.{every_extent}
@@ -14,13 +14,12 @@ use Rattle.scrub_reclaim.specs.Reclaimable.{AreReclaimLines}
 use Rattle.scrub_args.specs.declared.args.ScanOutput.{ScanOutput}
 use Rattle.scrub_args.specs.declared.args.ScanOutput.TheVariants.{Report, Index, Locators, Runs, Summary, Reclaimable}
 use Rattle.scrub_cli.specs.declared.process.fault.Fault.{Fault}
-use Rattle.scrub_cli.specs.declared.process.fault.Fault.TheVariants.{Geometry, NoSizes, UncertainSizes, NoMap, MapLine, NoImage, OutOfMemory}
 use Rattle.scrub_cli.specs.declared.process.outcome.Outcome.{Outcome}
 use Rattle.scrub_args.specs.declared.args.ImageArgs.{ImageArgs}
 use Rattle.scrub_args.specs.declared.args.ScanArgs.{ScanArgs}
 use Rattle.scrub_cli.specs.DiskImage.{IsLoadedDiskIn, IsDiskFault}
 use Rattle.scrub_cli.specs.KnownFiles.{KnownMaps, KnownRaw}
-use Rattle.scrub_cli.specs.DiskGeometry.{IsGeometryFault, IsGeometryOf}
+use Rattle.scrub_cli.specs.DiskGeometry.{IsGeometryOf, IsSizedFault}
 use Rattle.scrub_cli.specs.Outcome.{outcome_of}
 
 -- the lines of doubts that are accepted, and the generation of the last superblock, if it is given
@@ -56,32 +55,21 @@ pub record IsDiskIn (wanted : ℕ → Type 0) (known : KnownRaw) (maps : KnownMa
 abbrev pub IsDiskOf : KnownRaw → KnownMaps → ImageArgs → Image → Type 0
 IsDiskOf = IsDiskIn every_extent
 
--- the text is what is wanted of an image that was loaded so, with its outcome
-pub record IsScanAnswer (wanted : ScanOutput) (known : KnownRaw) (maps : KnownMaps) (args : ImageArgs) (text : List ℕ)
-    (outcome : Outcome) : Type 0 where
-  pub image : Image
+-- the text is what is wanted of this image, which was loaded so, with its outcome
+pub record IsScanOf (wanted : ScanOutput) (known : KnownRaw) (maps : KnownMaps) (args : ImageArgs) (text : List ℕ)
+    (outcome : Outcome) (image : Image) : Type 0 where
   pub disk : IsDiskOf known maps args image
   pub answered : IsDiskAnswer wanted image text outcome
 
--- the text is what is wanted of an image that was loaded so, and this is what the workers that were asked for took of it
-pub record AreTakingsOf (wanted : ScanOutput) (known : KnownRaw) (maps : KnownMaps) (args : ScanArgs) (text : List ℕ)
-    (outcome : Outcome) (takings : TakingsValue) : Type 0 where
-  pub image : Image
-  pub disk : IsDiskOf known maps args.image image
-  pub answered : IsDiskAnswer wanted image text outcome
-  pub taken : AreTakingsBy image args.workers takings
+-- it is that of some such image
+abbrev pub IsScanAnswer : ScanOutput → KnownRaw → KnownMaps → ImageArgs → List ℕ → Outcome → Type 0
+IsScanAnswer wanted known maps args text outcome = (image : Image) × IsScanOf wanted known maps args text outcome image
 
--- why no disk of the sizes that are given or found is loaded
-abbrev pub IsLoadFault : KnownRaw → KnownMaps → ImageArgs → Fault → Type 0
-IsLoadFault known maps args fault = (g : Sizes) × IsGeometryOf known maps args g × IsDiskFault known maps args g fault
+-- it is, and this is what the workers that were asked for took of it
+abbrev pub AreTakingsOf : ScanOutput → KnownRaw → KnownMaps → ScanArgs → List ℕ → Outcome → TakingsValue → Type 0
+AreTakingsOf wanted known maps args text outcome takings =
+    (image : Image) × IsScanOf wanted known maps args.image text outcome image × AreTakingsBy image args.workers takings
 
 -- why there is no answer: each fault only if none before it applies, or memory ran out, anywhere
 abbrev pub IsScanFault : KnownRaw → KnownMaps → ImageArgs → Fault → Type 0
-IsScanFault known maps args (Geometry fault) = IsGeometryFault known maps args (Geometry fault)
-IsScanFault known maps args NoSizes = IsGeometryFault known maps args NoSizes
-IsScanFault known maps args UncertainSizes = IsGeometryFault known maps args UncertainSizes
-IsScanFault known maps args OutOfMemory = Unit {0}
-IsScanFault known maps args (NoMap name) = IsGeometryFault known maps args (NoMap name) ⊎ IsLoadFault known maps args (NoMap name)
-IsScanFault known maps args (MapLine k) = IsGeometryFault known maps args (MapLine k) ⊎ IsLoadFault known maps args (MapLine k)
-IsScanFault known maps args (NoImage name) = IsGeometryFault known maps args (NoImage name) ⊎ IsLoadFault known maps args (NoImage name)
-IsScanFault known maps args fault = IsLoadFault known maps args fault
+IsScanFault known maps args fault = IsSizedFault known maps args (IsDiskFault known maps args) fault

@@ -1,5 +1,6 @@
 -- What the command `shard` answers for an image file, and why it doesn't.
 use Rattle.std.specs.Prelude.{◌≡◌, ◌⊎◌, ℕ, true, List, Option}
+use Rattle.std.specs.Borrow.{Bor}
 use Rattle.scrub_disk.specs.declared.geometry.Geometry.{Geometry as Sizes}
 use Rattle.scrub_disk.specs.Image.{Image}
 use Rattle.scrub_frame.specs.declared.locator.Locator.{Locator}
@@ -12,10 +13,10 @@ use Rattle.scrub_shard.specs.Shard.{IsShardAnswerFrom}
 use Rattle.scrub_shard.specs.declared.shard.ShardAnswer.{ShardAnswer}
 use Rattle.scrub_shard.specs.declared.shard.ShardAnswer.TheVariants.{NoSuchShard, PayloadLost as payload_is_lost, Found}
 use Rattle.scrub_cli.specs.declared.process.fault.Fault.{Fault}
-use Rattle.scrub_cli.specs.declared.process.fault.Fault.TheVariants.{Geometry, NoSizes, UncertainSizes, BadShard, NoMap, MapLine, NoImage, NoShard, PayloadLost, OutOfMemory}
+use Rattle.scrub_cli.specs.declared.process.fault.Fault.TheVariants.{BadShard, NoShard, PayloadLost}
 use Rattle.scrub_cli.specs.declared.process.outcome.Outcome.{Outcome}
 use Rattle.scrub_args.specs.declared.args.ShardArgs.{ShardArgs}
-use Rattle.scrub_cli.specs.DiskGeometry.{IsGeometryFault, IsGeometryOf}
+use Rattle.scrub_cli.specs.DiskGeometry.{IsGeometryOf, IsSizedFault}
 use Rattle.scrub_cli.specs.GivenRuns.{IsLoadedWithRuns, IsRunsFault}
 use Rattle.scrub_cli.specs.KnownFiles.{KnownMaps, KnownRaw}
 use Rattle.scrub_cli.specs.Outcome.{IsWarnedOutcome}
@@ -38,62 +39,53 @@ pub record IsNamed (known : KnownRaw) (maps : KnownMaps) (args : ShardArgs) (g :
   pub sizes : IsGeometryOf known maps args.scan.image g
   pub id_is : IsIdText args.id.now id
 
--- the answer for the shard that is named, in an image that was loaded from this raw image: by the index runs that are given, or
+-- the answer for this shard, in an image of these sizes that was loaded from this raw image: by the index runs that are given, or
 -- else by the superblock that counts
-pub record IsShardRead (known : KnownRaw) (maps : KnownMaps) (args : ShardArgs) (image : Image) (given : Option (List Locator))
-    (answer : ShardAnswer) : Type 0 where
+pub record IsShardRead (known : KnownRaw) (maps : KnownMaps) (args : ShardArgs) (g : Sizes) (id : ShardId) (image : Image)
+    (given : Option (List Locator)) (answer : ShardAnswer) : Type 0 where
+  pub loaded : IsLoadedWithRuns known maps args.scan.image args.runs.items g image given
+  pub answered : IsShardAnswerFrom given image id answer
+
+-- what is written for the shard that is named in this image: its bytes, and the lines for the error stream
+pub record IsShardOf (known : KnownRaw) (maps : KnownMaps) (args : ShardArgs) (text : List ℕ) (outcome : Outcome) (image : Image)
+    (given : Option (List Locator)) : Type 0 where
   pub geometry : Sizes
   pub id : ShardId
   pub named : IsNamed known maps args geometry id
-  pub loaded : IsLoadedWithRuns known maps args.scan.image args.runs.items geometry image given
-  pub answered : IsShardAnswerFrom given image id answer
-
--- the answer of `shard`: the bytes of the shard that is named, and the lines for the error stream
-pub record IsShardWritten (known : KnownRaw) (maps : KnownMaps) (args : ShardArgs) (text : List ℕ) (outcome : Outcome) : Type 0 where
-  pub image : Image
-  pub given : Option (List Locator)
   pub answer : ShardAnswer
-  pub is_read : IsShardRead known maps args image given answer
+  pub is_read : IsShardRead known maps args geometry id image given answer
   pub remarks : List SuperblockRemark
   pub are_remarks : AreSaidFrom given image remarks
   pub written : IsWrittenFor answer (shard_lines remarks answer) text outcome
+
+-- the answer of `shard`: that of some such image
+abbrev pub IsShardWritten : KnownRaw → KnownMaps → ShardArgs → List ℕ → Outcome → Type 0
+IsShardWritten known maps args text outcome =
+    (image : Image) × (given : Option (List Locator)) × IsShardOf known maps args text outcome image given
 
 -- that answer, and what the workers that were asked for took of the image
-pub record AreShardTakings (known : KnownRaw) (maps : KnownMaps) (args : ShardArgs) (text : List ℕ) (outcome : Outcome)
-    (takings : TakingsValue) : Type 0 where
-  pub image : Image
-  pub given : Option (List Locator)
-  pub answer : ShardAnswer
-  pub is_read : IsShardRead known maps args image given answer
-  pub remarks : List SuperblockRemark
-  pub are_remarks : AreSaidFrom given image remarks
-  pub written : IsWrittenFor answer (shard_lines remarks answer) text outcome
-  pub taken : AreTakingsFrom given image args.scan.workers takings
+abbrev pub AreShardTakings : KnownRaw → KnownMaps → ShardArgs → List ℕ → Outcome → TakingsValue → Type 0
+AreShardTakings known maps args text outcome takings =
+    (image : Image) × (given : Option (List Locator)) × IsShardOf known maps args text outcome image given
+    × AreTakingsFrom given image args.scan.workers takings
 
--- the shard that is named isn't there, or has a lost payload, and this is the fault for that
-pub record IsShardLost (known : KnownRaw) (maps : KnownMaps) (args : ShardArgs) (fault : Fault) : Type 0 where
+-- this shard isn't there, or has a lost payload, and this is the fault for that
+pub record IsShardLost (known : KnownRaw) (maps : KnownMaps) (args : ShardArgs) (g : Sizes) (id : ShardId) (fault : Fault) : Type 0 where
   pub image : Image
   pub given : Option (List Locator)
   pub answer : ShardAnswer
-  pub is_read : IsShardRead known maps args image given answer
+  pub is_read : IsShardRead known maps args g id image given answer
   pub why : IsFaultFor answer fault
 
--- why no disk is loaded that has the index runs which are given, though a shard is named
-abbrev pub IsFaultAfterId : KnownRaw → KnownMaps → ShardArgs → Fault → Type 0
-IsFaultAfterId known maps args fault =
-    (g : Sizes) × (id : ShardId) × IsNamed known maps args g id × IsRunsFault known maps args.scan.image args.runs.items g fault
+-- the argument is no identifier
+abbrev pub IsIdFault : Bor (List ℕ) → Fault → Type 0
+IsIdFault arg (BadShard text) = (text ≡ arg) × IsNoIdText arg.now
+IsIdFault arg fault = ⊥
 
 -- why no bytes are written: each fault only if none before it applies, or memory ran out, anywhere
 abbrev pub IsShardFault : KnownRaw → KnownMaps → ShardArgs → Fault → Type 0
-IsShardFault known maps args (Geometry fault) = IsGeometryFault known maps args.scan.image (Geometry fault)
-IsShardFault known maps args NoSizes = IsGeometryFault known maps args.scan.image NoSizes
-IsShardFault known maps args UncertainSizes = IsGeometryFault known maps args.scan.image UncertainSizes
-IsShardFault known maps args (BadShard text) =
-    (g : Sizes) × IsGeometryOf known maps args.scan.image g × (text ≡ args.id) × IsNoIdText args.id.now
-IsShardFault known maps args NoShard = IsShardLost known maps args NoShard
-IsShardFault known maps args (PayloadLost number) = IsShardLost known maps args (PayloadLost number)
-IsShardFault known maps args OutOfMemory = Unit {0}
-IsShardFault known maps args (NoMap name) = IsGeometryFault known maps args.scan.image (NoMap name) ⊎ IsFaultAfterId known maps args (NoMap name)
-IsShardFault known maps args (MapLine k) = IsGeometryFault known maps args.scan.image (MapLine k) ⊎ IsFaultAfterId known maps args (MapLine k)
-IsShardFault known maps args (NoImage name) = IsGeometryFault known maps args.scan.image (NoImage name) ⊎ IsFaultAfterId known maps args (NoImage name)
-IsShardFault known maps args fault = IsFaultAfterId known maps args fault
+IsShardFault known maps args fault =
+    IsSizedFault known maps args.scan.image
+    (λ g why. IsIdFault args.id why
+    ⊎ ((id : ShardId) × IsNamed known maps args g id
+    × (IsRunsFault known maps args.scan.image args.runs.items g why ⊎ IsShardLost known maps args g id why))) fault

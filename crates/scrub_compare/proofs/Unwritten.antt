@@ -150,7 +150,7 @@ module _ (image : Image) (pages : List SuperblockPage) (found : Scrubbed) (x : I
       ++ ((λ j. extent_lines [] (before_is j) (after_is j) c.firsts) ∙ no_lines_of_extents found 0 c.firsts firsts_none) i
       ++ none_of_each (named_line []) c.after.checked (λ one. refl) i
       ++ ((λ j. manifest_changes (before_is j) (after_resets_is j) c.loose.frames (loose_is j).frames c.ids)
-          ∙ no_changes_of_manifest found c.loose.frames c.ids) i
+      ∙ no_changes_of_manifest found c.loose.frames c.ids) i
 
   -- a superblock counts, since there is no doubt that there is none
   some_generation : (g : ℕ) × (generations_in c ≡ Some (g, g))

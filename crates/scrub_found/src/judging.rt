@@ -18,8 +18,8 @@ ghost use Rattle.scrub_found.specs.Scrubbed.{Scrubbed, is_in_doubt};
 use crate::runs::{RunRow, run_rows};
 use crate::scanning::Scan;
 use scrub_check::{
-    Checked, FromLocators, Liveness, LocatorIndex, Place, ReadRuns, check_named, draw_named, liveness_by,
-    read_all_runs, twins_by_threads,
+    Checked, FromLocators, Liveness, LocatorIndex, Place, ReadRuns, check_named, draw_named,
+    liveness_by, read_all_runs, twins_by_threads,
 };
 use scrub_disk::{OutOfMemory, PageSource};
 use scrub_merge::{ShardMap, merge_by_threads};

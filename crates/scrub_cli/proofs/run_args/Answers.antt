@@ -1,7 +1,8 @@
 -- The run gets the given arguments.
-use Rattle.std.proofs.Common.{◌≡◌, inr, is_ok, map, rules}
+use Rattle.std.proofs.Common.{◌≡◌, inl, inr, is_ok, map, refl, rules}
 use Rattle.std.proofs.lemmas.Iterator.{YieldsList-from_map_by, YieldsList-from_slice}
 use Rattle.std.proofs.lemmas.Iterator.Consumers.{map_from_collect}
+use Rattle.scrub_args.specs.declared.args.ArgsFault.TheVariants.{OutOfMemory as no_memory}
 use Rattle.scrub_cli.specs.declared.process.fault.Fault.TheVariants.{OutOfMemory}
 use Rattle.std.proofs.KnownBytes.{Keeps-refl}
 use Rattle.scrub_cli.proofs.run_args.Goals as goal
@@ -20,7 +21,7 @@ returns-in-Err g c = (
   is_ok c.end.result.1,
   inr (
     OutOfMemory,
-    tt,
+    inl (no_memory, tt, refl),
     record {
       kept = Keeps-refl (g.O.Write.contents c.args.out.now);
       reported = c.end.ensures;

@@ -5,17 +5,19 @@ ghost use Rattle.std.specs.Prelude.{◌≡◌, ◌≤◌, [], IfOk, MatchResult}
 ghost use Rattle.std.specs.List.Sorted.{IsStrictlyIncreasing};
 ghost use Rattle.scrub_disk.specs.Parted.{image_of};
 ghost use Rattle.scrub_found.specs.Takings.{AreTakingsBy};
-ghost use Rattle.scrub_cli.specs.Compare.{AreCompareTakings, IsCompareAnswer, IsCompareFault, IsCompared};
+ghost use Rattle.scrub_cli.specs.Compare.{AreCompareTakings, IsCompareFault, IsCompared, IsEarlierImage};
+ghost use Rattle.scrub_cli.specs.Manifest.{IsManifestFault};
+ghost use Rattle.scrub_cli.specs.Rescue.{KeepsMap};
 
 use crate::commands::answer::Answer;
-use crate::commands::disk_image::{load_raw, losses_of};
+use crate::commands::disk_image::{Losses, load_raw, losses_of};
 use crate::commands::geometry::geometry_of;
 use crate::commands::manifest::may_all_be_reset;
 use crate::process::fault::Fault;
 use crate::process::images::Images;
-use scrub_args::CompareArgs;
+use scrub_args::{CompareArgs, ManifestArgs};
 use scrub_compare::compare as compare_disks;
-use scrub_disk::PartedDisk;
+use scrub_disk::{Geometry, PartedDisk};
 use scrub_found::ScrubFault;
 use scrub_pool::{NoGate, Takings};
 use std::alloc::Global;
@@ -50,6 +52,31 @@ fn comparison<R: Threads + Wait + Sync>(
     ))
 }
 
+/// The earlier image, with the sizes of the disk and what is lost of it. Faults are those of `manifest`.
+fn load_earlier<'a, R: Threads + Wait + Sync, I: Images>(
+    rt: &R,
+    alloc: Global,
+    args: &ManifestArgs<'a>,
+    images: &mut I,
+) -> Result<(Geometry, Losses, PartedDisk), Fault<'a>>
+    requires no_runs { args.now.runs.items ≡ [] }
+    ensures disk { MatchResult result
+        (λ r. (e : IsEarlierImage (I.known images.old args.now.scan.image.name.now) (I.known_map images.old)
+        args.now r.0 (image_of r.2)) × (r.1.pages.items ≡ e.pages) × KeepsMap r.1.map e.blocks)
+        (IsManifestFault (I.known images.old args.now.scan.image.name.now) (I.known_map images.old)
+        args.now) }
+    ensures same_images { I.known images.new ≡ I.known images.old }
+{
+    let image = &args.scan.image;
+    let (geometry, opened) = geometry_of(alloc, image, images)?;
+    if !may_all_be_reset(geometry, &args.resets) {
+        return Err(Fault::Extent);
+    }
+    let (losses, raw) = losses_of(alloc, geometry, image, opened, images)?;
+    let before = load_raw(rt, alloc, geometry, raw, &losses, images)?;
+    Ok((geometry, losses, before))
+}
+
 /// The comparison of both images of the disk that the arguments name, and the extents that each worker took
 /// of each. Faults are checked in the order of `Fault`, those of the earlier image before those of the later
 /// one.
@@ -62,21 +89,12 @@ pub fn compare<'a, R: Threads + Wait + Sync, I: Images>(
     requires workers { args.now.before.scan.workers ≤ 64 }
     requires rising { IsStrictlyIncreasing args.now.before.resets.items }
     requires no_runs { args.now.before.runs.items ≡ [] }
-    ensures answer { MatchResult result
-        (λ r. IsCompareAnswer (I.known images.old) (I.known_map images.old) args.now
-        r.0.text.items r.0.outcome)
-        (IsCompareFault (I.known images.old) (I.known_map images.old) args.now) }
-    ensures takings { IfOk result
+    ensures { MatchResult result
         (λ r. AreCompareTakings (I.known images.old) (I.known_map images.old) args.now
-        r.0.text.items r.0.outcome r.1 r.2) }
+        r.0.text.items r.0.outcome r.1 r.2)
+        (IsCompareFault (I.known images.old) (I.known_map images.old) args.now) }
 {
-    let image = &args.before.scan.image;
-    let (geometry, opened) = geometry_of(alloc, image, images)?;
-    if !may_all_be_reset(geometry, &args.before.resets) {
-        return Err(Fault::Extent);
-    }
-    let (losses, raw) = losses_of(alloc, geometry, image, opened, images)?;
-    let before = load_raw(rt, alloc, geometry, raw, &losses, images)?;
+    let (geometry, losses, before) = load_earlier(rt, alloc, &args.before, images)?;
     let Some(raw_after) = images.image(args.after) else {
         return Err(Fault::NoImage(args.after));
     };

@@ -5,7 +5,7 @@ ghost use Rattle.std.specs.Prelude.{◌≡◌, ◌≤◌, IfOk, IfSome, MatchRes
 ghost use Rattle.std.specs.List.Sorted.{IsStrictlyIncreasing};
 ghost use Rattle.scrub_super.specs.steps.Limits.{AreRunLocators};
 ghost use Rattle.scrub_found.specs.GivenRuns.{AreTakingsFrom};
-ghost use Rattle.scrub_cli.specs.Manifest.{AreManifestTakings, IsManifestAnswer, IsManifestFault};
+ghost use Rattle.scrub_cli.specs.Manifest.{AreManifestTakings, IsManifestFault};
 ghost use Rattle.scrub_cli.specs.Manifest.{IsManifestOf, may_all_be_reset};
 
 use crate::commands::answer::{Answer, manifest_listing};
@@ -71,14 +71,11 @@ pub fn manifest<'a, R: Threads + Wait + Sync, I: Images>(
 ) -> Result<(Answer, Takings), Fault<'a>>
     requires workers { args.now.scan.workers ≤ 64 }
     requires rising { IsStrictlyIncreasing args.now.resets.items }
-    ensures answer { MatchResult result
-        (λ r. IsManifestAnswer (I.known images.old args.now.scan.image.name.now) (I.known_map images.old)
-        args.now r.0.text.items r.0.outcome)
+    ensures { MatchResult result
+        (λ r. AreManifestTakings (I.known images.old args.now.scan.image.name.now) (I.known_map images.old)
+        args.now r.0.text.items r.0.outcome r.1)
         (IsManifestFault (I.known images.old args.now.scan.image.name.now) (I.known_map images.old)
         args.now) }
-    ensures takings { IfOk result
-        (λ r. AreManifestTakings (I.known images.old args.now.scan.image.name.now) (I.known_map images.old)
-        args.now r.0.text.items r.0.outcome r.1) }
 {
     let image = &args.scan.image;
     let (geometry, opened) = geometry_of(alloc, image, images)?;

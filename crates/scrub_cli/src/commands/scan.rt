@@ -2,7 +2,7 @@
 //! `reclaimable`, which scan it, `runs`, which looks for index runs, and `superblocks`, which reads its
 //! extent 0. For `shards` see `shards`, and for `manifest` see `manifest`.
 
-ghost use Rattle.std.specs.Prelude.{◌≡◌, ◌≤◌, IfOk, MatchResult, true};
+ghost use Rattle.std.specs.Prelude.{◌≡◌, ◌≤◌, MatchResult, true};
 ghost use Rattle.scrub_disk.specs.Parted.{image_of};
 ghost use Rattle.scrub_disk.specs.OneExtent.{image_of as image_of_extent};
 ghost use Rattle.scrub_args.specs.declared.args.ScanOutput.TheVariants.{Runs};
@@ -52,13 +52,10 @@ fn scan<'a, R: Threads + Wait + Sync, I: Images>(
 ) -> Result<(Answer, Takings), Fault<'a>>
     requires workers { args.now.workers ≤ 64 }
     requires scanned { is_scanned wanted.now ≡ true }
-    ensures answer { MatchResult result
-        (λ r. IsScanAnswer wanted.now (I.known images.old args.now.image.name.now) (I.known_map images.old)
-        args.now.image r.0.text.items r.0.outcome)
-        (IsScanFault (I.known images.old args.now.image.name.now) (I.known_map images.old) args.now.image) }
-    ensures takings { IfOk result
+    ensures { MatchResult result
         (λ r. AreTakingsOf wanted.now (I.known images.old args.now.image.name.now) (I.known_map images.old)
-        args.now r.0.text.items r.0.outcome r.1) }
+        args.now r.0.text.items r.0.outcome r.1)
+        (IsScanFault (I.known images.old args.now.image.name.now) (I.known_map images.old) args.now.image) }
 {
     let disk = disk_of(rt, alloc, &args.image, images)?;
     Ok(disk_answer(rt, alloc, &disk, args.workers, wanted)?)

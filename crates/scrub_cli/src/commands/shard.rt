@@ -5,8 +5,7 @@ ghost use Rattle.scrub_super.specs.steps.Limits.{AreRunLocators};
 ghost use Rattle.scrub_found.specs.GivenRuns.{AreTakingsFrom};
 ghost use Rattle.scrub_shard.specs.Archive.{AreSaidFrom};
 ghost use Rattle.scrub_shard.specs.Shard.{IsShardAnswerFrom};
-ghost use Rattle.scrub_cli.specs.Shard.{AreShardTakings, IsFaultFor, IsShardFault, IsShardWritten};
-ghost use Rattle.scrub_cli.specs.Shard.{IsWrittenFor};
+ghost use Rattle.scrub_cli.specs.Shard.{AreShardTakings, IsFaultFor, IsShardFault, IsWrittenFor};
 
 use crate::commands::answer::Answer;
 use crate::commands::geometry::geometry_of;
@@ -78,13 +77,10 @@ pub fn shard<'a, R: Threads + Wait + Sync, I: Images>(
     images: &mut I,
 ) -> Result<(Answer, Takings), Fault<'a>>
     requires { args.now.scan.workers ≤ 64 }
-    ensures answer { MatchResult result
-        (λ r. IsShardWritten (I.known images.old args.now.scan.image.name.now) (I.known_map images.old)
-        args.now r.0.text.items r.0.outcome)
-        (IsShardFault (I.known images.old args.now.scan.image.name.now) (I.known_map images.old) args.now) }
-    ensures takings { IfOk result
+    ensures { MatchResult result
         (λ r. AreShardTakings (I.known images.old args.now.scan.image.name.now) (I.known_map images.old)
-        args.now r.0.text.items r.0.outcome r.1) }
+        args.now r.0.text.items r.0.outcome r.1)
+        (IsShardFault (I.known images.old args.now.scan.image.name.now) (I.known_map images.old) args.now) }
 {
     let image = &args.scan.image;
     let (geometry, opened) = geometry_of(alloc, image, images)?;

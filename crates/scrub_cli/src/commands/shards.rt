@@ -6,7 +6,7 @@ ghost use Rattle.scrub_super.specs.steps.Limits.{AreRunLocators};
 ghost use Rattle.scrub_found.specs.GivenRuns.{AreTakingsFrom};
 ghost use Rattle.scrub_shard.specs.PartialArchive.{IsArchiveFrom};
 ghost use Rattle.scrub_cli.specs.Remarks.{remark_line, remark_lines};
-ghost use Rattle.scrub_cli.specs.Shards.{AreShardsTakings, IsArchived, IsShardsAnswer, IsShardsFault};
+ghost use Rattle.scrub_cli.specs.Shards.{AreShardsTakings, IsArchived, IsShardsFault};
 
 use crate::commands::answer::Answer;
 use crate::commands::geometry::geometry_of;
@@ -121,13 +121,10 @@ pub fn shards<'a, R: Threads + Wait + Sync, I: Images>(
     images: &mut I,
 ) -> Result<(Answer, Takings), Fault<'a>>
     requires { args.now.scan.workers ≤ 64 }
-    ensures answer { MatchResult result
-        (λ r. IsShardsAnswer (I.known images.old args.now.scan.image.name.now) (I.known_map images.old)
-        args.now r.0.text.items r.0.outcome)
-        (IsShardsFault (I.known images.old args.now.scan.image.name.now) (I.known_map images.old) args.now) }
-    ensures takings { IfOk result
+    ensures { MatchResult result
         (λ r. AreShardsTakings (I.known images.old args.now.scan.image.name.now) (I.known_map images.old)
-        args.now r.0.text.items r.0.outcome r.1) }
+        args.now r.0.text.items r.0.outcome r.1)
+        (IsShardsFault (I.known images.old args.now.scan.image.name.now) (I.known_map images.old) args.now) }
 {
     let image = &args.scan.image;
     let (geometry, opened) = geometry_of(alloc, image, images)?;

@@ -1,6 +1,6 @@
 -- Each way out of `losses_of`, in the order of the code.
+use Rattle.std.proofs.Common.{inl, inr}
 use Rattle.std.proofs.lemmas.Result.{err_from_is_err_and}
-use Rattle.scrub_cli.proofs.DiskAnswers.{bad_page_fault, opening_fault}
 use Rattle.scrub_cli.proofs.GeometryAnswers.{found_again}
 use Rattle.scrub_cli.proofs.commands.disk_image.losses_of.Goals as goal
 
@@ -8,17 +8,18 @@ use Rattle.scrub_cli.proofs.commands.disk_image.losses_of.Goals as goal
 pub returns-in_err-pages-clause-losses : goal.returns-in_err-pages-clause-losses
 returns-in_err-pages-clause-losses g c =
     let p = err_from_is_err_and c.from_residual.result c.from_residual.ensures.1 in
-    rw (p.1, p.2)
-    (bad_page_fault (g.I.Images.known c.args.images.now c.args.args.now.name.now) (g.I.Images.known_map c.args.images.now) c.args.args.now c.args.geometry c.in_err-pages.field-0.0
-    (rw c.deref.ensures.value at c.in_err-pages.ensures))
+    rw (p.1, p.2) (inl (rw c.deref.ensures.value at c.in_err-pages.ensures))
 
 -- the map or the image wasn't opened
 pub returns-in_err-opened-clause-losses : goal.returns-in_err-opened-clause-losses
 returns-in_err-opened-clause-losses g c =
     let p = err_from_is_err_and c.from_residual-in_err-opened.result c.from_residual-in_err-opened.ensures.1 in
     rw (p.1, p.2)
-    (opening_fault (g.I.Images.known c.args.images.now c.args.args.now.name.now) (g.I.Images.known_map c.args.images.now) c.args.args.now c.args.geometry c.in_ok-pages.pages.items
-    c.in_err-opened.field-0.0 (rw c.in_err-opened.ensures.not_again at c.requires.found) (rw c.deref.ensures.value at c.in_ok-pages.ensures) c.in_err-opened.ensures.map)
+    (inr (
+      rw c.in_err-opened.ensures.not_again at c.requires.found,
+      (c.in_ok-pages.pages.items, rw c.deref.ensures.value at c.in_ok-pages.ensures),
+      c.in_err-opened.ensures.map,
+    ))
 
 pub returns-clause-found : goal.returns-clause-found
 returns-clause-found g c left =

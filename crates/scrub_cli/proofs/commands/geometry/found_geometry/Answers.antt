@@ -1,15 +1,13 @@
 -- Something wasn't opened, or the sizes of the records are found, or none.
+use Rattle.std.proofs.Common.{inl, inr}
 use Rattle.std.proofs.lemmas.Result.{err_from_is_err_and}
 use Rattle.scrub_cli.proofs.GeometryAnswers.{sizes_by_front}
-use Rattle.scrub_cli.proofs.OpenedAnswers.{opening_fault_found}
 use Rattle.scrub_cli.proofs.commands.geometry.found_geometry.Goals as goal
 
 pub returns-in_err-opened-clause-geometry : goal.returns-in_err-opened-clause-geometry
 returns-in_err-opened-clause-geometry g c =
     let p = err_from_is_err_and c.from_residual.result c.from_residual.ensures.1 in
-    rw (p.1, p.2)
-    (opening_fault_found (g.I.Images.known c.args.images.now c.args.name.now) (g.I.Images.known_map c.args.images.now) c.args.map c.args.name
-    c.in_err-opened.field-0.0 c.in_err-opened.ensures.map)
+    rw (p.1, p.2) (inl c.in_err-opened.ensures.map)
 
 pub returns-in-Certain-clause-geometry : goal.returns-in-Certain-clause-geometry
 returns-in-Certain-clause-geometry g c =
@@ -35,24 +33,24 @@ pub returns-in-Uncertain-clause-geometry : goal.returns-in-Uncertain-clause-geom
 returns-in-Uncertain-clause-geometry g c =
     let map = c.in_ok-opened.ensures.map in
     let known = g.I.Images.known c.args.images.now c.args.name.now in
-    record {
+    inr (record {
       blocks = map.blocks;
       mapped = map.are;
       sizes =
           rw (← c.in-Uncertain.is)
           (sizes_by_front known map.blocks c.in_ok-front.front c.in_ok-found.found
           (c.in_ok-front.ensures.front known c.in_ok-opened.ensures.raw map.blocks map.keeps) c.in_ok-found.ensures);
-    }
+    })
 
 pub returns-clause-geometry : goal.returns-clause-geometry
 returns-clause-geometry g c =
     let map = c.in_ok-opened.ensures.map in
     let known = g.I.Images.known c.args.images.now c.args.name.now in
-    record {
+    inr (record {
       blocks = map.blocks;
       mapped = map.are;
       sizes =
           rw (← c.in-NotFound.is)
           (sizes_by_front known map.blocks c.in_ok-front.front c.in_ok-found.found
           (c.in_ok-front.ensures.front known c.in_ok-opened.ensures.raw map.blocks map.keeps) c.in_ok-found.ensures);
-    }
+    })

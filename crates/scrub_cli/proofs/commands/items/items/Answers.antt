@@ -1,5 +1,5 @@
 -- Each way out of `items`, in the order of the code.
-use Rattle.std.proofs.Common.{◌≡◌, arith, ap, ◌∙◌}
+use Rattle.std.proofs.Common.{◌≡◌, arith, ap, inl, inr, ◌∙◌}
 use Rattle.std.specs.List.{list_all}
 use Rattle.std.proofs.lemmas.Result.{err_from_is_err_and}
 use Rattle.scrub_disk.specs.OneExtent.{image_of}
@@ -7,22 +7,19 @@ use Rattle.scrub_found.specs.Scrubbed.{is_clean_item}
 use Rattle.scrub_cli.specs.DiskImage.{IsLoadedDiskIn}
 use Rattle.scrub_cli.specs.Lines.{lines_of}
 use Rattle.scrub_cli.specs.Outcome.{outcome_of}
-use Rattle.scrub_cli.proofs.ItemsAnswers.{placed, pointer_fault, items_disk_fault, items_geometry_fault, items_answer}
+use Rattle.scrub_cli.proofs.ItemsAnswers.{placed, pointer_fault, items_answer}
 use Rattle.scrub_cli.proofs.commands.items.items.Goals as goal
 
 -- no sizes were found
 pub returns-in_err-geometry : goal.returns-in_err-geometry
 returns-in_err-geometry g c =
-    let args = c.args.args.now in
     let p = err_from_is_err_and c.from_residual.result c.from_residual.ensures.1 in
-    rw (p.1, p.2)
-    (items_geometry_fault (g.I.Images.known c.args.images.now args.image.name.now) (g.I.Images.known_map c.args.images.now) args
-    c.in_err-geometry.field-0.0 c.in_err-geometry.ensures.geometry)
+    rw (p.1, p.2) (inr (inl c.in_err-geometry.ensures.geometry))
 
 -- the disk has no such extent
 pub returns-then-args-geometry : goal.returns-then-args-geometry
 returns-then-args-geometry g c =
-    (c.in_ok-geometry.geometry, c.in_ok-geometry.ensures.geometry, omega (arith, c.if-args-geometry.true))
+    inr (inr (c.in_ok-geometry.geometry, c.in_ok-geometry.ensures.geometry, inl (omega (arith, c.if-args-geometry.true))))
 
 -- the pointer is past the end of the extent
 pub returns-then-pointer-extent_bytes : goal.returns-then-pointer-extent_bytes
@@ -43,9 +40,11 @@ returns-in_err-disk g c =
     (omega (arith, c.if-pointer-extent_bytes.false)) in
     let p = err_from_is_err_and c.from_residual-in_err-disk.result c.from_residual-in_err-disk.ensures.1 in
     rw (p.1, p.2)
-    (items_disk_fault (g.I.Images.known c.args.images.now args.image.name.now) (g.I.Images.known_map c.args.images.now)
-    args disk c.in_err-disk.field-0.0 at.0
-    (rw (c.geometry_of.ensures.same_images, c.geometry_of.ensures.same_maps) at c.in_err-disk.ensures))
+    (inr (inr (
+      disk,
+      c.in_ok-geometry.ensures.geometry,
+      inr (at.0, rw (c.geometry_of.ensures.same_images, c.geometry_of.ensures.same_maps) at c.in_err-disk.ensures),
+    )))
 
 pub returns : goal.returns
 returns g c =

@@ -10,8 +10,7 @@ mark_lost-requires g c =
     let end : c.extent_bytes.result * c.extents.result ≡ disk_bytes sizes =
     ap (λ n. n * c.extents.result) c.extent_bytes.ensures
     ∙ ap (λ n. c.geometry-geometry.result.page * c.geometry-geometry.result.pages * n) c.extents.ensures
-    ∙ ap disk_bytes c.geometry-geometry.ensures in
-    (
+    ∙ ap disk_bytes c.geometry-geometry.ensures in (
       search rules,
       page_blocks sizes c.page.result (c.extent_bytes.result * c.extents.result) (length c.deref.result.now)
           (c.page.ensures ∙ ap (λ x. x.page) c.geometry-geometry.ensures) end
