@@ -1,5 +1,5 @@
-"""The laws of acting, held on disks and on pairs of disks: those of spares, loose copies, --last, sound disks, copies, resets, manifests
-and shards; and those of `compare`, held on made-up pairs of images that it calls safe."""
+"""The laws of acting, held on disks and on pairs of disks: those of spares, loose copies, --last, sound disks, bytes, copies, resets,
+manifests and shards; and those of `compare`, held on made-up pairs of images that it calls safe."""
 import random
 
 from lib.drives import worked
@@ -336,6 +336,38 @@ def hold_resets(engine, drive, choice, seen):
         seen["law of a reset: a copy accepted"] += 1
 
 
+def are_alike(old, new):
+    """Whether two manifests are the same, but for last words."""
+    lines, others = old.splitlines(), new.splitlines()
+    return len(lines) == len(others) and all(is_risen(a, b) or is_risen(b, a) for a, b in zip(lines, others))
+
+
+def hold_bytes_below(engine, drive, choice, seen):
+    """A manifest rests on the bytes below the write pointers of the extents in use, its last words on all bytes of these, and nothing on
+    a retired extent."""
+    chosen = choose(drive.image())
+    if chosen["page"] is None:
+        return
+    old = engine.manifest(drive)[0]
+    for what, share in (("past the pointers", .7), ("in retired extents", 0)):
+        changed, lost = drive.copy(), set(drive.unreadable)
+        for e, w in enumerate(chosen["pointers"], 1):
+            place = 0 if e in chosen["retired"] else w
+            if e in chosen["retired"] or choice.random() < share:
+                changed.write(e, place, junk(choice, drive)[0][:drive.size - place])
+                pages = [(e, g) for g in range(-(-place // drive.page), drive.pages)]
+                lost = (lost - set(pages)) | {page for page in pages if choice.random() < .1}
+        changed.unreadable = frozenset(lost)
+        after = rewritten(choice, changed, chosen["pointers"], chosen["retired"], chosen["runs"])
+        if after is None:
+            continue
+        new = engine.manifest(after)[0]
+        require(are_alike(old, new) if share else old == new, "law of bytes", what, "\n" + old, new)
+        seen[f"law of bytes {what}"] += 1
+        seen["law of bytes: another last word"] += old != new
+        seen["law of bytes: a retired extent was written"] += not share and chosen["retired"] != []
+
+
 def hold_manifest(engine, drive, seen):
     """What the manifest says is what the report and the named locators say."""
     text, good, remarks = engine.manifest(drive)
@@ -372,6 +404,7 @@ def hold_laws(engine, drive, choice, seen):
     hold_last(engine, drive, choice, seen)
     hold_verdicts(engine, drive, choice, seen)
     hold_manifest(engine, drive, seen)
+    hold_bytes_below(engine, drive, choice, seen)
     hold_copies(engine, drive, choice, seen)
     hold_resets(engine, drive, choice, seen)
 
@@ -458,8 +491,17 @@ def hold_undo(engine, before, after, choice, seen):
         seen["law 4: another manifest"] += old != new
 
 
+def hold_unwritten(engine, drive, seen):
+    """What wasn't written to is safe, but for doubts that can't be accepted."""
+    *doubts, last = engine.compare(drive, drive, [])[0].splitlines()
+    require(all(line.startswith("doubt ") for line in doubts), "law 6: another line", doubts)
+    require(last.startswith("safe ") == (not doubts), "law 6", doubts, last)
+    seen["law 6: doubts" if doubts else "law 6: safe"] += 1
+
+
 def hold_compare_laws(engine, pair, choice, seen):
     before, after, resets, _ = pair
+    hold_unwritten(engine, after, seen)
     if not is_safe(engine, before, after, resets, seen):
         return
     seen.update(f"safe after {kind}" for kind in pair.written)
