@@ -30,7 +30,7 @@ pub record IsShardsDisk (known : KnownRaw) (maps : KnownMaps) (args : ShardsArgs
   pub loaded : IsLoadedWithRuns known maps args.scan.image args.runs.items geometry image given
 
 -- the text is the archive of all shards of this image, which was loaded so, by the index runs that are given
-pub record AreShardsOf (known : KnownRaw) (maps : KnownMaps) (args : ShardsArgs) (text : List ℕ) (outcome : Outcome) (image : Image)
+pub record IsShardsOf (known : KnownRaw) (maps : KnownMaps) (args : ShardsArgs) (text : List ℕ) (outcome : Outcome) (image : Image)
     (given : Option (List Locator)) : Type 0 where
   pub disk : IsShardsDisk known maps args image given
   pub archived : IsArchived given args.is_partial image text outcome
@@ -38,12 +38,12 @@ pub record AreShardsOf (known : KnownRaw) (maps : KnownMaps) (args : ShardsArgs)
 -- the answer of `shards`: that of some such image
 abbrev pub IsShardsAnswer : KnownRaw → KnownMaps → ShardsArgs → List ℕ → Outcome → Type 0
 IsShardsAnswer known maps args text outcome =
-    (image : Image) × (given : Option (List Locator)) × AreShardsOf known maps args text outcome image given
+    (image : Image) × (given : Option (List Locator)) × IsShardsOf known maps args text outcome image given
 
 -- that answer, and what the workers that were asked for took of the image
 abbrev pub AreShardsTakings : KnownRaw → KnownMaps → ShardsArgs → List ℕ → Outcome → TakingsValue → Type 0
 AreShardsTakings known maps args text outcome takings =
-    (image : Image) × (given : Option (List Locator)) × AreShardsOf known maps args text outcome image given
+    (image : Image) × (given : Option (List Locator)) × IsShardsOf known maps args text outcome image given
     × AreTakingsFrom given image args.scan.workers takings
 
 -- why there is no archive: each fault only if none before it applies, or memory ran out, anywhere
