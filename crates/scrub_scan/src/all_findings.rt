@@ -1,6 +1,6 @@
 //! The findings of all planned extents, of which there may be none. `scanning` makes those of one extent.
 
-ghost use Rattle.std.specs.Prelude.{◌≡◌, ◌<◌, ℕ, map, length, IfSome, IfNone, Contains, Some, slice_get};
+ghost use Rattle.std.specs.Prelude.{◌≡◌, ◌<◌, ◌^◌, ℕ, map, length, IfSome, IfNone, Contains, Some, slice_get};
 ghost use Rattle.std.specs.Prelude.{slice_index};
 ghost use Rattle.std.specs.Option.{option_map_or};
 ghost use Rattle.std.specs.List.Sorted.{IsStrictlyIncreasing};
@@ -124,6 +124,8 @@ impl<'d, D: PageSource> AllFindings<'d, D> {
         ensures results { result ≡ self.now.extents }
         // The type's invariant, for callers that only borrow the findings.
         ensures scanned { AreScannedBy (λ s. D.image s) self.now }
+        // Their number is a `usize`, for the same callers.
+        ensures few { length self.now.extents < 2 ^ 64 }
     {
         Results {
             slots: self.slots.iter(),
