@@ -41,12 +41,12 @@ sizes_found image e w found h =
     sizes_of_tiling (extent_of image e w) found.items (omega (arith, image.geometry.page_least)) h.tiled
 
 -- so 32 bits count what the items take that findings show, as they count the pointer
-pub sizes_fit : (image : Image) (e w : ℕ) (found : Findings) (items : List Item) (pointer : ℕ) → IsFindings image e w found →
-    items ≡ found.items → pointer ≡ w → pointer < 2 ^ 32 →
+pub sizes_fit : (image : Image) (e w : ℕ) (found : Findings) (items : List Item) → IsFindings image e w found →
+    items ≡ found.items → w < 2 ^ 32 →
     sum_by size_of items < 2 ^ 32
-sizes_fit image e w found items pointer h shown at below =
+sizes_fit image e w found items h shown below =
     let sizes : sum_by size_of items ≡ w = ap (sum_by size_of) shown ∙ sizes_found image e w found h in
-    omega (arith, sizes, at, below)
+    omega (arith, sizes, below)
 
 -- what wasn't scanned isn't found
 pub not_scanned : (all : List Scanned) (e : ℕ) → ¬ Contains (extent_numbers all) e → entry_of all e ≡ None

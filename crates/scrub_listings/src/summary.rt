@@ -233,8 +233,6 @@ fn lost_count(items: &[Item]) -> usize
 fn counted_in<D: PageSource>(counted: Counted, found: &ExtentResult<'_, D>) -> u64
     ensures { result ≡ counted_in counted (scanned found.now) }
 {
-    // It bounds the sum of the bytes: the items join up to the pointer.
-    let pointer = found.pointer();
     let findings = found.findings();
     let items = findings.items();
     match counted {
@@ -254,8 +252,6 @@ fn counted_in_all<D: PageSource>(counted: Counted, all: &AllFindings<'_, D>) -> 
     ensures sum { result ≡ sum_by (counted_in counted) all.now.extents }
     ensures few { result + 2 ^ 64 ≤ 2 ^ 128 }
 {
-    // For the proof alone: as the number of extents fits 64 bits, the sum fits 128.
-    let _ = all.len();
     let mut total = 0u128;
     for found in all.results() {
         total += u128::from(counted_in(counted, found));

@@ -64,8 +64,6 @@ fn sum_of_live(items: &[Item], checked: &[Checked], extent: u32) -> u32
 fn live_bytes_of<D: PageSource>(one: &ExtentResult<'_, D>, checked: &[Checked]) -> u32
     ensures { result ≡ live_bytes checked.now (scanned one.now) }
 {
-    // It bounds the sum: the items join up to the pointer.
-    let pointer = one.pointer();
     let items = one.findings().items();
     sum_of_live(items, checked, one.extent())
 }

@@ -162,8 +162,6 @@ pub(crate) fn live_chunks<D: PageSource>(
     ensures { (checked : List Checked) → IsLocatorIndex checked locators.now →
         IfOk result (AreLiveChunks checked (scanned found.now)) }
 {
-    // It bounds the sum of the live bytes: the items join up to the pointer.
-    let pointer = found.pointer();
     let items = found.findings().items();
     let kept = kept_among(alloc, &locators.sound, found.extent(), items)?;
     let bytes = bytes_of(&kept);
@@ -188,8 +186,6 @@ fn add_extent<D: PageSource>(
     ensures passed { OnOk result (HasPassed cursor.new ((scanned found.now).extent + 1) 0) }
 {
     let items = found.findings().items();
-    // It bounds the sum of the live bytes: the items join up to the pointer.
-    let pointer = found.pointer();
     let live = live_among(alloc, found.extent(), items, cursor, &mut so_far.orphans)?;
     so_far.live.push(live.bytes)?;
     add_reclaimable(

@@ -1,4 +1,4 @@
-use Rattle.std.proofs.Common.{ℕ, List, arith, ◌∙◌, ap}
+use Rattle.std.proofs.Common.{ℕ, List, ◌∙◌, ap}
 use Rattle.std.proofs.Math.Path.{ap₂}
 use Rattle.std.specs.List.{filter, sum_by}
 use Rattle.scrub_scan.specs.declared.findings.Findings.{Findings}
@@ -14,8 +14,8 @@ pub sum_of_live-requires : goal.sum_of_live-requires
 sum_of_live-requires g c =
     let one = scanned {s = g.D.PageSource} c.args.one.now in
     sizes_fit (result_image {s = g.D.PageSource} c.args.one.now) one.extent one.pointer c.findings.result.now
-    c.items-items.result.now c.pointer-pointer.result
-    c.findings.ensures.found c.items-items.ensures c.pointer-pointer.ensures (omega (arith, c.pointer-pointer.type_inv))
+    c.items-items.result.now
+    c.findings.ensures.found c.items-items.ensures c.findings.ensures.pointer
 
 -- the live ones are those of the extent's own items
 pub returns : goal.returns

@@ -1,4 +1,4 @@
-use Rattle.std.proofs.Common.{◌≡◌, ◌++◌, ◌∷◌, [], List, arith, ◌∙◌, ap}
+use Rattle.std.proofs.Common.{◌≡◌, ◌++◌, ◌∷◌, [], List, ◌∙◌, ap}
 use Rattle.std.proofs.lemmas.Result.{IfOk-weaker}
 use Rattle.scrub_scan.specs.declared.findings.Findings.{Findings}
 use Rattle.scrub_scan.specs.Scanned.{Scanned, scanned, result_image}
@@ -22,8 +22,8 @@ pub live_among-requires-clause-sizes : goal.live_among-requires-clause-sizes
 live_among-requires-clause-sizes g c =
     let f = scanned {s = g.D.PageSource} c.args.found.now in
     sizes_fit (result_image {s = g.D.PageSource} c.args.found.now) f.extent f.pointer c.findings.result.now
-    c.items-items.result.now c.pointer-pointer.result
-    c.findings.ensures.found c.items-items.ensures c.pointer-pointer.ensures (omega (arith, c.pointer-pointer.type_inv))
+    c.items-items.result.now
+    c.findings.ensures.found c.items-items.ensures c.findings.ensures.pointer
 
 pub returns-clause-so_far : goal.returns-clause-so_far
 returns-clause-so_far g c = λ checked extents locators so_far.

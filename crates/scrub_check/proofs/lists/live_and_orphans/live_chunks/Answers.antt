@@ -1,4 +1,4 @@
-use Rattle.std.proofs.Common.{◌≡◌, List, arith, ◌∙◌, ap}
+use Rattle.std.proofs.Common.{◌≡◌, List, ◌∙◌, ap}
 use Rattle.scrub_scan.specs.declared.findings.Findings.{Findings}
 use Rattle.scrub_scan.specs.declared.item.Item.{Item}
 use Rattle.scrub_scan.specs.Scanned.{Scanned, scanned, result_image}
@@ -15,8 +15,8 @@ bytes_of-bytes-requires g c =
     kept_fit c.args.locators.now.sound c.extent.result c.items-items.result.now c.deref.result.now
     (c.deref.ensures.value ∙ c.in_ok-kept.ensures)
     (sizes_fit (result_image {s = g.D.PageSource} c.args.found.now) f.extent f.pointer c.findings.result.now
-    c.items-items.result.now c.pointer-pointer.result
-    c.findings.ensures.found c.items-items.ensures c.pointer-pointer.ensures (omega (arith, c.pointer-pointer.type_inv)))
+    c.items-items.result.now
+    c.findings.ensures.found c.items-items.ensures c.findings.ensures.pointer)
 
 pub returns : goal.returns
 returns g c = λ checked locators.
