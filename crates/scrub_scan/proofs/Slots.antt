@@ -77,6 +77,32 @@ pub slot_count : {D : Type 0} {s : _} (slots : List (Option (ExtentResult D s)))
 slot_count {D} {s} slots full =
     length-map (held_in slots) (λ (r : ExtentResult D s). scanned r) ∙ full_length slots full
 
+-- one more full slot has one more thing at the end
+pub held_push : {X : Type 0} (slots : List (Option X)) (x : X) → held_in (slots ++ Some x ∷ []) ≡ held_in slots ++ x ∷ []
+held_push [] x = refl
+held_push (None ∷ slots) x = held_push slots x
+held_push (Some y ∷ slots) x = ap (λ rest. y ∷ rest) (held_push slots x)
+
+-- all results of one image are of that of the first one's source
+pub all_of_image : {D : Type 0} {s : _} (results : List (ExtentResult D s)) (one image : Image) →
+    All (λ (r : ExtentResult D s). result_image r ≡ one) results →
+    IsOfImage s.image (record { source = first_source results; extents = map (λ (r : ExtentResult D s). scanned r) results }) image →
+    All (λ (r : ExtentResult D s). result_image r ≡ image) results
+all_of_image [] one image of first = λ k d below. absurd (omega (arith, below))
+all_of_image (r ∷ rs) one image of first = λ k d below. of k d below ∙ sym (of 0 r (omega arith)) ∙ first
+
+-- full slots are those of the extents of their results, if each is of this image and under the plan's write pointer
+pub slots_of : {D : Type 0} {s : _} (image : Image) (plan : PlanValue) (slots : List (Option (ExtentResult D s))) → AreFull slots →
+    All (λ (r : ExtentResult D s). result_image r ≡ image) (held_in slots) →
+    All (λ (r : ExtentResult D s). pointer_of plan r.extent ≡ Some r.pointer) (held_in slots) →
+    AllZip (λ e slot. IfSome slot (λ r. IsPlannedResult image plan e r)) (map (λ (r : ExtentResult D s). r.extent) (held_in slots)) slots
+slots_of image plan [] full of under = tt
+slots_of image plan (None ∷ slots) full of under = absurd (true≢false (sym full))
+slots_of image plan (Some r ∷ slots) full of under = (
+  record { image_is = of 0 r (omega arith); extent_is = refl; pointer_is = under 0 r (omega arith) },
+  slots_of image plan slots full (λ k d below. of (suc k) d (omega (arith, below))) (λ k d below. under (suc k) d (omega (arith, below))),
+)
+
 module _ {D : Type 0} {s : _} (image : Image) (plan : PlanValue) (slots : List (Option (ExtentResult D s)))
     (are : AreSlots image plan slots) (full : AreFull slots) where
   pairs : AllZip (IsPlannedResult image plan) plan.planned (held_in slots)

@@ -1,5 +1,5 @@
 -- Places for the results of planned extents, each with a result or none yet.
-use Rattle.std.specs.Prelude.{◌≡◌, ℕ, List, [], ◌∷◌, true, Option, Some, None, IfSome, map}
+use Rattle.std.specs.Prelude.{◌≡◌, ℕ, All, List, [], ◌∷◌, true, Option, Some, None, IfSome, map}
 use Rattle.std.specs.List.{AllZip, filter_map, list_all}
 use Rattle.std.specs.Option.{is_some}
 use Rattle.scrub_disk.specs.Image.{Image}
@@ -30,6 +30,10 @@ module _ {D : Type 0} {s : _} where
   abbrev pub first_source : List (ExtentResult D s) → Option D
   first_source [] = None
   first_source (r ∷ rs) = Some r.source.now
+
+  -- all of some results are of one image
+  abbrev pub AreOfOneImage : List (ExtentResult D s) → Type 0
+  AreOfOneImage results = (image : Image) × All (λ r. result_image r ≡ image) results
 
   -- what was found, of the places that have a result
   abbrev pub scanned_in : List (Option (ExtentResult D s)) → List Scanned

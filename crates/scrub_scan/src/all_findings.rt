@@ -29,7 +29,7 @@ pub struct AllFindings<'d, D: PageSource> {
 
 impl<'d, D: PageSource> Model for AllFindings<'d, D> {
     ghost use Rattle.scrub_scan.specs.AllFindings.{ScannedDisk, AreScannedBy};
-    ghost use Rattle.scrub_scan.specs.Slots.{AreFull, first_source, held_in, scanned_in};
+    ghost use Rattle.scrub_scan.specs.Slots.{AreFull, AreOfOneImage, first_source, held_in, scanned_in};
 
     ghost Value = { ScannedDisk D };
 
@@ -39,7 +39,8 @@ impl<'d, D: PageSource> Model for AllFindings<'d, D> {
     } };
 
     ghost invariant = { λ a. AreFull a.slots.items × AreScannedBy (λ s. D.image s)
-        (record { source = first_source (held_in a.slots.items); extents = scanned_in a.slots.items }) };
+        (record { source = first_source (held_in a.slots.items); extents = scanned_in a.slots.items }) ×
+        AreOfOneImage (held_in a.slots.items) };
 }
 
 /// The number of the extent whose result is in a slot, or 0 if it is empty.
@@ -65,8 +66,9 @@ fn position_of<D: PageSource>(slots: &[Option<ExtentResult<'_, D>>], extent: u32
 }
 
 impl<'d, D: PageSource> AllFindings<'d, D> {
-    ghost use Rattle.scrub_scan.specs.Scanned.{scanned};
-    ghost use Rattle.scrub_scan.specs.Slots.{AreSlots};
+    ghost use Rattle.std.specs.Prelude.{All};
+    ghost use Rattle.scrub_scan.specs.Scanned.{result_image, scanned};
+    ghost use Rattle.scrub_scan.specs.Slots.{AreSlots, held_in};
     ghost use Rattle.scrub_scan.specs.AllFindings.{entry_of, findings_in, AreScannedBy, AreAllFindings};
     ghost use Rattle.scrub_scan.specs.AllFindings.{IsOfImage};
 
@@ -85,6 +87,17 @@ impl<'d, D: PageSource> AllFindings<'d, D> {
         // invariant needs.
         let _ = plan.planned();
         AllFindings { slots }
+    }
+
+    /// Gives its slots back, which hold the results of these extents in ascending order, none missing. Takes no
+    /// memory.
+    pub(crate) fn into_slots(self) -> Vec<Option<ExtentResult<'d, D>>>
+        ensures full { AreFull result.items }
+        ensures extents { scanned_in result.items ≡ self.entry.extents }
+        ensures images { (image : Image) → IsOfImage (λ s. D.image s) self.entry image →
+            All (λ r. result_image r ≡ image) (held_in result.items) }
+    {
+        self.slots
     }
 
     /// How many extents were scanned.

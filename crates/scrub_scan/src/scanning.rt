@@ -7,7 +7,7 @@ ghost use Rattle.scrub_scan.specs.Findings.{IsFindings};
 ghost use Rattle.scrub_scan.specs.Scanned.{result_image, scanned};
 ghost use Rattle.scrub_scan.specs.Tiling.{IsTiling};
 ghost use Rattle.scrub_scan.specs.steps.Pages.{HasRead, HoldBoth, IsTarget, target_of};
-ghost use Rattle.scrub_scan.specs.AllFindings.{AreAllFindings, IsOfImage};
+ghost use Rattle.scrub_scan.specs.AllFindings.{AreAllFindings, IsOfImage, extent_numbers};
 
 use crate::all_findings::AllFindings;
 use crate::counted_source::{CountedSource, count_reads};
@@ -143,6 +143,54 @@ pub fn scan_in_order<'d, D: PageSource>(
     let mut slots = Vec::new(alloc);
     for extent in plan.planned() {
         slots.push(Some(scan_extent_in(alloc, &mut workspace, disk, plan, *extent)?))?;
+    }
+    Ok(AllFindings::from_slots(plan, slots))
+}
+
+/// The result of an extent under a write pointer: the one that there is, if it is under that pointer, and else
+/// that of another scan.
+fn result_under<'d, D: PageSource>(
+    alloc: Global,
+    workspace: &mut Workspace,
+    disk: &'d D,
+    pointer: u32,
+    found: ExtentResult<'d, D>,
+) -> Result<ExtentResult<'d, D>, OutOfMemory>
+    requires image { result_image found ≡ D.image disk.now }
+    requires in_extents { (scanned found).extent < (D.image disk.now).geometry.extents }
+    requires in_extent { pointer ≤ extent_bytes (D.image disk.now).geometry }
+    ensures image { IfOk result (λ r. result_image r ≡ D.image disk.now) }
+    ensures extent { IfOk result (λ r. (scanned r).extent ≡ (scanned found.entry).extent) }
+    ensures pointer { IfOk result (λ r. (scanned r).pointer ≡ pointer) }
+{
+    if found.pointer() == pointer {
+        return Ok(found);
+    }
+    scan_under(alloc, workspace, disk, found.extent(), pointer)
+}
+
+/// The findings under a plan, made of those under another plan of the same extents. Only extents with another
+/// write pointer are scanned again, in ascending order, by the calling thread alone. `OutOfMemory` if there
+/// isn't enough for a second list of results, or for those of the scans and what these need besides.
+pub fn rescan<'d, D: PageSource>(
+    alloc: Global,
+    disk: &'d D,
+    plan: &Plan,
+    found: AllFindings<'d, D>,
+) -> Result<AllFindings<'d, D>, OutOfMemory>
+    requires geometry { plan.now.geometry ≡ (D.image disk.now).geometry }
+    requires image { IsOfImage (λ s. D.image s) found (D.image disk.now) }
+    requires extents { extent_numbers found.extents ≡ plan.now.planned }
+    ensures image { IfOk result (λ all. IsOfImage (λ s. D.image s) all (D.image disk.now)) }
+    ensures findings { IfOk result (λ all. AreAllFindings (D.image disk.now) plan.now all.extents) }
+{
+    let mut workspace = Workspace::new(alloc);
+    let mut slots = Vec::with_capacity(alloc, plan.planned().len())?;
+    for slot in found.into_slots() {
+        let Some(old) = slot else { unreachable!() };
+        let pointer = plan.pointer(old.extent());
+        let new = result_under(alloc, &mut workspace, disk, pointer, old)?;
+        slots.push_reserved(Some(new));
     }
     Ok(AllFindings::from_slots(plan, slots))
 }

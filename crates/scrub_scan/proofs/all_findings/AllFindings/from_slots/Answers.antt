@@ -1,4 +1,4 @@
-use Rattle.scrub_scan.proofs.Slots.{of_first, all_found, held_there}
+use Rattle.scrub_scan.proofs.Slots.{of_first, of_image, all_found, held_there}
 use Rattle.scrub_scan.proofs.all_findings.AllFindings.from_slots.Goals as goal
 
 pub returns-clause-image : goal.returns-clause-image
@@ -17,4 +17,5 @@ invariant_of-result g c =
         rising = rw found.extents c.planned.ensures.extents.rising;
         findings = held_there image c.args.plan.now c.args.slots.items are c.requires.full;
       },
+      (image, of_image image c.args.plan.now c.args.slots.items are c.requires.full),
     )
