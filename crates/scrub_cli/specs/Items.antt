@@ -22,13 +22,18 @@ pub record AreInDisk (known : KnownRaw) (maps : KnownMaps) (args : ItemsArgs) (g
   pub in_disk : args.extent < g.extents
   pub in_extent : given_pointer args g ≤ extent_bytes g
 
--- the answer of `items`: the listing of the extent under the pointer, in an image whose extent was loaded from this raw image
-pub record IsItemsAnswer (known : KnownRaw) (maps : KnownMaps) (args : ItemsArgs) (text : List ℕ) (outcome : Outcome) : Type 0 where
+-- the listing of the extent under the pointer, in an image whose wanted extents were loaded from this raw image
+pub record IsItemsAnswerIn (wanted : ℕ → Type 0) (known : KnownRaw) (maps : KnownMaps) (args : ItemsArgs) (text : List ℕ)
+    (outcome : Outcome) : Type 0 where
   pub geometry : Sizes
   pub places : AreInDisk known maps args geometry
   pub image : Image
-  pub loaded : IsLoadedDiskIn (λ e. e ≡ args.extent) known maps args.image geometry image
+  pub loaded : IsLoadedDiskIn wanted known maps args.image geometry image
   pub listed : IsListing (extent_of image args.extent (given_pointer args geometry)) text outcome
+
+-- the answer of `items`, which loads that extent alone
+abbrev pub IsItemsAnswer : KnownRaw → KnownMaps → ItemsArgs → List ℕ → Outcome → Type 0
+IsItemsAnswer known maps args = IsItemsAnswerIn (λ e. e ≡ args.extent) known maps args
 
 -- the extent isn't in a disk of these sizes, or else the pointer isn't in the extent
 abbrev pub IsPlaceFault : ℕ → ℕ → Sizes → Fault → Type 0

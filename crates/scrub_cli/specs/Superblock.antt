@@ -14,9 +14,13 @@ pub record AreSuperblocksListed (image : Image) (text : List ℕ) (outcome : Out
   pub listing : IsSuperblockListing image text clean
   pub ended : outcome ≡ outcome_of clean
 
--- the answer of `superblocks`, for an image of the sizes that are given or found, whose extent 0 was loaded from this raw image
-pub record IsSuperblocksAnswer (known : KnownRaw) (maps : KnownMaps) (args : ImageArgs) (text : List ℕ)
+-- the lines of an image of the sizes that are given or found, whose wanted extents were loaded from this raw image
+pub record IsSuperblocksAnswerIn (wanted : ℕ → Type 0) (known : KnownRaw) (maps : KnownMaps) (args : ImageArgs) (text : List ℕ)
     (outcome : Outcome) : Type 0 where
   pub image : Image
-  pub disk : IsDiskIn (λ e. e ≡ 0) known maps args image
+  pub disk : IsDiskIn wanted known maps args image
   pub answered : AreSuperblocksListed image text outcome
+
+-- the answer of `superblocks`, which loads extent 0 alone
+abbrev pub IsSuperblocksAnswer : KnownRaw → KnownMaps → ImageArgs → List ℕ → Outcome → Type 0
+IsSuperblocksAnswer = IsSuperblocksAnswerIn (λ e. e ≡ 0)

@@ -1,16 +1,21 @@
-//! Loading one extent of the disk in an image file, for a command that looks at no other. For the whole disk
-//! see `disk_image`.
+//! Loading one extent of the disk in an image file, for a command that looks at no other, and why its answer
+//! is that of the whole image. For loading the whole disk see `disk_image`.
 
 ghost use Rattle.std.specs.Prelude.{◌≡◌, ◌<◌, ◌^◌, All, Err, IfOk, IfSome, List, MatchOption, MatchResult};
-ghost use Rattle.std.specs.Prelude.{None, Option, length};
+ghost use Rattle.std.specs.Prelude.{None, Option, length, ℕ};
 ghost use Rattle.scrub_disk.specs.Image.{disk_bytes};
 ghost use Rattle.scrub_disk.specs.OneExtent.{image_of};
-ghost use Rattle.scrub_disk.specs.Raw.{IsLoadedIn};
+ghost use Rattle.scrub_disk.specs.Raw.{IsLoadedIn, every_extent};
 ghost use Rattle.scrub_map.specs.declared.block.MapBlock.{MapBlock};
+ghost use Rattle.scrub_args.specs.declared.args.ImageArgs.{ImageArgs};
+ghost use Rattle.scrub_args.specs.declared.args.ItemsArgs.{ItemsArgs};
 ghost use Rattle.scrub_cli.specs.DiskGeometry.{AreSizesFoundBy};
 ghost use Rattle.scrub_cli.specs.DiskImage.{IsDiskFault, IsLoadedDiskIn, IsLoadedInBy, IsRawFault};
-ghost use Rattle.scrub_cli.specs.KnownFiles.{IsKnownAs, KnownRaw};
+ghost use Rattle.scrub_cli.specs.Items.{IsItemsAnswer, IsItemsAnswerIn};
+ghost use Rattle.scrub_cli.specs.KnownFiles.{IsKnownAs, KnownMaps, KnownRaw};
 ghost use Rattle.scrub_cli.specs.Rescue.{IsMapNamed, KeepsMap};
+ghost use Rattle.scrub_cli.specs.Superblock.{IsSuperblocksAnswer, IsSuperblocksAnswerIn};
+ghost use Rattle.scrub_cli.specs.declared.process.outcome.Outcome.{Outcome};
 
 use crate::commands::disk_image::{Losses, losses_of};
 use crate::commands::opened::Opened;
@@ -88,3 +93,14 @@ fn extent_of_raw<R: RawImage>(
 {
     load_extent(alloc, raw, geometry, pages, extent)
 }
+
+/// A law: what `items` and `superblocks` print of the one extent that they load is the answer of an image
+/// that is loaded whole.
+pub fn one_extent_answers_for_the_whole_image()
+    ensures items { (known : KnownRaw) (maps : KnownMaps) (args : ItemsArgs) (text : List ℕ)
+        (outcome : Outcome) → IsItemsAnswer known maps args text outcome →
+        IsItemsAnswerIn every_extent known maps args text outcome }
+    ensures superblocks { (known : KnownRaw) (maps : KnownMaps) (args : ImageArgs) (text : List ℕ)
+        (outcome : Outcome) → IsSuperblocksAnswer known maps args text outcome →
+        IsSuperblocksAnswerIn every_extent known maps args text outcome }
+{}
