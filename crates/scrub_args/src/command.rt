@@ -28,7 +28,7 @@ use std::alloc::{AllocError, Global};
 const PROGRAM: &str = "shardscrub";
 
 /// The program's name and version, as a line.
-pub const VERSION: &str = "shardscrub 4.1.2\n";
+pub const VERSION: &str = "shardscrub 4.1.3\n";
 
 /// The command that prints the report of a disk.
 pub const SCAN: &str = "scan";

@@ -1,9 +1,10 @@
 -- The index runs that arguments give, from what the parts find.
-use Rattle.std.proofs.Common.{◌≡◌, ◌==◌, ◌<◌, ◌≤◌, ◌+◌, ◌∙◌, ◌++◌, ◌∷◌, [], ℕ, zero, suc, Bool, true, false, List, All, length, take, get_or, arith, ap, refl, sym, subst}
-use Rattle.std.specs.Prelude.{if◌then◌else◌, slice_index_or}
+use Rattle.std.proofs.Common.{◌≡◌, ◌==◌, ◌<◌, ◌≤◌, ◌+◌, ◌∙◌, ◌++◌, ◌∷◌, [], ℕ, zero, suc, Bool, true, false, List, All, Option, None, Some, IfSome, Vec, Global, length, take, get_or, arith, ap, refl, sym, subst}
+use Rattle.std.specs.Prelude.{if◌then◌else◌, option_map, slice_index_or}
 use Rattle.std.specs.Borrow.{Bor}
 use Rattle.std.specs.List.{list_any}
 use Rattle.std.proofs.lemmas.Bool.{false≢true}
+use Rattle.std.proofs.lemmas.Option.{none-some, same_Some}
 use Rattle.std.proofs.lemmas.List.{take_all}
 use Rattle.std.proofs.lemmas.List.Elements.{All-nil}
 use Rattle.std.proofs.lemmas.List.Sums.{fold-append}
@@ -13,12 +14,23 @@ use Rattle.scrub_disk.specs.declared.geometry.Geometry.{Geometry as Sizes}
 use Rattle.scrub_disk.specs.Image.{Image}
 use Rattle.scrub_frame.specs.declared.locator.Locator.{Locator}
 use Rattle.scrub_frame.specs.Locator.{IsLocator}
+use Rattle.scrub_super.specs.steps.Limits.{AreRunLocators}
 use Rattle.scrub_loose.specs.Outer.{IsRunThere}
 use Rattle.scrub_args.specs.declared.args.ImageArgs.{ImageArgs}
 use Rattle.scrub_cli.specs.DiskImage.{IsLoadedDisk}
 use Rattle.scrub_cli.specs.GivenRuns.{AreRunsAt, GiveRuns, IsFirstNoRun, NameRuns, NamesRunPlace, is_of_place, once, with_one}
 use Rattle.scrub_cli.specs.KnownFiles.{KnownMaps, KnownRaw}
 use Rattle.scrub_cli.proofs.Rescues.{lost_geometry}
+
+-- ---- locators
+
+-- locators that are seen as a slice keep the limits
+pub located_shown : (given : Option (Vec Locator Global)) (shown : Option (Bor (List Locator))) →
+    option_map (λ runs. runs.now) shown ≡ option_map (λ (runs : Vec Locator Global). runs.items) given →
+    IfSome given (λ runs. AreRunLocators runs.items) → IfSome shown (λ runs. AreRunLocators runs.now)
+located_shown given None same located = tt
+located_shown None (Some runs) same located = absurd (none-some runs.now (sym same))
+located_shown (Some given) (Some runs) same located = subst AreRunLocators (sym (same_Some runs.now given.items same)) located
 
 -- ---- places
 

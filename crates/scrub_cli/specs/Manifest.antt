@@ -1,5 +1,5 @@
 -- What the command `manifest` answers for an image file, and why it doesn't.
-use Rattle.std.specs.Prelude.{◌≡◌, ◌⊎◌, ◌&&◌, ℕ, List, [], Bool, false, true, Option, None, Some, nat_lt}
+use Rattle.std.specs.Prelude.{◌≡◌, ◌⊎◌, ◌&&◌, ℕ, List, Bool, false, true, Option, nat_lt}
 use Rattle.std.specs.List.{list_all}
 use Rattle.scrub_disk.specs.declared.geometry.Geometry.{Geometry as Sizes}
 use Rattle.scrub_disk.specs.Image.{Image}
@@ -7,7 +7,7 @@ use Rattle.scrub_frame.specs.declared.locator.Locator.{Locator}
 use Rattle.scrub_pool.specs.Takings.{TakingsValue}
 use Rattle.scrub_found.specs.GivenRuns.{AreTakingsFrom}
 use Rattle.scrub_listings.specs.declared.remarks.SuperblockRemark.{SuperblockRemark}
-use Rattle.scrub_listings.specs.Manifest.{IsManifestFrom, IsRemarkedManifest}
+use Rattle.scrub_listings.specs.Manifest.{IsRemarkedManifest}
 use Rattle.scrub_cli.specs.declared.process.fault.Fault.{Fault}
 use Rattle.scrub_cli.specs.declared.process.fault.Fault.TheVariants.{Extent}
 use Rattle.scrub_cli.specs.declared.process.outcome.Outcome.{Outcome}
@@ -15,28 +15,17 @@ use Rattle.scrub_args.specs.declared.args.ManifestArgs.{ManifestArgs}
 use Rattle.scrub_cli.specs.DiskGeometry.{IsGeometryOf, IsSizedFault}
 use Rattle.scrub_cli.specs.GivenRuns.{IsLoadedWithRuns, IsRunsFault}
 use Rattle.scrub_cli.specs.KnownFiles.{KnownMaps, KnownRaw}
-use Rattle.scrub_cli.specs.Outcome.{IsWarnedOutcome, outcome_of}
-use Rattle.scrub_cli.specs.Remarks.{superblock_lines}
-
--- the manifest of an image, as if these extents had been reset; the outcome says whether it is clean, and has the lines of what is
--- said of the superblocks
-pub record IsManifestListed (resets : List ℕ) (image : Image) (text : List ℕ) (outcome : Outcome) : Type 0 where
-  pub remarks : List SuperblockRemark
-  pub clean : Bool
-  pub manifest : IsRemarkedManifest resets image text remarks clean
-  pub ended : IsWarnedOutcome clean (superblock_lines remarks) outcome
-
--- the manifest of an image by these index runs; nothing is said of the superblocks
-pub record IsManifestByRuns (runs : List Locator) (image : Image) (text : List ℕ) (outcome : Outcome) : Type 0 where
-  pub clean : Bool
-  pub manifest : IsManifestFrom (Some runs) [] image text clean
-  pub ended : outcome ≡ outcome_of clean
+use Rattle.scrub_cli.specs.Outcome.{IsWarnedOutcome}
+use Rattle.scrub_cli.specs.Remarks.{superblock_remark_lines}
 
 -- the manifest of an image by the index runs that are given, or else by the superblock that counts, as if these extents had been
--- reset. The arguments give only one of both
-abbrev pub IsManifestOf : Option (List Locator) → List ℕ → Image → List ℕ → Outcome → Type 0
-IsManifestOf None resets image text outcome = IsManifestListed resets image text outcome
-IsManifestOf (Some runs) resets image text outcome = IsManifestByRuns runs image text outcome
+-- reset; the outcome says whether it is clean, and has the lines of what is said of the superblocks. The arguments give runs or
+-- extents, never both
+pub record IsManifestListed (given : Option (List Locator)) (resets : List ℕ) (image : Image) (text : List ℕ) (outcome : Outcome) : Type 0 where
+  pub remarks : List SuperblockRemark
+  pub clean : Bool
+  pub manifest : IsRemarkedManifest given resets image text remarks clean
+  pub ended : IsWarnedOutcome clean (superblock_remark_lines remarks) outcome
 
 -- an extent that can be reset: any but extent 0, which has the superblocks
 abbrev pub may_be_reset : Sizes → ℕ → Bool
@@ -62,7 +51,7 @@ pub record IsManifestDisk (known : KnownRaw) (maps : KnownMaps) (args : Manifest
 pub record IsManifestFor (known : KnownRaw) (maps : KnownMaps) (args : ManifestArgs) (text : List ℕ) (outcome : Outcome) (image : Image)
     (given : Option (List Locator)) : Type 0 where
   pub disk : IsManifestDisk known maps args image given
-  pub listed : IsManifestOf given args.resets.items image text outcome
+  pub listed : IsManifestListed given args.resets.items image text outcome
 
 -- the answer of `manifest`: that of some such image
 abbrev pub IsManifestAnswer : KnownRaw → KnownMaps → ManifestArgs → List ℕ → Outcome → Type 0

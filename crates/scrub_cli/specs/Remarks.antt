@@ -15,27 +15,27 @@ use Rattle.scrub_shard.specs.declared.shard.ShardAnswer.TheVariants.{Found}
 use Rattle.scrub_cli.specs.Fault.{line}
 
 -- the line of a remark on the superblocks, with its line feed
-abbrev pub superblock_line : SuperblockRemark → List ℕ
-superblock_line (Lost page) = line (codes "superblock lost:" ++ spaced (decimal page))
-superblock_line Tie = line (codes "tie")
+abbrev pub superblock_remark_line : SuperblockRemark → List ℕ
+superblock_remark_line (Lost page) = line (codes "superblock lost:" ++ spaced (decimal page))
+superblock_remark_line Tie = line (codes "tie")
 
 -- the lines of some of them
-abbrev pub superblock_lines : List SuperblockRemark → List ℕ
-superblock_lines remarks = flat_map superblock_line remarks
+abbrev pub superblock_remark_lines : List SuperblockRemark → List ℕ
+superblock_remark_lines remarks = flat_map superblock_remark_line remarks
 
 -- the line for the bytes of a shard whose entry is doubtful
 abbrev pub warning : List ℕ
 warning = line (codes "a newer entry may be lost")
 
 -- the lines for the bytes of a shard: those on the superblocks, and whether the entry is doubtful; none for another answer
-abbrev pub shard_lines : List SuperblockRemark → ShardAnswer → List ℕ
-shard_lines remarks (Found found) = superblock_lines remarks ++ (if found.is_doubtful then warning else [])
-shard_lines remarks answer = []
+abbrev pub shard_remark_lines : List SuperblockRemark → ShardAnswer → List ℕ
+shard_remark_lines remarks (Found found) = superblock_remark_lines remarks ++ (if found.is_doubtful then warning else [])
+shard_remark_lines remarks answer = []
 
 -- the line of a remark beside an archive, with its line feed
 abbrev pub remark_line : Remark → List ℕ
 remark_line NoSuperblock = line (codes "no superblock")
-remark_line (Superblock remark) = superblock_line remark
+remark_line (Superblock remark) = superblock_remark_line remark
 remark_line (RunLost number state) = line (codes "run lost:" ++ spaced (decimal number) ++ spaced (state_text state))
 remark_line (ShardLost id number) = line (codes "payload lost:" ++ spaced (encode_lower id.0) ++ spaced (two_digits number))
 remark_line (ShardDoubtful id) = line (codes "a newer entry may be lost:" ++ spaced (encode_lower id.0))

@@ -8,7 +8,7 @@ use Rattle.scrub_pool.specs.Takings.{TakingsValue}
 use Rattle.scrub_found.specs.GivenRuns.{AreTakingsFrom}
 use Rattle.scrub_run.specs.declared.shard_id.ShardId.{ShardId}
 use Rattle.scrub_listings.specs.declared.remarks.SuperblockRemark.{SuperblockRemark}
-use Rattle.scrub_shard.specs.Archive.{AreSaidFrom}
+use Rattle.scrub_listings.specs.Remarks.{AreSaidFrom}
 use Rattle.scrub_shard.specs.Shard.{IsShardAnswerFrom}
 use Rattle.scrub_shard.specs.declared.shard.ShardAnswer.{ShardAnswer}
 use Rattle.scrub_shard.specs.declared.shard.ShardAnswer.TheVariants.{NoSuchShard, PayloadLost as payload_is_lost, Found}
@@ -20,7 +20,7 @@ use Rattle.scrub_cli.specs.DiskGeometry.{IsGeometryOf, IsSizedFault}
 use Rattle.scrub_cli.specs.GivenRuns.{IsLoadedWithRuns, IsRunsFault}
 use Rattle.scrub_cli.specs.KnownFiles.{KnownMaps, KnownRaw}
 use Rattle.scrub_cli.specs.Outcome.{IsWarnedOutcome}
-use Rattle.scrub_cli.specs.Remarks.{shard_lines}
+use Rattle.scrub_cli.specs.Remarks.{shard_remark_lines}
 use Rattle.scrub_args.specs.ShardId.{IsIdText, IsNoIdText}
 
 -- the text is the bytes that were found, and the outcome has these lines for the error stream
@@ -56,7 +56,7 @@ pub record IsShardOf (known : KnownRaw) (maps : KnownMaps) (args : ShardArgs) (t
   pub is_read : IsShardRead known maps args geometry id image given answer
   pub remarks : List SuperblockRemark
   pub are_remarks : AreSaidFrom given image remarks
-  pub written : IsWrittenFor answer (shard_lines remarks answer) text outcome
+  pub written : IsWrittenFor answer (shard_remark_lines remarks answer) text outcome
 
 -- the answer of `shard`: that of some such image
 abbrev pub IsShardWritten : KnownRaw → KnownMaps → ShardArgs → List ℕ → Outcome → Type 0

@@ -6,6 +6,7 @@ ghost use Rattle.std.specs.Prelude.{nat_lt, string_bytes, if◌then◌else◌};
 ghost use Rattle.std.specs.List.Sorted.{IsStrictlyIncreasing};
 ghost use Rattle.scrub_disk.specs.Image.{Image};
 ghost use Rattle.scrub_super.specs.Pages.{AreSuperblockPages};
+ghost use Rattle.scrub_scan.specs.AllFindings.{IsOfImage};
 ghost use Rattle.scrub_found.specs.Takings.{AreTakingsBy};
 ghost use Rattle.scrub_found.specs.Judged.{AreJudgedBut, Beside, IsFoundOn, found_in};
 ghost use Rattle.scrub_compare.specs.Written.{AreFirstWritten, IsLeastNumber, IsWrittenInRecords};
@@ -19,10 +20,10 @@ use crate::manifests::append_manifest_changes;
 use crate::named::append_named;
 use crate::records::first_in_records;
 use scrub_disk::{OutOfMemory, PageSource};
-use scrub_found::{Judged, ScrubFault, judged_of, scan_chosen};
+use scrub_found::{Judged, ScrubFault, judged_of, scan_as_reset, scan_chosen};
 use scrub_listings::Listing;
 use scrub_pool::{Gate, Takings};
-use scrub_super::{Chosen, SuperblockPage, choose, choose_with_pages};
+use scrub_super::{Chosen, SuperblockPage, choose_with_pages};
 use std::alloc::Global;
 use std::fmt::Write;
 use std::sync::Wait;
@@ -39,6 +40,7 @@ fn judged_with_pages<'d, D: PageSource, G: Gate, R: Threads + Wait + Sync>(
 ) -> Result<(Judged<'d, D>, Vec<SuperblockPage>, Takings), ScrubFault>
     requires { workers ≤ 64 }
     ensures judged { IfOk result (λ r. AreJudgedBut [] (D.image disk.now) r.0) }
+    ensures source { IfOk result (λ r. IsOfImage (λ s. D.image s) r.0.scan.all (D.image disk.now)) }
     ensures pages { IfOk result (λ r. AreSuperblockPages (D.image disk.now) r.1.items) }
     ensures takings { IfOk result (λ r. AreTakingsBy (D.image disk.now) workers r.2) }
 {
@@ -48,30 +50,26 @@ fn judged_with_pages<'d, D: PageSource, G: Gate, R: Threads + Wait + Sync>(
     Ok((judged, pages, takings))
 }
 
-/// What is found on a disk as if these extents, which are ascending, had been reset, by what is found without
-/// resets.
-fn judged_after<'d, D: PageSource, G: Gate, R: Threads + Wait + Sync>(
+/// What is found on a disk as if these extents, which are ascending, had been reset, made of what is found
+/// without resets. Of that only the findings are kept in memory meanwhile.
+fn judged_after<'d, R: Threads + Sync, D: PageSource>(
     rt: &R,
     alloc: Global,
     disk: &'d D,
     found_after: Judged<'d, D>,
-    workers: u32,
-    gate: &G,
     resets: &[u32],
-) -> Result<Judged<'d, D>, ScrubFault>
-    requires workers { workers ≤ 64 }
+) -> Result<Judged<'d, D>, OutOfMemory>
     requires rising { IsStrictlyIncreasing resets.now }
     requires found_after { AreJudgedBut [] (D.image disk.now) found_after }
+    requires source { IsOfImage (λ s. D.image s) found_after.scan.all (D.image disk.now) }
     ensures { IfOk result (AreJudgedBut resets.now (D.image disk.now)) }
 {
     if resets.is_empty() {
         return Ok(found_after);
     }
-    drop(found_after);
-    let chosen = choose(alloc, disk)?;
-    let (scan, _takings) = scan_chosen(rt, alloc, disk, chosen, workers, gate, resets)?;
-    let found_after_resets = judged_of(rt, alloc, scan)?;
-    Ok(found_after_resets)
+    let Judged { scan, .. } = found_after;
+    let scan = scan_as_reset(alloc, disk, scan, resets)?;
+    judged_of(rt, alloc, scan)
 }
 
 /// The lines of the doubts of both images that can't be accepted.
@@ -230,9 +228,10 @@ fn listing_by(
 /// The last line is `safe OLD NEW` with the generations if none is there, or else `unsafe`. Offsets and
 /// pointers are in bytes.
 ///
-/// It scans each image as `scrub` does, with this many workers (0 to 64) beside the caller, and the later one
-/// once more if there are resets. Each extent is read whole from both images, one after another, and once
-/// more if a payload is gone. The only fault is `OutOfMemory`, returned once every started worker has ended.
+/// It scans each image once, as `scrub` does, with this many workers (0 to 64) beside the caller. The caller
+/// then scans those of `resets` in the later one again whose write pointer isn't 0. Each extent is read whole
+/// from both images, one after another, and once more if a payload is gone. The only fault is `OutOfMemory`,
+/// returned once every started worker has ended.
 pub fn compare<D: PageSource, E: PageSource, G: Gate, R: Threads + Wait + Sync>(
     rt: &R,
     alloc: Global,
@@ -264,7 +263,7 @@ pub fn compare<D: PageSource, E: PageSource, G: Gate, R: Threads + Wait + Sync>(
         &found_after,
         &pages_now,
     )?;
-    let found_after_resets = judged_after(rt, alloc, after, found_after, workers, gate, resets)?;
+    let found_after_resets = judged_after(rt, alloc, after, found_after, resets)?;
     append_manifest_changes(
         rt,
         alloc,

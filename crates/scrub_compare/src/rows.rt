@@ -8,7 +8,7 @@ ghost use Rattle.scrub_compare.specs.Compare.{are_alike, change, fallen_word, ha
 ghost use Rattle.scrub_compare.specs.Compare.{has_no_less, is_worse, last_word, lost_line, new_line};
 ghost use Rattle.scrub_compare.specs.Compare.{numbered, owned_by, place_or_form, row_change, row_line};
 ghost use Rattle.scrub_compare.specs.Compare.{shard_change, shard_changes};
-ghost use Rattle.scrub_compare.specs.steps.Rows.{AreByOwner, best_if_dangling, owner_cmp, row_among};
+ghost use Rattle.scrub_compare.specs.steps.Rows.{AreByOwner, best_by_if_dangling, owner_cmp, row_among};
 ghost use Rattle.scrub_compare.specs.steps.Rows.{stem_text};
 
 use scrub_check::{Checked, Owner, form_at};
@@ -102,7 +102,7 @@ fn stem_of<D: PageSource>(
 
 /// The best copy of a locator, if it dangles.
 fn best_copy(copies: &Copies, one: &Checked) -> Option<BestCopy>
-    ensures { result ≡ best_if_dangling copies.now one.now }
+    ensures { result ≡ best_by_if_dangling copies.now one.now }
 {
     if one.status.is_dangling() {
         Some(copies.best(one))

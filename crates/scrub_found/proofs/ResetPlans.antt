@@ -87,6 +87,14 @@ the_plan_but (e ∷ es) choice =
           };
     }
 
+-- its planned extents are those of the plan without resets
+pub planned_same : (resets : List ℕ) (choice : Choice) (old plan : PlanValue) → old ≡ plan_of choice → IsPlanBut resets choice plan →
+    old.planned ≡ plan.planned
+planned_same [] choice old plan was is = ap (λ (p : PlanValue). p.planned) (was ∙ sym is)
+planned_same (e ∷ es) choice old plan was is =
+    let reset : IsReset is.0 (e ∷ es) plan = is.2 in
+    ap (λ (p : PlanValue). p.planned) (was ∙ sym is.1) ∙ sym reset.planned
+
 -- what a plan has that isn't a write pointer is that of the plan without resets
 pub plan_before : (resets : List ℕ) (choice : Choice) (plan : PlanValue) → IsPlanBut resets choice plan →
     (old : PlanValue) × (old ≡ plan_of choice) × (plan.retired ≡ old.retired) × (plan.runs ≡ old.runs) × (plan.has_superblock ≡ old.has_superblock)

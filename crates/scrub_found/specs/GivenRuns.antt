@@ -1,5 +1,6 @@
 -- What is found on a disk, and what a scan takes, as if a superblock counted that lists given index runs.
-use Rattle.std.specs.Prelude.{◌≡◌, ◌+◌, [], ℕ, List, Option, None, Some, length}
+use Rattle.std.specs.Prelude.{◌≡◌, ◌+◌, [], ℕ, List, Option, None, Some, length, option_map}
+use Rattle.std.specs.Borrow.{Bor}
 use Rattle.scrub_disk.specs.Image.{Image}
 use Rattle.scrub_frame.specs.declared.locator.Locator.{Locator}
 use Rattle.scrub_super.specs.Chosen.{Choice}
@@ -10,6 +11,10 @@ use Rattle.scrub_pool.specs.Takings.{IsPartition, TakingsValue}
 use Rattle.scrub_found.specs.Resets.{IsPlanBut}
 use Rattle.scrub_found.specs.Scrubbed.{IsScrubbedBy, Scrubbed}
 use Rattle.scrub_found.specs.Takings.{AreTakingsBy}
+
+-- the index runs that are given, if any are
+abbrev pub given_in : Option (Bor (List Locator)) → Option (List Locator)
+given_in given = option_map (λ runs. runs.now) given
 
 -- the plan follows from the choice, as if these extents had been reset; or, where index runs are given, it is that of a disk on which
 -- one superblock counts that lists these runs, retires nothing, and has each write pointer at its extent's end

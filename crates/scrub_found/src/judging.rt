@@ -73,9 +73,10 @@ pub fn judged_of<'d, R: Threads + Sync, D: PageSource>(
     scan: Scan<'d, D>,
 ) -> Result<Judged<'d, D>, OutOfMemory>
     requires { IsWholeScan (D.image scan.disk.now) scan.plan scan.all.extents }
-    ensures { (given : Option (List Locator)) (resets : List ℕ) →
+    ensures judged { (given : Option (List Locator)) (resets : List ℕ) →
         IsScanFrom given resets (D.image scan.entry.disk.now) scan.entry →
         IfOk result (AreJudgedFrom given resets (D.image scan.entry.disk.now)) }
+    ensures scan { IfOk result (λ j. j.scan ≡ scan.entry) }
 {
     let (read, statuses) = read_all_runs(rt, alloc, scan.disk, &scan.plan, &scan.all)?;
     let in_doubt = is_in_doubt(&scan.chosen, &read);

@@ -14,5 +14,6 @@ pub use fault::ScrubFault;
 pub use judging::{DrawnScan, Judged, drawn_scan, each_image_has_findings_under_resets, judged_of};
 pub use runs::RunRow;
 pub use scanning::{
-    Scan, one_list_of_planned_extents, scan_by, scan_by_one, scan_chosen, scan_listed,
+    Scan, one_list_of_planned_extents, scan_as_reset, scan_by, scan_by_one, scan_chosen,
+    scan_listed,
 };

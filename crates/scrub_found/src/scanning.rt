@@ -5,6 +5,7 @@ ghost use Rattle.scrub_disk.specs.Image.{Image};
 ghost use Rattle.scrub_frame.specs.declared.locator.Locator.{Locator};
 ghost use Rattle.scrub_frame.specs.Locator.{IsLocator};
 ghost use Rattle.scrub_super.specs.Chosen.{IsChoice};
+ghost use Rattle.scrub_scan.specs.AllFindings.{IsOfImage};
 ghost use Rattle.scrub_found.specs.Takings.{ArePlannedExtents, AreTakingsBy};
 ghost use Rattle.scrub_found.specs.GivenRuns.{AreTakingsFrom};
 ghost use Rattle.scrub_found.specs.Judged.{IsScan, IsScanBut, IsScanFrom};
@@ -16,7 +17,7 @@ use crate::fault::ScrubFault;
 use scrub_disk::{Geometry, OutOfMemory, PageSource};
 use scrub_frame::Locator;
 use scrub_pool::{ExtentQueue, Gate, Takings, scan_all};
-use scrub_scan::{AllFindings, scan_in_order};
+use scrub_scan::{AllFindings, rescan, scan_in_order};
 use scrub_super::{Chosen, Plan, choose};
 use std::alloc::Global;
 use std::sync::Wait;
@@ -105,6 +106,7 @@ fn scan_planned<'d, D: PageSource, G: Gate, R: Threads + Wait + Sync>(
     ensures scan { (given : Option (List Locator)) (resets : List ℕ) →
         IsChoice (D.image disk.now) chosen → FollowsFrom given resets chosen plan →
         IfOk result (λ r. IsScanFrom given resets (D.image r.0.disk.now) r.0) }
+    ensures source { IfOk result (λ r. IsOfImage (λ s. D.image s) r.0.all (D.image disk.now)) }
     ensures takings { (given : Option (List Locator)) (resets : List ℕ) →
         IsChoice (D.image disk.now) chosen → FollowsFrom given resets chosen plan →
         IfOk result (λ r. AreTakingsFrom given (D.image disk.now) workers r.1) }
@@ -136,10 +138,36 @@ pub fn scan_chosen<'d, D: PageSource, G: Gate, R: Threads + Wait + Sync>(
     requires rising { IsStrictlyIncreasing resets.now }
     ensures image { IfOk result (λ r. D.image r.0.disk.now ≡ D.image disk.now) }
     ensures scan { IfOk result (λ r. IsScanBut resets.now (D.image r.0.disk.now) r.0) }
+    ensures source { IfOk result (λ r. IsOfImage (λ s. D.image s) r.0.all (D.image disk.now)) }
     ensures takings { IfOk result (λ r. AreTakingsBy (D.image disk.now) workers r.1) }
 {
     let plan = plan_but(alloc, &chosen, disk.geometry(), resets)?;
     scan_planned(rt, alloc, disk, chosen, plan, workers, gate)
+}
+
+/// A scan of a disk as if these extents, which are ascending, had been reset, made of a scan of it without
+/// resets. Only those of them whose write pointer isn't 0 are scanned again, by the caller alone.
+pub fn scan_as_reset<'d, D: PageSource>(
+    alloc: Global,
+    disk: &'d D,
+    scan: Scan<'d, D>,
+    resets: &[u32],
+) -> Result<Scan<'d, D>, OutOfMemory>
+    requires rising { IsStrictlyIncreasing resets.now }
+    requires scan { IsScan (D.image disk.now) scan }
+    requires source { IsOfImage (λ s. D.image s) scan.all (D.image disk.now) }
+    ensures image { IfOk result (λ s. D.image s.disk.now ≡ D.image disk.now) }
+    ensures scan { IfOk result (λ s. IsScanBut resets.now (D.image s.disk.now) s) }
+{
+    let Scan { chosen, all, .. } = scan;
+    let plan = plan_but(alloc, &chosen, disk.geometry(), resets)?;
+    let all = rescan(alloc, disk, &plan, all)?;
+    Ok(Scan {
+        disk,
+        chosen,
+        plan,
+        all,
+    })
 }
 
 /// Scans a disk as `scan_by` does, but as if one superblock counted that lists these index runs, newest first

@@ -1,6 +1,6 @@
 -- An image has exactly one listing of its named locators, one of its superblocks, one of its index runs, one summary, one list of
 -- remarks, and one manifest for each list of resets, since what is found on it is unique.
-use Rattle.std.proofs.Common.{◌≡◌, ◌++◌, [], ℕ, Bool, true, false, List, Option, None, IfSome, length, refl, sym, ◌∙◌, ap, subst}
+use Rattle.std.proofs.Common.{◌≡◌, ◌<◌, ◌^◌, ◌++◌, [], ℕ, All, Bool, true, false, List, Option, None, Some, IfSome, length, refl, sym, ◌∙◌, ap, subst}
 use Rattle.std.specs.Prelude.{IsTrue, ◌↔◌}
 use Rattle.std.specs.List.{flat_map}
 use Rattle.std.proofs.lemmas.Bool.{false≢true}
@@ -8,6 +8,7 @@ use Rattle.list_facts.proofs.Decisions.{test_of, test_of-holds, test_of-passes}
 use Rattle.list_facts.proofs.OneAnswers.{HasOneAnswer, and_then, same_answer}
 use Rattle.scrub_disk.specs.Image.{Image}
 use Rattle.scrub_frame.specs.declared.locator.Locator.{Locator}
+use Rattle.scrub_frame.specs.Locator.{IsLocator}
 use Rattle.scrub_super.specs.Pages.{AreSuperblockPages}
 use Rattle.scrub_super.specs.steps.Limits.{AreRunLocators}
 use Rattle.scrub_super.proofs.Laws.{one_choice_lem}
@@ -29,12 +30,18 @@ use Rattle.scrub_loose.proofs.ReadablePages.{decided_readable}
 use Rattle.scrub_listings.specs.FoundRuns.{IsRunsListing, run_line, runs_total}
 use Rattle.scrub_listings.specs.Locators.{IsLocatorListing, locator_lines}
 use Rattle.scrub_listings.specs.Manifest.{IsManifestFrom, is_whole, manifest_text}
-use Rattle.scrub_listings.specs.Remarks.{AreSuperblockRemarks, superblock_remarks}
+use Rattle.scrub_listings.specs.Remarks.{AreSaidFrom, superblock_remarks}
 use Rattle.scrub_listings.specs.Summary.{IsSummary, is_sound_verdict, summary_text, verdict}
 use Rattle.scrub_listings.specs.Superblocks.{IsSuperblockListing, are_clean_pages, superblock_lines}
 use Rattle.scrub_listings.specs.declared.remarks.SuperblockRemark.{SuperblockRemark}
 
 -- ---- what is found
+
+-- Runs that can be given keep the limits of a plan's.
+pub can_be_given : (given : Option (List Locator)) → IfSome given (λ runs. (length runs < 2 ^ 32) × All IsLocator runs) →
+    IfSome given AreRunLocators
+can_be_given None can = tt
+can_be_given (Some runs) can = record { count = can.0; each = can.1 }
 
 module _ (given : Option (List Locator)) (resets : List ℕ) (image : Image) where
   some_found : IfSome given AreRunLocators →
@@ -152,18 +159,21 @@ one_runs_listing image =
     (λ s is. record { listed = s.0; are = is.0; text_is = refl; verdict = is.1 })
     (λ a v l. ((l.listed, v), (l.are, l.verdict), l.text_is, refl)) (and_then (one_runs image) (λ runs are. one_readable image))
 
--- It has remarks on its superblocks.
-pub some_remarks : (image : Image) → (remarks : List SuperblockRemark) × AreSuperblockRemarks image remarks
-some_remarks image =
+-- Something is said of the superblocks, or nothing if index runs are given.
+pub some_said : (given : Option (List Locator)) (image : Image) → (said : List SuperblockRemark) × AreSaidFrom given image said
+some_said None image =
     let choice = some_choice image in
     let pages = some_pages image in (
       superblock_remarks choice.0.tie pages.0,
       record { choice = choice.0; chosen = choice.1; pages = pages.0; held = pages.1; remarks_are = refl },
     )
+some_said (Some runs) image = ([], refl)
 
--- These are one list.
-pub one_remarks_lem : (image : Image) (a b : List SuperblockRemark) → AreSuperblockRemarks image a → AreSuperblockRemarks image b → a ≡ b
-one_remarks_lem image a b x y =
+-- What is said is one list.
+pub one_said : (given : Option (List Locator)) (image : Image) (a b : List SuperblockRemark) → AreSaidFrom given image a →
+    AreSaidFrom given image b → a ≡ b
+one_said None image a b x y =
     let choice = one_choice_lem image x.choice y.choice x.chosen y.chosen in
     let pages = one_list_of_pages image x.pages y.pages x.held y.held in
     x.remarks_are ∙ (λ i. superblock_remarks (choice i).tie (pages i)) ∙ sym y.remarks_are
+one_said (Some runs) image a b x y = x ∙ sym y

@@ -28,7 +28,7 @@ use Rattle.scrub_loose.specs.Loose.{AreLoose, LooseValue, best_of}
 use Rattle.scrub_loose.specs.declared.copies.BestCopy.{BestCopy}
 use Rattle.scrub_loose.specs.declared.copies.BestCopy.TheVariants.{Nowhere, Loose, Spare}
 use Rattle.scrub_listings.specs.declared.remarks.SuperblockRemark.{SuperblockRemark}
-use Rattle.scrub_listings.specs.Remarks.{AreSuperblockRemarks}
+use Rattle.scrub_listings.specs.Remarks.{AreSaidFrom}
 
 -- ---- the lines
 
@@ -170,12 +170,12 @@ IsManifestBut resets image text whole = IsManifestFrom None resets image text wh
 abbrev pub IsManifest : Image → List ℕ → Bool → Type 0
 IsManifest image text whole = IsManifestBut [] image text whole
 
--- the manifest, and the remarks on the superblocks beside it; the truth value says whether nothing is missing and there is no
--- remark
-pub record IsRemarkedManifest (resets : List ℕ) (image : Image) (text : List ℕ) (remarks : List SuperblockRemark) (clean : Bool) : Type 0 where
+-- the manifest, and what is said of the superblocks beside it; the truth value says whether nothing is missing and nothing is said
+pub record IsRemarkedManifest (given : Option (List Locator)) (resets : List ℕ) (image : Image) (text : List ℕ) (remarks : List SuperblockRemark)
+    (clean : Bool) : Type 0 where
   pub whole : Bool
-  pub manifest : IsManifestBut resets image text whole
-  pub are_remarks : AreSuperblockRemarks image remarks
+  pub manifest : IsManifestFrom given resets image text whole
+  pub are_remarks : AreSaidFrom given image remarks
   pub clean_is : clean ≡ (whole && len remarks == 0)
 
 -- ---- what a manifest says

@@ -2,6 +2,7 @@
 use Rattle.std.specs.Prelude.{◌≡◌, ◌++◌, ◌∷◌, [], ℕ, Bool, List, Option, None, Some, if◌then◌else◌}
 use Rattle.std.specs.List.{enumerate_from, filter_map}
 use Rattle.scrub_disk.specs.Image.{Image}
+use Rattle.scrub_frame.specs.declared.locator.Locator.{Locator}
 use Rattle.scrub_super.specs.Chosen.{Choice, IsChoice}
 use Rattle.scrub_super.specs.Pages.{AreSuperblockPages}
 use Rattle.scrub_super.specs.declared.pages.SuperblockPage.{SuperblockPage}
@@ -30,3 +31,8 @@ pub record AreSuperblockRemarks (image : Image) (remarks : List SuperblockRemark
   pub pages : List SuperblockPage
   pub held : AreSuperblockPages image pages
   pub remarks_are : remarks ≡ superblock_remarks choice.tie pages
+
+-- what is said of the superblocks of an image by given index runs, which is nothing, or else by the superblock that counts
+abbrev pub AreSaidFrom : Option (List Locator) → Image → List SuperblockRemark → Type 0
+AreSaidFrom None image remarks = AreSuperblockRemarks image remarks
+AreSaidFrom (Some runs) image remarks = remarks ≡ []

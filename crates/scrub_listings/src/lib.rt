@@ -6,6 +6,7 @@ pub mod found_runs;
 pub mod listing;
 pub mod manifest;
 pub mod remarks;
+pub mod scanning;
 pub mod sizes_listing;
 pub mod summary;
 pub mod superblocks;
@@ -15,12 +16,12 @@ pub use found_runs::{
 };
 pub use listing::{Listing, each_image_has_a_locator_listing, list_locators, one_locator_listing};
 pub use manifest::{
-    Manifest, each_image_has_a_manifest, list_manifest, list_manifest_by_runs, one_manifest,
-    one_manifest_holds_the_same,
+    Manifest, each_image_has_a_manifest, list_manifest, one_manifest, one_manifest_holds_the_same,
 };
 pub use remarks::{
     SuperblockRemark, each_image_has_remarks, one_list_of_remarks, superblock_remarks,
 };
+pub use scanning::scan_with_remarks;
 pub use sizes_listing::{
     SizesFound, each_front_has_a_sizes_listing, find_sizes, list_sizes, one_size, one_sizes_listing,
 };

@@ -1,8 +1,8 @@
 //! The manifest of a disk: its retired extents, its index runs that aren't read as usual, and what the
 //! locators of each shard name, wherever that lies; and what is said of the superblocks beside it.
 
-ghost use Rattle.std.specs.Prelude.{◌≡◌, ◌++◌, ◌<◌, ◌≤◌, ◌&&◌, ◌==◌, ◌^◌, [], Bool, List, ℕ, All, AllPairs};
-ghost use Rattle.std.specs.Prelude.{IfOk, OnOk, Option, Some, is_none, length, map, string_bytes};
+ghost use Rattle.std.specs.Prelude.{◌≡◌, ◌++◌, ◌<◌, ◌≤◌, ◌&&◌, ◌==◌, ◌^◌, Bool, List, ℕ, All, AllPairs};
+ghost use Rattle.std.specs.Prelude.{IfOk, IfSome, OnOk, Option, is_none, length, map, string_bytes};
 ghost use Rattle.std.specs.Fmt.{decimal};
 ghost use Rattle.std.specs.List.{count_by, flat_map};
 ghost use Rattle.std.specs.List.Sorted.{IsStrictlyIncreasing};
@@ -13,8 +13,7 @@ ghost use Rattle.scrub_run.specs.Entry.{IsBelow};
 ghost use Rattle.scrub_scan.specs.Line.{spaced};
 ghost use Rattle.scrub_check.specs.Checked.{is_hidden, named_of};
 ghost use Rattle.scrub_check.specs.Named.{named_by_shard};
-ghost use Rattle.scrub_found.specs.Takings.{AreTakingsBy};
-ghost use Rattle.scrub_found.specs.GivenRuns.{AreTakingsFrom};
+ghost use Rattle.scrub_found.specs.GivenRuns.{AreTakingsFrom, given_in};
 ghost use Rattle.scrub_found.specs.Judged.{IsScanFrom};
 ghost use Rattle.scrub_listings.specs.Manifest.{HoldTheSame, HoldsBytes, IsManifestBut, IsManifestFrom};
 ghost use Rattle.scrub_listings.specs.Manifest.{IsRemarkedManifest, all_traits, after_status, copy_word};
@@ -25,18 +24,19 @@ ghost use Rattle.scrub_listings.specs.declared.remarks.SuperblockRemark.{Superbl
 ghost use Rattle.scrub_listings.specs.steps.Manifest.{after_status_by, is_of_read_row};
 
 use crate::listing::Listing;
-use crate::remarks::{SuperblockRemark, superblock_remarks};
+use crate::remarks::SuperblockRemark;
+use crate::scanning::scan_with_remarks;
 use scrub_check::{Checked, Owner, Status, form_at};
 use scrub_disk::{OutOfMemory, PageSource};
 use scrub_found::judging::are_sound;
 use scrub_found::texts::{owner_text, status_text};
-use scrub_found::{RunRow, Scan, ScrubFault, judged_of, scan_chosen, scan_listed};
+use scrub_found::{RunRow, Scan, ScrubFault, judged_of};
 use scrub_frame::{Form, Locator};
 use scrub_loose::{BestCopy, Copies};
 use scrub_merge::Binding;
 use scrub_pool::{Gate, Takings};
 use scrub_scan::AllFindings;
-use scrub_super::{Plan, choose_with_pages};
+use scrub_super::Plan;
 use std::alloc::Global;
 use std::fmt::Write;
 use std::sync::Wait;
@@ -365,6 +365,10 @@ fn is_clean_by(is_whole: bool, remarks: &[SuperblockRemark]) -> bool
 /// There is a remark for each page of extent 0 that can't be read or is damaged, ascending, and then one if
 /// there is a tie. They don't depend on the extents that are taken as reset.
 ///
+/// If index runs are given, newest first and fewer than 2^32, it is as if one superblock counted that lists
+/// these, retires nothing, and has each write pointer at its extent's end. What is in extent 0 doesn't matter
+/// then, so there are no remarks.
+///
 /// It scans as `scrub` does, with this many workers (0 to 64) beside the caller. The bytes of the extents in
 /// use are read once more if a locator that dangles asks for bytes and has no spare. The only fault is
 /// `OutOfMemory`, returned once every started worker has ended.
@@ -374,17 +378,22 @@ pub fn list_manifest<D: PageSource, G: Gate, R: Threads + Wait + Sync>(
     disk: &D,
     workers: u32,
     gate: &G,
+    given: Option<&[Locator]>,
     resets: &[u32],
 ) -> Result<(Manifest, Takings), ScrubFault>
     requires workers { workers ≤ 64 }
+    requires few { IfSome given (λ runs. length runs.now < 2 ^ 32) }
+    requires located { IfSome given (λ runs. All IsLocator runs.now) }
     requires rising { IsStrictlyIncreasing resets.now }
     ensures manifest { IfOk result (λ r.
-        IsRemarkedManifest resets.now (D.image disk.now) r.0.text.items r.0.remarks.items r.0.is_clean) }
-    ensures takings { IfOk result (λ r. AreTakingsBy (D.image disk.now) workers r.1) }
+        IsRemarkedManifest (given_in given.entry) resets.now (D.image disk.now)
+        r.0.text.items r.0.remarks.items r.0.is_clean) }
+    ensures takings { IfOk result (λ r.
+        AreTakingsFrom (given_in given.entry) (D.image disk.now) workers r.1) }
 {
-    let (chosen, pages) = choose_with_pages(alloc, disk)?;
-    let remarks = superblock_remarks(alloc, &chosen, &pages)?;
-    let (scan, takings) = scan_chosen(rt, alloc, disk, chosen, workers, gate, resets)?;
+    let (scan, remarks, takings) = scan_with_remarks(
+        rt, alloc, disk, workers, gate, given, resets,
+    )?;
     let manifest = manifest_of(rt, alloc, scan, resets)?;
     let is_clean = is_clean_by(manifest.is_clean, &remarks);
     Ok((
@@ -397,40 +406,15 @@ pub fn list_manifest<D: PageSource, G: Gate, R: Threads + Wait + Sync>(
     ))
 }
 
-/// Lists what a disk holds, as `list_manifest` does, but as if one superblock counted that lists these index
-/// runs, newest first and fewer than 2^32, retires nothing, and has each write pointer at its extent's end.
-/// What is in extent 0 doesn't matter, so there are no remarks.
-pub fn list_manifest_by_runs<D: PageSource, G: Gate, R: Threads + Wait + Sync>(
-    rt: &R,
-    alloc: Global,
-    disk: &D,
-    workers: u32,
-    gate: &G,
-    runs: &[Locator],
-) -> Result<(Listing, Takings), ScrubFault>
-    requires workers { workers ≤ 64 }
-    requires few { length runs.now < 2 ^ 32 }
-    requires located { All IsLocator runs.now }
-    ensures manifest { IfOk result (λ r.
-        IsManifestFrom (Some runs.now) [] (D.image disk.now) r.0.text.items r.0.is_clean) }
-    ensures takings { IfOk result (λ r. AreTakingsFrom (Some runs.now) (D.image disk.now) workers r.1) }
-{
-    let (scan, takings) = scan_listed(rt, alloc, disk, runs, workers, gate)?;
-    let manifest = manifest_of(rt, alloc, scan, &[])?;
-    Ok((manifest, takings))
-}
-
-/// A law: an image has at most one manifest and one verdict, for each list of extents to be reset, and for
-/// each list of index runs that are given; and with the first one list of remarks.
+/// A law: by index runs that are given, or else by the superblock that counts as if some extents had been
+/// reset, an image has at most one manifest, one list of remarks, and one verdict.
 pub fn one_manifest()
-    ensures text { (resets : List ℕ) (image : Image) (a b : List ℕ) (v w : Bool) →
-        IsManifestBut resets image a v → IsManifestBut resets image b w → (a ≡ b) × (v ≡ w) }
-    ensures by_runs { (runs : List Locator) (image : Image) (a b : List ℕ) (v w : Bool) →
-        IsManifestFrom (Some runs) [] image a v → IsManifestFrom (Some runs) [] image b w →
+    ensures text { (given : Option (List Locator)) (resets : List ℕ) (image : Image) (a b : List ℕ)
+        (v w : Bool) → IsManifestFrom given resets image a v → IsManifestFrom given resets image b w →
         (a ≡ b) × (v ≡ w) }
-    ensures remarked { (resets : List ℕ) (image : Image) (a b : List ℕ) (r s : List SuperblockRemark)
-        (v w : Bool) → IsRemarkedManifest resets image a r v → IsRemarkedManifest resets image b s w →
-        (a ≡ b) × (r ≡ s) × (v ≡ w) }
+    ensures remarked { (given : Option (List Locator)) (resets : List ℕ) (image : Image) (a b : List ℕ)
+        (r s : List SuperblockRemark) (v w : Bool) → IsRemarkedManifest given resets image a r v →
+        IsRemarkedManifest given resets image b s w → (a ≡ b) × (r ≡ s) × (v ≡ w) }
 {}
 
 /// A law: two disks with one manifest, as if whichever extents had been reset, both have a superblock or
@@ -451,15 +435,15 @@ pub fn one_manifest_holds_the_same()
         all_traits x.found x.loose.frames ≡ all_traits y.found y.loose.frames }
 {}
 
-/// A law: each image has a manifest, for each list of extents to be reset and for each list of index runs
-/// that can be given, and a verdict whether anything is missing; and with the first remarks on its
-/// superblocks. With `one_manifest`, it has exactly one.
+/// A law: by index runs that can be given, or else by the superblock that counts as if some extents had been
+/// reset, each image has a manifest, a list of remarks, and a verdict. With `one_manifest`, it has exactly
+/// one of each.
 pub fn each_image_has_a_manifest()
-    ensures text { (resets : List ℕ) (image : Image) →
-        (text : List ℕ) × (whole : Bool) × IsManifestBut resets image text whole }
-    ensures by_runs { (runs : List Locator) (image : Image) → length runs < 2 ^ 32 → All IsLocator runs →
-        (text : List ℕ) × (whole : Bool) × IsManifestFrom (Some runs) [] image text whole }
-    ensures remarked { (resets : List ℕ) (image : Image) → (text : List ℕ) ×
+    ensures text { (given : Option (List Locator)) (resets : List ℕ) (image : Image) →
+        IfSome given (λ runs. (length runs < 2 ^ 32) × All IsLocator runs) →
+        (text : List ℕ) × (whole : Bool) × IsManifestFrom given resets image text whole }
+    ensures remarked { (given : Option (List Locator)) (resets : List ℕ) (image : Image) →
+        IfSome given (λ runs. (length runs < 2 ^ 32) × All IsLocator runs) → (text : List ℕ) ×
         (remarks : List SuperblockRemark) × (clean : Bool) ×
-        IsRemarkedManifest resets image text remarks clean }
+        IsRemarkedManifest given resets image text remarks clean }
 {}

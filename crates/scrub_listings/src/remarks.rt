@@ -1,9 +1,10 @@
 //! What is said of the superblocks of a disk beside a text: that a page of extent 0 may have had a newer one,
 //! or that there is a tie.
 
-ghost use Rattle.std.specs.Prelude.{◌≡◌, IfOk, List};
+ghost use Rattle.std.specs.Prelude.{◌≡◌, IfOk, List, Option};
 ghost use Rattle.scrub_disk.specs.Image.{Image};
-ghost use Rattle.scrub_listings.specs.Remarks.{AreSuperblockRemarks, page_remark, page_remarks};
+ghost use Rattle.scrub_frame.specs.declared.locator.Locator.{Locator};
+ghost use Rattle.scrub_listings.specs.Remarks.{AreSaidFrom, page_remark, page_remarks};
 ghost use Rattle.scrub_listings.specs.Remarks.{superblock_remarks};
 ghost use Rattle.scrub_listings.specs.declared.remarks.SuperblockRemark.{SuperblockRemark};
 
@@ -62,14 +63,16 @@ pub fn superblock_remarks(
     Ok(remarks)
 }
 
-/// A law: an image has at most one list of remarks on its superblocks.
+/// A law: by index runs that are given, or else by the superblock that counts, an image has at most one list
+/// of remarks on its superblocks.
 pub fn one_list_of_remarks()
-    ensures { (image : Image) (a b : List SuperblockRemark) → AreSuperblockRemarks image a →
-        AreSuperblockRemarks image b → a ≡ b }
+    ensures { (given : Option (List Locator)) (image : Image) (a b : List SuperblockRemark) →
+        AreSaidFrom given image a → AreSaidFrom given image b → a ≡ b }
 {}
 
-/// A law: each image has a list of remarks on its superblocks. With `one_list_of_remarks`, it has exactly
-/// one.
+/// A law: by index runs that are given, or else by the superblock that counts, each image has a list of
+/// remarks on its superblocks. With `one_list_of_remarks`, it has exactly one.
 pub fn each_image_has_remarks()
-    ensures { (image : Image) → (remarks : List SuperblockRemark) × AreSuperblockRemarks image remarks }
+    ensures { (given : Option (List Locator)) (image : Image) →
+        (remarks : List SuperblockRemark) × AreSaidFrom given image remarks }
 {}

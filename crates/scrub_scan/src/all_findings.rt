@@ -89,8 +89,7 @@ impl<'d, D: PageSource> AllFindings<'d, D> {
         AllFindings { slots }
     }
 
-    /// Gives its slots back, which hold the results of these extents in ascending order, none missing. Takes no
-    /// memory.
+    /// The slots: the results of these extents in ascending order, none missing. Takes no memory.
     pub(crate) fn into_slots(self) -> Vec<Option<ExtentResult<'d, D>>>
         ensures full { AreFull result.items }
         ensures extents { scanned_in result.items ≡ self.entry.extents }

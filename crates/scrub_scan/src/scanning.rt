@@ -147,8 +147,8 @@ pub fn scan_in_order<'d, D: PageSource>(
     Ok(AllFindings::from_slots(plan, slots))
 }
 
-/// The result of an extent under a write pointer: the one that there is, if it is under that pointer, and else
-/// that of another scan.
+/// The result of an extent under a write pointer: the one that there is, if it is under that pointer, or that
+/// of another scan.
 fn result_under<'d, D: PageSource>(
     alloc: Global,
     workspace: &mut Workspace,

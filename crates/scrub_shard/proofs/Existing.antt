@@ -27,9 +27,8 @@ use Rattle.scrub_found.specs.GivenRuns.{IsScrubbedFrom}
 use Rattle.scrub_found.specs.Scrubbed.{Scrubbed}
 use Rattle.scrub_found.proofs.Existing.{some_scrub_from}
 use Rattle.scrub_found.proofs.GivenPlans.{plan_from_fits, whole_from}
-use Rattle.scrub_listings.specs.declared.remarks.SuperblockRemark.{SuperblockRemark}
-use Rattle.scrub_listings.proofs.OneListing.{some_remarks}
-use Rattle.scrub_shard.specs.Archive.{Answered, AreSaidFrom, IsWholeArchiveFrom, all_remarks, archive_of, archive_members}
+use Rattle.scrub_listings.proofs.OneListing.{some_said}
+use Rattle.scrub_shard.specs.Archive.{Answered, IsWholeArchiveFrom, all_remarks, archive_of, archive_members}
 use Rattle.scrub_shard.specs.PartialArchive.{IsArchiveFrom, IsParted, IsPartialArchiveFrom, Parted, archive_of_files, files_of, partial_remarks}
 use Rattle.scrub_shard.specs.Shard.{HasFirstPayload, IsAnswerIn, IsEntryAnswer, IsMappedFrom, IsShardAnswerFrom, Mapped, asks_for_nothing}
 use Rattle.scrub_shard.specs.steps.Archive.{IsPartBy}
@@ -179,11 +178,6 @@ answers_are given image can (b ∷ bs) =
       ap (λ is. b.id ∷ is) rest.0,
       All-cons (λ a. IsShardAnswerFrom given image a.id a.answer) (record { id = b.id; answer = one.0 }) (answers_for given image can bs) one.1 rest.1,
     )
-
--- something is said of the superblocks, or nothing if runs are given
-some_said : (given : Option (List Locator)) (image : Image) → (said : List SuperblockRemark) × AreSaidFrom given image said
-some_said None image = some_remarks image
-some_said (Some runs) image = ([], refl)
 
 some_whole : (given : Option (List Locator)) (image : Image) → IfSome given AreRunLocators →
     (tar : List ℕ) × (remarks : List Remark) × IsWholeArchiveFrom given image tar remarks

@@ -1,7 +1,7 @@
 //! Reads one shard of a disk: its entry in the shard map, and the payloads for the locators of that entry.
 
-ghost use Rattle.std.specs.Prelude.{◌≡◌, ◌↔◌, ◌<◌, ◌≤◌, ◌^◌, [], ℕ, All, Contains, IfOk, List, Option};
-ghost use Rattle.std.specs.Prelude.{Some, false, length, true};
+ghost use Rattle.std.specs.Prelude.{◌≡◌, ◌↔◌, ◌<◌, ◌≤◌, ◌^◌, [], ℕ, All, Contains, IfOk, IfSome, List};
+ghost use Rattle.std.specs.Prelude.{Option, Some, false, length, true};
 ghost use Rattle.scrub_disk.specs.Image.{Image};
 ghost use Rattle.scrub_frame.specs.declared.locator.Locator.{Locator};
 ghost use Rattle.scrub_frame.specs.Locator.{IsLocator};
@@ -13,11 +13,10 @@ ghost use Rattle.scrub_check.specs.declared.statuses.status.Status.{Status};
 ghost use Rattle.scrub_check.specs.Checked.{AreChecked, is_dangling};
 ghost use Rattle.scrub_check.specs.Status.{HasStatusIn};
 ghost use Rattle.scrub_merge.specs.Binding.{BindingValue};
-ghost use Rattle.scrub_found.specs.GivenRuns.{AreTakingsFrom};
-ghost use Rattle.scrub_found.specs.Takings.{AreTakingsBy};
+ghost use Rattle.scrub_found.specs.GivenRuns.{AreTakingsFrom, given_in};
 ghost use Rattle.scrub_found.specs.Judged.{IsScanFrom};
 ghost use Rattle.scrub_loose.specs.Loose.{AreLoose, LooseValue};
-ghost use Rattle.scrub_listings.specs.Remarks.{AreSuperblockRemarks};
+ghost use Rattle.scrub_listings.specs.Remarks.{AreSaidFrom};
 ghost use Rattle.scrub_shard.specs.Bytes.{BytesValue};
 ghost use Rattle.scrub_shard.specs.Shard.{AreAlike, EachRunIsRead, HasBytesByOwnList, HaveContentsOfEntry};
 ghost use Rattle.scrub_shard.specs.Shard.{HaveContentsOfEntryFrom, IsEntryAnswer, IsLostInEntry};
@@ -30,12 +29,11 @@ ghost use Rattle.scrub_shard.specs.declared.shard.ShardAnswer.{ShardAnswer};
 ghost use Rattle.scrub_shard.specs.declared.shard.ShardAnswer.TheVariants.{Found, PayloadLost};
 
 use crate::payloads::{bytes_for, first_lost};
-use crate::scanning::scan_with_remarks;
 use scrub_check::{Checked, Named, check_all, name_shard, read_all_runs};
 use scrub_disk::{OutOfMemory, PageSource};
-use scrub_found::{Scan, ScrubFault, scan_listed};
+use scrub_found::{Scan, ScrubFault};
 use scrub_frame::Locator;
-use scrub_listings::SuperblockRemark;
+use scrub_listings::{SuperblockRemark, scan_with_remarks};
 use scrub_loose::Copies;
 use scrub_merge::{Binding, merge_by_threads};
 use scrub_pool::{Gate, Takings};
@@ -184,45 +182,32 @@ fn shard_of<R: Threads + Sync, D: PageSource>(
 /// this many workers (0 to 64) beside the caller. The bytes of the extents in use are read once more if a
 /// locator of the entry dangles, asks for bytes and has no spare. The only fault is `OutOfMemory`, returned
 /// once every started worker has ended.
+///
+/// If index runs are given, newest first and fewer than 2^32, it is as if one superblock counted that lists
+/// these, retires nothing, and has each write pointer at its extent's end. What is in extent 0 doesn't matter
+/// then, so nothing is said of superblocks.
 pub fn read_shard<D: PageSource, G: Gate, R: Threads + Wait + Sync>(
     rt: &R,
     alloc: Global,
     disk: &D,
     workers: u32,
     gate: &G,
+    given: Option<&[Locator]>,
     id: ShardId,
 ) -> Result<(ShardReading, Takings), ScrubFault>
-    requires { workers ≤ 64 }
-    ensures shard { IfOk result (λ r. IsShardAnswer (D.image disk.now) id r.0.answer) }
-    ensures remarks { IfOk result (λ r. AreSuperblockRemarks (D.image disk.now) r.0.remarks.items) }
-    ensures takings { IfOk result (λ r. AreTakingsBy (D.image disk.now) workers r.1) }
+    requires workers { workers ≤ 64 }
+    requires few { IfSome given (λ runs. length runs.now < 2 ^ 32) }
+    requires located { IfSome given (λ runs. All IsLocator runs.now) }
+    ensures shard { IfOk result (λ r.
+        IsShardAnswerFrom (given_in given.entry) (D.image disk.now) id r.0.answer) }
+    ensures remarks { IfOk result (λ r.
+        AreSaidFrom (given_in given.entry) (D.image disk.now) r.0.remarks.items) }
+    ensures takings { IfOk result (λ r.
+        AreTakingsFrom (given_in given.entry) (D.image disk.now) workers r.1) }
 {
-    let (scan, remarks, takings) = scan_with_remarks(rt, alloc, disk, workers, gate)?;
+    let (scan, remarks, takings) = scan_with_remarks(rt, alloc, disk, workers, gate, given, &[])?;
     let answer = shard_of(rt, alloc, scan, id)?;
     Ok((ShardReading { answer, remarks }, takings))
-}
-
-/// Reads a shard of a disk, as `read_shard` does, but as if one superblock counted that lists these index
-/// runs, newest first and fewer than 2^32, retires nothing, and has each write pointer at its extent's end.
-/// What is in extent 0 doesn't matter, so nothing is said of superblocks.
-pub fn read_shard_by_runs<D: PageSource, G: Gate, R: Threads + Wait + Sync>(
-    rt: &R,
-    alloc: Global,
-    disk: &D,
-    workers: u32,
-    gate: &G,
-    id: ShardId,
-    runs: &[Locator],
-) -> Result<(ShardAnswer, Takings), ScrubFault>
-    requires workers { workers ≤ 64 }
-    requires few { length runs.now < 2 ^ 32 }
-    requires located { All IsLocator runs.now }
-    ensures shard { IfOk result (λ r. IsShardAnswerFrom (Some runs.now) (D.image disk.now) id r.0) }
-    ensures takings { IfOk result (λ r. AreTakingsFrom (Some runs.now) (D.image disk.now) workers r.1) }
-{
-    let (scan, takings) = scan_listed(rt, alloc, disk, runs, workers, gate)?;
-    let answer = shard_of(rt, alloc, scan, id)?;
-    Ok((answer, takings))
 }
 
 /// A law: there is at most one answer for each shard of an image, by the superblock that counts or by given

@@ -1,10 +1,12 @@
 //! The answer of a command: its text and its outcome, for one extent, a whole disk or a raw image. For
 //! loading the disk see `disk_image`, and for writing the answer `running`.
 
-ghost use Rattle.std.specs.Prelude.{◌≡◌, ◌≤◌, ◌<◌, IfOk, List, Option, true};
+ghost use Rattle.std.specs.Prelude.{◌≡◌, ◌≤◌, ◌<◌, IfOk, IfSome, List, Option, true};
 ghost use Rattle.std.specs.List.{list_all};
 ghost use Rattle.std.specs.List.Sorted.{IsStrictlyIncreasing};
 ghost use Rattle.scrub_map.specs.declared.block.MapBlock.{MapBlock};
+ghost use Rattle.scrub_super.specs.steps.Limits.{AreRunLocators};
+ghost use Rattle.scrub_found.specs.GivenRuns.{AreTakingsFrom, given_in};
 ghost use Rattle.scrub_found.specs.Takings.{AreTakingsBy};
 ghost use Rattle.scrub_found.specs.Scrubbed.{is_clean_item};
 ghost use Rattle.scrub_cli.specs.Answer.{IsVersionAnswer};
@@ -17,11 +19,12 @@ ghost use Rattle.scrub_cli.specs.Scan.{IsDiskAnswer, acceptance, is_scanned};
 ghost use Rattle.scrub_cli.specs.SizesListed.{AreSizesListed, no_record_line};
 ghost use Rattle.scrub_cli.specs.Superblock.{AreSuperblocksListed};
 
-use crate::commands::remarks::superblock_lines;
+use crate::commands::remarks::superblock_remark_lines;
 use crate::process::outcome::Outcome;
 use scrub_args::{AcceptedDoubts, ScanOutput, VERSION};
 use scrub_disk::{OutOfMemory, PageSource};
 use scrub_found::{ScrubFault, are_clean_items};
+use scrub_frame::Locator;
 use scrub_listings::{list_locators, list_manifest, list_sizes, list_summary, list_superblocks};
 use scrub_pool::{NoGate, Takings};
 use scrub_reclaim::{Acceptance, list_reclaimable};
@@ -176,23 +179,27 @@ pub fn disk_answer<R: Threads + Wait + Sync, D: PageSource>(
     }
 }
 
-/// The manifest of a disk, as if these extents, which rise, had been reset, with its status, and the
-/// extents that each worker took. The workers and the takings are as for `disk_answer`.
+/// The manifest of a disk by the index runs that are given, or else by the superblock that counts, as if
+/// these extents, which are ascending, had been reset; with its status, and the extents that each worker
+/// took. The workers and the takings are as for `disk_answer`.
 pub fn manifest_listing<R: Threads + Wait + Sync, D: PageSource>(
     rt: &R,
     alloc: Global,
     disk: &D,
     workers: u32,
+    given: Option<&[Locator]>,
     resets: &[u32],
 ) -> Result<(Answer, Takings), ScrubFault>
     requires workers { workers ≤ 64 }
+    requires located { IfSome given (λ runs. AreRunLocators runs.now) }
     requires rising { IsStrictlyIncreasing resets.now }
-    ensures answer { IfOk result
-        (λ r. IsManifestListed resets.now (D.image disk.now) r.0.text.items r.0.outcome) }
-    ensures takings { IfOk result (λ r. AreTakingsBy (D.image disk.now) workers r.1) }
+    ensures answer { IfOk result (λ r.
+        IsManifestListed (given_in given.entry) resets.now (D.image disk.now) r.0.text.items r.0.outcome) }
+    ensures takings { IfOk result (λ r.
+        AreTakingsFrom (given_in given.entry) (D.image disk.now) workers r.1) }
 {
-    let (manifest, takings) = list_manifest(rt, alloc, disk, workers, &NoGate, resets)?;
-    let lines = superblock_lines(alloc, &manifest.remarks)?;
+    let (manifest, takings) = list_manifest(rt, alloc, disk, workers, &NoGate, given, resets)?;
+    let lines = superblock_remark_lines(alloc, &manifest.remarks)?;
     let answer = Answer {
         text: manifest.text,
         outcome: Outcome::warned(lines.into_bytes(), manifest.is_clean),

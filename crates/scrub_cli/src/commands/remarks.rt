@@ -2,7 +2,8 @@
 //! an archive see `shards`.
 
 ghost use Rattle.std.specs.Prelude.{◌≡◌, ◌++◌, IfOk, OnOk, string_bytes};
-ghost use Rattle.scrub_cli.specs.Remarks.{shard_lines, superblock_line, superblock_lines};
+ghost use Rattle.scrub_cli.specs.Remarks.{shard_remark_lines, superblock_remark_line};
+ghost use Rattle.scrub_cli.specs.Remarks.{superblock_remark_lines};
 
 use scrub_disk::OutOfMemory;
 use scrub_listings::SuperblockRemark;
@@ -15,7 +16,8 @@ pub fn append_superblock_line(
     lines: &mut String,
     remark: &SuperblockRemark,
 ) -> Result<(), OutOfMemory>
-    ensures { OnOk result (string_bytes lines.new ≡ string_bytes lines.old ++ superblock_line remark.now) }
+    ensures { OnOk result (string_bytes lines.new ≡
+        string_bytes lines.old ++ superblock_remark_line remark.now) }
 {
     match *remark {
         SuperblockRemark::Lost { page } => writeln!(lines, "shardscrub: superblock lost: {page}"),
@@ -24,8 +26,11 @@ pub fn append_superblock_line(
 }
 
 /// The lines of some remarks on the superblocks.
-pub fn superblock_lines(alloc: Global, remarks: &[SuperblockRemark]) -> Result<String, OutOfMemory>
-    ensures { IfOk result (λ lines. string_bytes lines ≡ superblock_lines remarks.now) }
+pub fn superblock_remark_lines(
+    alloc: Global,
+    remarks: &[SuperblockRemark],
+) -> Result<String, OutOfMemory>
+    ensures { IfOk result (λ lines. string_bytes lines ≡ superblock_remark_lines remarks.now) }
 {
     let mut lines = String::new(alloc);
     for remark in remarks {
@@ -36,17 +41,17 @@ pub fn superblock_lines(alloc: Global, remarks: &[SuperblockRemark]) -> Result<S
 
 /// The lines for the bytes of a shard: those on the superblocks, and that its entry is doubtful. None for
 /// another answer.
-pub fn shard_lines(
+pub fn shard_remark_lines(
     alloc: Global,
     remarks: &[SuperblockRemark],
     answer: &ShardAnswer,
 ) -> Result<String, OutOfMemory>
-    ensures { IfOk result (λ lines. string_bytes lines ≡ shard_lines remarks.now answer.now) }
+    ensures { IfOk result (λ lines. string_bytes lines ≡ shard_remark_lines remarks.now answer.now) }
 {
     let ShardAnswer::Found(found) = answer else {
         return Ok(String::new(alloc));
     };
-    let mut lines = superblock_lines(alloc, remarks)?;
+    let mut lines = superblock_remark_lines(alloc, remarks)?;
     if found.is_doubtful() {
         writeln!(lines, "shardscrub: a newer entry may be lost")?;
     }

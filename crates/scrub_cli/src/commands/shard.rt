@@ -1,26 +1,18 @@
 //! The command `shard`: the bytes of one shard of a disk in an image file.
 
-ghost use Rattle.std.specs.Prelude.{◌≤◌, IfOk, IfSome, MatchResult, option_map};
-ghost use Rattle.scrub_super.specs.steps.Limits.{AreRunLocators};
-ghost use Rattle.scrub_found.specs.GivenRuns.{AreTakingsFrom};
-ghost use Rattle.scrub_shard.specs.Archive.{AreSaidFrom};
-ghost use Rattle.scrub_shard.specs.Shard.{IsShardAnswerFrom};
+ghost use Rattle.std.specs.Prelude.{◌≤◌, MatchResult};
 ghost use Rattle.scrub_cli.specs.Shard.{AreShardTakings, IsFaultFor, IsShardFault, IsWrittenFor};
 
 use crate::commands::answer::Answer;
 use crate::commands::geometry::geometry_of;
 use crate::commands::given_runs::load_with_runs;
-use crate::commands::remarks::shard_lines;
+use crate::commands::remarks::shard_remark_lines;
 use crate::process::fault::Fault;
 use crate::process::images::Images;
 use crate::process::outcome::Outcome;
 use scrub_args::{ShardArgs, shard_id};
-use scrub_disk::PageSource;
-use scrub_found::ScrubFault;
-use scrub_frame::Locator;
 use scrub_pool::{NoGate, Takings};
-use scrub_run::ShardId;
-use scrub_shard::{ShardAnswer, ShardReading, read_shard, read_shard_by_runs};
+use scrub_shard::{ShardAnswer, read_shard};
 use std::alloc::Global;
 use std::sync::Wait;
 use std::thread::Threads;
@@ -39,33 +31,6 @@ fn bytes_of<'a>(answer: ShardAnswer, lines: Vec<u8>) -> Result<Answer, Fault<'a>
             Ok(Answer { text, outcome })
         }
     }
-}
-
-/// The answer for a shard by the index runs that are given, of which nothing is said of the superblocks,
-/// or else by the superblock that counts; and the extents that each worker took.
-fn reading<R: Threads + Wait + Sync, D: PageSource>(
-    rt: &R,
-    alloc: Global,
-    disk: &D,
-    workers: u32,
-    id: ShardId,
-    given: &Option<Vec<Locator>>,
-) -> Result<(ShardReading, Takings), ScrubFault>
-    requires workers { workers ≤ 64 }
-    requires located { IfSome given.now (λ runs. AreRunLocators runs.items) }
-    ensures shard { IfOk result (λ r.
-        IsShardAnswerFrom (option_map (λ runs. runs.items) given.now) (D.image disk.now) id r.0.answer) }
-    ensures remarks { IfOk result (λ r.
-        AreSaidFrom (option_map (λ runs. runs.items) given.now) (D.image disk.now) r.0.remarks.items) }
-    ensures takings { IfOk result (λ r.
-        AreTakingsFrom (option_map (λ runs. runs.items) given.now) (D.image disk.now) workers r.1) }
-{
-    let Some(runs) = given else {
-        return read_shard(rt, alloc, disk, workers, &NoGate, id);
-    };
-    let (answer, takings) = read_shard_by_runs(rt, alloc, disk, workers, &NoGate, id, runs)?;
-    let remarks = Vec::new(alloc);
-    Ok((ShardReading { answer, remarks }, takings))
 }
 
 /// The bytes of the shard that the arguments name, and the extents that each worker took. Faults are
@@ -88,7 +53,9 @@ pub fn shard<'a, R: Threads + Wait + Sync, I: Images>(
         return Err(Fault::BadShard(args.id));
     };
     let (disk, given) = load_with_runs(rt, alloc, geometry, image, &args.runs, opened, images)?;
-    let (found, takings) = reading(rt, alloc, &disk, args.scan.workers, id, &given)?;
-    let lines = shard_lines(alloc, &found.remarks, &found.answer)?;
+    let given = given.as_deref();
+    let workers = args.scan.workers;
+    let (found, takings) = read_shard(rt, alloc, &disk, workers, &NoGate, given, id)?;
+    let lines = shard_remark_lines(alloc, &found.remarks, &found.answer)?;
     Ok((bytes_of(found.answer, lines.into_bytes())?, takings))
 }

@@ -1,10 +1,9 @@
 //! The command `shards`: all shards of a disk as a tar archive, and the lines of the error stream.
 
-ghost use Rattle.std.specs.Prelude.{◌≡◌, ◌≤◌, ◌++◌, IfOk, IfSome, MatchResult, OnOk, option_map};
+ghost use Rattle.std.specs.Prelude.{◌≡◌, ◌≤◌, ◌++◌, IfOk, IfSome, MatchResult, OnOk};
 ghost use Rattle.std.specs.Prelude.{string_bytes};
 ghost use Rattle.scrub_super.specs.steps.Limits.{AreRunLocators};
-ghost use Rattle.scrub_found.specs.GivenRuns.{AreTakingsFrom};
-ghost use Rattle.scrub_shard.specs.PartialArchive.{IsArchiveFrom};
+ghost use Rattle.scrub_found.specs.GivenRuns.{AreTakingsFrom, given_in};
 ghost use Rattle.scrub_cli.specs.Remarks.{remark_line, remark_lines};
 ghost use Rattle.scrub_cli.specs.Shards.{AreShardsTakings, IsArchived, IsShardsFault};
 
@@ -21,7 +20,7 @@ use scrub_found::ScrubFault;
 use scrub_found::texts::state_text;
 use scrub_frame::Locator;
 use scrub_pool::{NoGate, Takings};
-use scrub_shard::{Archive, Remark, read_shards, read_shards_by_runs};
+use scrub_shard::{Remark, read_shards};
 use std::alloc::Global;
 use std::fmt::Write;
 use std::sync::Wait;
@@ -61,48 +60,24 @@ fn append_lines(alloc: Global, lines: &mut String, remarks: &[Remark]) -> Result
 }
 
 /// The archive of all shards of a disk by the index runs that are given, or else by the superblock that
-/// counts, with the payloads of broken shards or without; and the extents that each worker took.
-fn archive_by<R: Threads + Wait + Sync, D: PageSource>(
-    rt: &R,
-    alloc: Global,
-    disk: &D,
-    workers: u32,
-    given: &Option<Vec<Locator>>,
-    is_partial: bool,
-) -> Result<(Archive, Takings), ScrubFault>
-    requires workers { workers ≤ 64 }
-    requires located { IfSome given.now (λ runs. AreRunLocators runs.items) }
-    ensures archive { IfOk result (λ r.
-        IsArchiveFrom (option_map (λ runs. runs.items) given.now) is_partial (D.image disk.now)
-        r.0.tar.items r.0.remarks.items) }
-    ensures takings { IfOk result (λ r.
-        AreTakingsFrom (option_map (λ runs. runs.items) given.now) (D.image disk.now) workers r.1) }
-{
-    match given {
-        Some(runs) => { read_shards_by_runs(rt, alloc, disk, workers, &NoGate, runs, is_partial) }
-        None => read_shards(rt, alloc, disk, workers, &NoGate, is_partial),
-    }
-}
-
-/// That archive, with its status and the lines beside it. The workers and the takings are as for
-/// `disk_answer`.
+/// counts, with the payloads of broken shards or without; with its status and the lines beside it. The
+/// workers and the takings are as for `disk_answer`.
 fn archived<R: Threads + Wait + Sync, D: PageSource>(
     rt: &R,
     alloc: Global,
     disk: &D,
     workers: u32,
-    given: &Option<Vec<Locator>>,
+    given: Option<&[Locator]>,
     is_partial: bool,
 ) -> Result<(Answer, Takings), ScrubFault>
     requires workers { workers ≤ 64 }
-    requires located { IfSome given.now (λ runs. AreRunLocators runs.items) }
+    requires located { IfSome given (λ runs. AreRunLocators runs.now) }
     ensures answer { IfOk result (λ r.
-        IsArchived (option_map (λ runs. runs.items) given.now) is_partial (D.image disk.now)
-        r.0.text.items r.0.outcome) }
+        IsArchived (given_in given.entry) is_partial (D.image disk.now) r.0.text.items r.0.outcome) }
     ensures takings { IfOk result (λ r.
-        AreTakingsFrom (option_map (λ runs. runs.items) given.now) (D.image disk.now) workers r.1) }
+        AreTakingsFrom (given_in given.entry) (D.image disk.now) workers r.1) }
 {
-    let (archive, takings) = archive_by(rt, alloc, disk, workers, given, is_partial)?;
+    let (archive, takings) = read_shards(rt, alloc, disk, workers, &NoGate, given, is_partial)?;
     let mut lines = String::new(alloc);
     append_lines(alloc, &mut lines, &archive.remarks)?;
     let answer = Answer {
@@ -130,5 +105,5 @@ pub fn shards<'a, R: Threads + Wait + Sync, I: Images>(
     let (geometry, opened) = geometry_of(alloc, image, images)?;
     let (disk, given) = load_with_runs(rt, alloc, geometry, image, &args.runs, opened, images)?;
     let workers = args.scan.workers;
-    Ok(archived(rt, alloc, &disk, workers, &given, args.is_partial)?)
+    Ok(archived(rt, alloc, &disk, workers, given.as_deref(), args.is_partial)?)
 }

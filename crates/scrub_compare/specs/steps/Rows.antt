@@ -47,8 +47,8 @@ abbrev pub best_by : CopiesValue → Checked → BestCopy
 best_by v c = best_among (spares_by v.spares c) (loose_by v c)
 
 -- the best copy of a locator, if it dangles
-abbrev pub best_if_dangling : CopiesValue → Checked → Option BestCopy
-best_if_dangling v c = if is_dangling c.status then Some (best_by v c) else None
+abbrev pub best_by_if_dangling : CopiesValue → Checked → Option BestCopy
+best_by_if_dangling v c = if is_dangling c.status then Some (best_by v c) else None
 
 -- the line of a shard's locator of this number, by what was scanned and the copies among which its own are
 abbrev pub row_among : List Scanned → CopiesValue → ℕ → Checked → RowValue

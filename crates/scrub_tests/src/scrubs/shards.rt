@@ -44,7 +44,7 @@ pub(crate) fn shard_on<D: PageSource, G: Gate, R: Threads + Wait + Sync>(
 ) -> Result<(ShardAnswer, Takings), Fail>
     requires { workers ≤ 64 }
 {
-    match read_shard(rt, alloc, disk, workers, gate, id) {
+    match read_shard(rt, alloc, disk, workers, gate, None, id) {
         Ok((found, takings)) => Ok((found.answer, takings)),
         Err(ScrubFault::OutOfMemory) => Err(Fail::from("out of memory")),
     }

@@ -74,7 +74,7 @@ fn answer<D: PageSource, G: Gate, R: Threads + Wait + Sync>(
             list_reclaimable(rt, alloc, disk, workers, gate, &acceptance)?
         }
         Which::Manifest => {
-            let (manifest, takings) = list_manifest(rt, alloc, disk, workers, gate, &[])?;
+            let (manifest, takings) = list_manifest(rt, alloc, disk, workers, gate, None, &[])?;
             let listing = scrub_listings::Listing {
                 text: manifest.text,
                 is_clean: manifest.is_clean,

@@ -12,8 +12,8 @@ run_rows-requires g c =
 pub check_named-requires-clause-statuses : goal.check_named-requires-clause-statuses
 check_named-requires-clause-statuses g c κs within = rw c.deref.ensures.value c.in_ok-read.ensures.statuses
 
-pub returns : goal.returns
-returns g c = λ given resets scanned.
+pub returns-clause-judged : goal.returns-clause-judged
+returns-clause-judged g c = λ given resets scanned.
     record {
       read = c.in_ok-read.read;
       rows = search rules;

@@ -16,13 +16,13 @@ pub judged_of-requires-after_bounds : goal.judged_of-requires-after_bounds
 judged_of-requires-after_bounds g c κs within = c.requires.whole
 
 pub of-requires-after_bounds : goal.of-requires-after_bounds
-of-requires-after_bounds g c κs within = (c.in_ok-judged.ensures None [] c.requires).scanned.whole
+of-requires-after_bounds g c κs within = (c.in_ok-judged.ensures.judged None [] c.requires).scanned.whole
 
 pub returns : goal.returns
 returns g c =
     let image = g.D.PageSource.image c.args.scan.disk.now in
     let judged = c.in_ok-judged.judged in
-    let are = c.in_ok-judged.ensures None [] c.requires in
+    let are = c.in_ok-judged.ensures.judged None [] c.requires in
     let broken = the_broken judged.checked.items in
     let candidates = some_candidates_of [] image judged are in
     let shared = c.in_ok-shared_places.shared_places.items in

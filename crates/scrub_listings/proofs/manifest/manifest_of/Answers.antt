@@ -21,19 +21,19 @@ pub judged_of-requires-after_bounds : goal.judged_of-requires-after_bounds
 judged_of-requires-after_bounds g c κs within = c.requires.1.whole
 
 pub of-requires-after_bounds : goal.of-requires-after_bounds
-of-requires-after_bounds g c κs within = (c.in_ok-judged.ensures c.requires.0 c.args.resets.now c.requires.1).scanned.whole
+of-requires-after_bounds g c κs within = (c.in_ok-judged.ensures.judged c.requires.0 c.args.resets.now c.requires.1).scanned.whole
 
 pub split_at-requires : goal.split_at-requires
 split_at-requires g c =
     let judged = c.in_ok-judged.judged in
     rw (c.runs.ensures.runs, c.deref.ensures.value)
-    (runs_fit judged.scan.plan.runs judged.map judged.checked.items (c.in_ok-judged.ensures c.requires.0 c.args.resets.now c.requires.1).checked.same)
+    (runs_fit judged.scan.plan.runs judged.map judged.checked.items (c.in_ok-judged.ensures.judged c.requires.0 c.args.resets.now c.requires.1).checked.same)
 
 pub text_by-requires-clause-along : goal.text_by-requires-clause-along
 text_by-requires-clause-along g c κs within =
     let judged = c.in_ok-judged.judged in
     rw (c.split_at.ensures.back, c.runs.ensures.runs, c.deref.ensures.value, c.bindings.ensures.bindings)
-    (along_runs judged.scan.plan.runs judged.map judged.checked.items (c.in_ok-judged.ensures c.requires.0 c.args.resets.now c.requires.1).checked.same)
+    (along_runs judged.scan.plan.runs judged.map judged.checked.items (c.in_ok-judged.ensures.judged c.requires.0 c.args.resets.now c.requires.1).checked.same)
 
 pub returns : goal.returns
 returns g c = λ given scanned.
@@ -44,7 +44,7 @@ returns g c = λ given scanned.
     let checked = judged.checked.items in
     let copies = c.in_ok-copies.copies in
     let image = g.D.PageSource.image c.args.scan.disk.now in
-    let are = c.in_ok-judged.ensures given resets scanned in
+    let are = c.in_ok-judged.ensures.judged given resets scanned in
     let b : Beside = all_beside_from given resets image judged are in
     let is : IsFoundFrom given resets image judged b = found_beside_from given resets image judged are in
     let found : Scrubbed = found_in judged b in

@@ -16,7 +16,7 @@ pub judged_of-requires-after_bounds : goal.judged_of-requires-after_bounds
 judged_of-requires-after_bounds g c κs within = c.requires.scan.whole
 
 pub of-requires-after_bounds : goal.of-requires-after_bounds
-of-requires-after_bounds g c κs within = (c.in_ok-judged.ensures None [] c.requires.scan).scanned.whole
+of-requires-after_bounds g c κs within = (c.in_ok-judged.ensures.judged None [] c.requires.scan).scanned.whole
 
 pub returns : goal.returns
 returns g c =
@@ -24,7 +24,7 @@ returns g c =
     let judged = c.in_ok-judged.judged in
     let lists = c.in_ok-lists.lists in
     let pages = c.args.pages.now in
-    let are = c.in_ok-judged.ensures None [] c.requires.scan in
+    let are = c.in_ok-judged.ensures.judged None [] c.requires.scan in
     let b : Beside = beside_lists are.read lists in
     let is : IsFoundBut [] image judged b =
     with_lists [] image judged are lists.liveness.shared.items lists.broken.items lists.liveness.candidates.items

@@ -7,7 +7,7 @@ pub judged_of-requires-after_bounds : goal.judged_of-requires-after_bounds
 judged_of-requires-after_bounds g c κs within = c.requires.whole
 
 pub of-requires-after_bounds : goal.of-requires-after_bounds
-of-requires-after_bounds g c κs within = (c.in_ok-judged.ensures None [] c.requires).scanned.whole
+of-requires-after_bounds g c κs within = (c.in_ok-judged.ensures.judged None [] c.requires).scanned.whole
 
 pub returns : goal.returns
 returns g c =
@@ -17,7 +17,7 @@ returns g c =
     let copies_are : AreCopies [] image judged.scan.plan judged.scan.all.extents checked c.in_ok-copies.copies =
     rw c.deref-3.ensures.value at c.in_ok-copies.ensures in
     record {
-      judged = c.in_ok-judged.ensures None [] c.requires;
+      judged = c.in_ok-judged.ensures.judged None [] c.requires;
       lists = record {
         locators = rw c.deref.ensures.value at c.in_ok-locators.ensures;
         listed = rw c.deref-2.ensures.value at c.in_ok-listed.ensures;

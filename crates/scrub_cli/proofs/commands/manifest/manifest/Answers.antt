@@ -5,7 +5,12 @@ use Rattle.std.proofs.lemmas.Result.{err_from_is_err_and}
 use Rattle.scrub_disk.specs.Parted.{image_of}
 use Rattle.scrub_frame.specs.declared.locator.Locator.{Locator}
 use Rattle.scrub_cli.specs.Manifest.{MayBeReset, may_all_be_reset}
+use Rattle.scrub_cli.proofs.GivenRunsAnswers.{located_shown}
 use Rattle.scrub_cli.proofs.commands.manifest.manifest.Goals as goal
+
+pub manifest_listing-requires-clause-located : goal.manifest_listing-requires-clause-located
+manifest_listing-requires-clause-located g c κs within =
+    located_shown c.in_ok-disk.given c.as_deref-given.result c.as_deref-given.ensures.value c.in_ok-disk.ensures.located
 
 -- no sizes were found
 pub returns-in_err-geometry : goal.returns-in_err-geometry
@@ -56,7 +61,7 @@ returns g c = (
       };
       loaded = rw (c.geometry_of.ensures.same_images, c.geometry_of.ensures.same_maps, c.deref-2.ensures.value) at c.in_ok-disk.ensures.disk;
     };
-    listed = rw c.deref-3.ensures.value at c.in_ok-manifest_by.ensures.answer;
+    listed = rw (c.as_deref-given.ensures.value, c.deref-3.ensures.value) at c.in_ok-manifest_listing.ensures.answer;
   },
-  c.in_ok-manifest_by.ensures.takings,
+  rw c.as_deref-given.ensures.value at c.in_ok-manifest_listing.ensures.takings,
 )

@@ -4,7 +4,12 @@ use Rattle.std.specs.Prelude.{option_map}
 use Rattle.std.proofs.lemmas.Result.{err_from_is_err_and}
 use Rattle.scrub_disk.specs.Parted.{image_of}
 use Rattle.scrub_frame.specs.declared.locator.Locator.{Locator}
+use Rattle.scrub_cli.proofs.GivenRunsAnswers.{located_shown}
 use Rattle.scrub_cli.proofs.commands.shards.shards.Goals as goal
+
+pub archived-requires-clause-located : goal.archived-requires-clause-located
+archived-requires-clause-located g c κs within =
+    located_shown c.in_ok-disk.given c.as_deref.result c.as_deref.ensures.value c.in_ok-disk.ensures.located
 
 -- no sizes were found
 pub returns-in_err-geometry : goal.returns-in_err-geometry
@@ -33,7 +38,7 @@ returns g c = (
       sizes = c.in_ok-geometry.ensures.geometry;
       loaded = rw (c.geometry_of.ensures.same_images, c.geometry_of.ensures.same_maps, c.deref.ensures.value) at c.in_ok-disk.ensures.disk;
     };
-    archived = c.in_ok-archived.ensures.answer;
+    archived = rw c.as_deref.ensures.value at c.in_ok-archived.ensures.answer;
   },
-  c.in_ok-archived.ensures.takings,
+  rw c.as_deref.ensures.value at c.in_ok-archived.ensures.takings,
 )

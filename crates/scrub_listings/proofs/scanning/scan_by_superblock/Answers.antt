@@ -1,5 +1,5 @@
 -- What is said follows from the choice and the pages of extent 0.
-use Rattle.scrub_shard.proofs.scanning.scan_with_remarks.Goals as goal
+use Rattle.scrub_listings.proofs.scanning.scan_by_superblock.Goals as goal
 
 pub returns-clause-remarks : goal.returns-clause-remarks
 returns-clause-remarks g c = record {
