@@ -42,6 +42,7 @@ IN_RUNS = {
     "Front::read": "sizes",
     "Front::superblocks": "sizes",
     "scan_extents_in": "scan",
+    "rescan": "compare",
     "push_item_line": "scan",
     "claimed_frame": "scan",
     "RunWriter::new": "index of several findings",
@@ -62,6 +63,8 @@ IN_RUNS = {
     "scan_by": "scan",
     "scan_chosen": "summary",
     "scan_listed": "manifest by given runs",
+    "scan_as_reset": "compare",
+    "scan_with_remarks": "manifest",
     "find_runs": "runs",
     "run_at": "manifest by given runs",
     "judged_of": "locators",
@@ -79,7 +82,6 @@ IN_RUNS = {
     "append_form": "manifest",
     "append_place": "manifest",
     "list_manifest": "manifest",
-    "list_manifest_by_runs": "manifest by given runs",
     "list_runs": "runs",
     "find_sizes": "shard without sizes",
     "list_sizes": "sizes",
@@ -96,8 +98,6 @@ IN_RUNS = {
     "compare": "compare",
     "read_shard": "shard",
     "read_shards": "shards",
-    "read_shard_by_runs": "shard by a given run",
-    "read_shards_by_runs": "archive by given runs",
 }
 # The crates whose public functions are in this account.
 LIBRARIES = ["sha_lanes"] + [
