@@ -91,6 +91,14 @@ MANY_END = len(b"".join(MANY_CHUNKS))
 MERGED = run((shard(1), [abc_at(3, 3272)]))
 ON_MANY = (1, 0, ABC + REST), (2, 0, DE), (3, 0, b"".join(MANY_CHUNKS)), (0, 0, MANY.record(7, (179, 40, MANY_END), *MANY_LISTED))
 
+# The same with a run in extent 1 that is the spare of a lost payload of shard 33.
+SPARED_RUNS = [run((shard(1), [abc_at(1, 0)]), (shard(33), [locator(2, 200, uuid(0x77), MANY_RUNS[5])])), *MANY_RUNS[1:5], *MANY_RUNS[6:]]
+SPARED_CHUNKS = [frame(uuid(0xC0 + k), text) for k, text in enumerate(SPARED_RUNS)]
+SPARED_LISTED = [locator(3, len(b"".join(SPARED_CHUNKS[:k])), uuid(0xC0 + k), text) for k, text in enumerate(SPARED_RUNS)]
+SPARED_LISTED.append(locator(1, len(ABC), uuid(0x85), MANY_RUNS[5]))
+ON_SPARED = ((1, 0, ABC + MANY_CHUNKS[5] + REST), (2, 0, DE), (3, 0, b"".join(SPARED_CHUNKS)),
+             (0, 0, MANY.record(7, (len(ABC + MANY_CHUNKS[5] + REST), 40, len(b"".join(SPARED_CHUNKS))), *SPARED_LISTED)))
+
 # Each disk by its name.
 WORKED = {
     "first": (EIGHT, ON_FIRST),
@@ -108,6 +116,7 @@ WORKED = {
     "full": (FULL, [(1, 0, ABC + REST), (2, 0, FULL_CHUNKS), (0, 0, FULL.record(7, (179, 213), locator(2, 0, uuid(0xAA), FULL_RUN)))]),
     "narrow": (NARROW, [(1, 0, REST), (2, 0, ABC), (3, 0, RUN_CHUNK), (0, 0, NARROW.record(7, (138, 41, 155), OTHER))]),
     "many": (MANY, ON_MANY),
+    "spared": (MANY, ON_SPARED),
     "merged": (MANY, [(1, 0, ABC + REST), (2, 0, DE), (3, 0, b"".join(MANY_CHUNKS) + frame(named_by_digest(MERGED), MERGED) + ABC), ON_MANY[-1],
                       (0, 2048, MANY.record(8, (0, 40, 3313), locator(3, 3117, named_by_digest(MERGED), MERGED)))]),
 }
@@ -228,6 +237,18 @@ class Examples(WorkedCase):
     def test_32_runs(self):
         self.check("many", ["--last", "7", "--reset", "1"], 0, WRITE_MERGED + "copy 1 0 3 3272 41\n")
         self.check_command("compare", "many", ["many", "merged", "--reset", "1"], 0, "safe 7 8\n")
+
+    def test_a_run_that_is_a_spare_is_copied_when_runs_are_merged(self):
+        words = [sys.executable, PLAN, *MANY.words(), "--last", "7", "--reset", "1", "image"]
+        for name in ("image", "disk"):
+            shutil.copy(self.room / "spared", self.room / name)
+        for k in range(2):
+            status, lines, _ = self.run_in_room(*words)
+            self.same("plan", status, 0)
+            self.true("the run is copied", k == 1 or f"copy 1 {len(ABC)} 3 " in lines, lines)
+            self.same("put", self.run_in_room(PUT, "image", "disk", input=lines), (0, "", ""))
+            shutil.copy(self.room / "disk", self.room / "image")
+        self.check_command("compare", "spared", ["spared", "image", "--reset", "1"], 0, "safe 7 8\n")
 
     def test_a_reclamation_by_both_scripts(self):
         """What act/put writes is what was written by hand."""
