@@ -264,8 +264,11 @@ def read_at(name: str, at: int, count: int) -> bytes:
 
 
 def digest_of(name: str) -> str:
+    digest = hashlib.sha256()
     with open(name, "rb") as file:
-        return hashlib.file_digest(file, "sha256").hexdigest()
+        while block := file.read(BLOCK):
+            digest.update(block)
+    return digest.hexdigest()
 
 
 def spans_of(writes: list[Write]) -> list[Span]:

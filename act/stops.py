@@ -24,8 +24,8 @@ STOPS = {
     "no-generation": Row(1, "the node could number no superblock above G + 1", "nothing can be reclaimed on this disk"),
     "busy": Row(3, "{disk} is mounted or in use", "unmount it, and end what uses it"),
     "locked": Row(3, "another act/reclaim, or an act/put of one, works here", "wait until it has ended, and " + AGAIN),
-    "damaged": Row(3, "{folder} has a walk, but its {why} is gone or damaged",
-                   "find it. Without it take the disk as the node left it: let the node write a superblock, and begin with another --work"),
+    "damaged": Row(3, "the file {why} of {folder} is gone or damaged",
+                   "find it. Without it let the node go on from the superblock on the disk and write another, and begin with that"),
     "other words": Row(2, "{folder} has a walk with other words: {why}", "give those, or another --work"),
     "no walk": Row(2, "{folder} has no walk to go back from, or no reset that is done", "leave the option out, or give all words of the reset"),
     "sizes": Row(1, "the sizes aren't certain: {why}", "give --page, --pages and --extents, as the node's deployment has them"),
@@ -39,7 +39,7 @@ STOPS = {
     "first unreadable": Row(3, "{disk} can't be read, near byte {at}: the drive is failing",
                             "rescue it with ddrescue, restore that to a sound drive, and call this with the map and that drive"),
     "unfinished": Row(1, "{why} has a walk on this disk that isn't at its end", "go on with that one first: {call}"),
-    "before": Row(1, "the disk has lost since {why} what that image has: {lines}", RESTORE),
+    "before": Row(1, "{disk} has lost what {kept} has: {lines}", RESTORE),
     # The listing and the plan.
     "doubts": Row(1, "nothing may be reclaimed while a doubt is open", "settle each doubt above"),
     "nothing": Row(1, "no extent gains anything now", "give the disk back"),
@@ -67,7 +67,7 @@ STOPS = {
     "stays": Row(3, "what is written to {disk} doesn't stay there", RESTORE),
     "judged": Row(1, "the disk isn't as it has to be after the reset: {why}", BACK),
     # The erase and the way back.
-    "erase": Row(1, "{disk} has changed since the reset, beside the erase: {why}", "erase nothing more. The node may write over the extents"),
+    "erase": Row(1, "{disk} has changed since the reset, beside the erase: {why}", "erase nothing more, and see in the node's log what wrote there"),
     "no erase": Row(3, "{disk} can't erase: {why}", "leave the extents as they are, or erase them by hand now: {by_hand}"),
     "erase begun": Row(1, "the erase has begun, so there is no way back", "call this with --erase"),
     "back begun": Row(1, "the way back has begun", "call this with --back in place of --reset and --erase"),
@@ -84,8 +84,9 @@ ON_DISK = {
     "nothing": "this walk has written nothing to {disk}",
     "begun": "writes of this walk may be on {disk}, only where nothing was in use; {last} counts, or {next}. "
              "Keep {folder}, and leave the node off",
-    "reset": "superblock {next} counts, with the pointer 0 for {resets}; all else is as in {first}",
-    "erasing": "superblock {next} counts; {resets} may be erased in part, and nothing of that is in use",
+    "reset": "superblock {next} counts, with the pointer 0 for {resets}",
+    "erasing": "superblock {next} counts, with the pointer 0 for {resets}, which may be erased in part; nothing there is in use",
+    "erased": "superblock {next} counts, with the pointer 0 for {resets}, and that is erased",
     "backing": "superblock {next} may be taken off in part; {last} counts, or {next}. Keep {folder}, and leave the node off",
     "back": "superblock {last} counts again; copies of this walk are left where nothing was in use",
 }

@@ -25,7 +25,9 @@ prints the copies, the index run and the superblock of a reset, and
 .I act/put
 writes them.
 Take the node off the disk before the image is made, and leave it off until you are done.
-Before any reset go through the checklist in docs/RECLAIMING.md, box by box.
+For a reset use
+.IR act/reclaim ,
+which walks from the first image to the erase; docs/RECLAIMING.md explains it.
 The same image, sizes and unreadable pages (for
 .BR sizes ,
 lost blocks) always give the same answer, byte for byte.
@@ -75,7 +77,7 @@ in
 .IR share/shardscrub .
 .TP
 .I docs/RECLAIMING.md
-The checklist for a reset.
+Resetting extents: the command, its stops, the way by other tools.
 .TP
 .I docs/READING.md
 What the answers mean; making an image, a failing drive, many disks.
@@ -87,7 +89,7 @@ The report and the listings, key by key and line by line.
 The format of the disk, byte by byte.
 .TP
 .I act
-Scripts: what is to be written for a reset, what writes it, and an order for index runs.
+Scripts: the walk of a reset and its writes, the walk of a dead node's disk, an order for index runs.
 .TP
 .I view
 A page that draws a report, and what runs every night.
