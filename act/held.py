@@ -51,9 +51,9 @@ class Held:
     def has(self, name: str) -> bool:
         return os.path.exists(self.path(name))
 
-    def save(self, name: str, text: str = "") -> None:
+    def save(self, name: str, text: bytes = b"") -> None:
         """Writes a file of the folder, whole or not at all."""
-        with open(self.path(name + ".part"), "w", encoding="ascii") as file:
+        with open(self.path(name + ".part"), "wb") as file:
             file.write(text)
             file.flush()
             os.fsync(file.fileno())
@@ -96,7 +96,7 @@ class Held:
         """The one map of all that are given, kept in the folder."""
         if self.given.map:
             try:
-                text = Path(one_map(self.given.map, self.path("tmp"))).read_text(encoding="ascii")
+                text = Path(one_map(self.given.map, self.path("tmp"))).read_bytes()
             except ValueError as why:
                 raise Stop("refused", why=why) from None
             self.save("map", text)
