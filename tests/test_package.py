@@ -40,7 +40,8 @@ INSTALLED = {
     "share/doc/shardscrub/docs/RECLAIMING.md": (0o644, "docs/RECLAIMING.md"),
     "share/doc/shardscrub/docs/REPORT.md": (0o644, "docs/REPORT.md"),
     "share/doc/shardscrub/docs/report.schema.json": (0o644, "docs/report.schema.json"),
-    **{f"share/doc/shardscrub/examples/{path.name}": (0o644, f"examples/{path.name}") for path in (TOP / "examples").iterdir()},
+    **{f"share/doc/shardscrub/examples/{path.name}": (0o755 if path.name == "node" else 0o644, f"examples/{path.name}")
+       for path in (TOP / "examples").iterdir()},
     "share/fish/vendor_completions.d/shardscrub.fish": (0o644, "release/completions/shardscrub.fish"),
     "share/man/man1/shardscrub.1": (0o644, "docs/shardscrub.1"),
     **{f"share/shardscrub/act/{name}": (0o755, f"act/{name}") for name in ("order", "plan", "put")},
