@@ -1,5 +1,5 @@
-"""examples/node: random walks beside the reference, calls that are killed and power cuts at each write, a reclamation by act/plan on its
-disk, what it refuses, and the functions that docs/FORMAT.md names.
+"""examples/node: random walks beside the reference, calls that are killed and power cuts at each write, reclamations of its disk, what it
+refuses, and the functions that docs/FORMAT.md names.
 
 The walks call the functions of the script, on a disk in memory. What the script's own process does is tried on files."""
 import fcntl
@@ -9,7 +9,6 @@ import math
 import os
 import random
 import re
-import shutil
 import subprocess
 import tarfile
 import types
@@ -432,12 +431,12 @@ class Programs(FileCase):
         self.same("the next call", (self.call("merge", self.disk)[0], self.verdict(), self.shards()), (0, "verdict sound", after))
         return count - 1
 
-    def test_a_reclamation_by_act_plan(self):
-        """The node goes on with the disk that act/plan and act/put have left."""
+    def test_reclamations(self):
+        """The node goes on with the disk that act/reclaim has left."""
         need("cmp")
         choice, held, sizes = random.Random(1), {}, (64, 16, 7)
         self.make(*sizes)
-        for number in range(10):
+        for number in range(9):
             if number > 5:
                 self.reclaim(geometry(*sizes), choice)
             files = {f"name {choice.randrange(6)}": choice.randbytes(choice.randrange(90)) for _ in range(3)}
@@ -447,18 +446,12 @@ class Programs(FileCase):
 
     def reclaim(self, sizes, choice):
         """Resets an extent of those that reclaimable lists."""
-        environment, image = os.environ | {"SHARDSCRUB": self.program}, self.files / "image"
         last = self.ask("superblocks").stdout.decode().split(" counts")[0].split()[-1]
         listed = self.ask("reclaimable", *sizes, "--last", last).stdout.decode()
-        extent, is_done = choice.choice(re.findall(r"^reclaim (\d+) ", listed, re.M)), False
-        while not is_done:
-            shutil.copyfile(self.disk, image)
-            words = [TOP / "act/plan", *sizes, "--last", last, "--reset", extent, image]
-            plan = subprocess.run(words, env=environment, capture_output=True)
-            is_done = plan.returncode != 0
-            if not is_done:
-                subprocess.run([TOP / "act/put", *sizes, image, self.disk], input=plan.stdout, env=environment, check=True)
-        self.true("it was reset", plan.stdout.startswith(b"doubt last "), plan.stdout)
+        extent = choice.choice(re.findall(r"^reclaim (\d+) ", listed, re.M))
+        words = ["--last", last, "--reset", extent, "--yes", "--work", self.files / f"walk {last}", self.disk]
+        done = subprocess.run([TOP / "act/reclaim", *words], env=os.environ | {"SHARDSCRUB": self.program}, capture_output=True, text=True)
+        self.true("it was reset", f"done: superblock {int(last) + 1} counts, with the pointer 0 for extent {extent};" in done.stdout, done)
 
 
 class Refusals(FileCase):
