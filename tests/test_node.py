@@ -404,6 +404,18 @@ class Programs(FileCase):
             wanted = [f"{one.hex()} {chunks[one.hex()]} {len(text)}\n" for one, text in sorted(by_identifier(held).items())]
             self.same(f"{seed}: list", self.call("list", self.disk), (0, "".join(wanted), ""))
 
+    def test_names(self):
+        """`list` prints those that are there, also one that isn't text, and says which aren't."""
+        self.make()
+        odd = os.fsdecode(b"od\xff")
+        self.put({"one": b"1", odd: b"22"}, "--chunk", "1")
+        wanted = f"{identifier('one').hex()} 1 1 one\n"
+        self.same("one", self.call("list", self.disk, "one"), (0, wanted, ""))
+        self.same("one, and one that isn't there", self.call("list", self.disk, "two", "one"),
+                  (1, wanted, "node: there is no shard of two\n"))
+        wanted = f"{hashlib.sha256(os.fsencode(odd)).hexdigest()[:32]} 2 2 od\\udcff\n"
+        self.same("odd", self.call("list", self.disk, odd), (0, wanted, ""))
+
     def test_a_process_that_is_killed(self):
         """At each of its writes and flushes."""
         need("strace")
