@@ -27,8 +27,8 @@ NO_PROGRAM = 70
 # The package of Debian that each tool is in.
 PACKAGES = {
     "awk": "mawk", "basenc": "coreutils", "bash": "bash", "cc": "gcc", "chromedriver": "chromium-driver", "chromium": "chromium", "cmp": "diffutils",
-    "dash": "dash", "ddrescue": "gddrescue", "diff": "diffutils", "dpkg": "dpkg", "dpkg-deb": "dpkg", "dpkg-parsechangelog": "dpkg-dev",
-    "find": "findutils", "fish": "fish", "flock": "util-linux", "git": "git", "groff": "groff-base", "gzip": "gzip", "jq": "jq",
+    "dash": "dash", "ddrescue": "gddrescue", "ddrescuelog": "gddrescue", "diff": "diffutils", "dpkg": "dpkg", "dpkg-deb": "dpkg",
+    "dpkg-parsechangelog": "dpkg-dev", "find": "findutils", "fish": "fish", "flock": "util-linux", "git": "git", "groff": "groff-base", "gzip": "gzip", "jq": "jq",
     "ldd": "libc-bin", "lintian": "lintian", "losetup": "mount", "make": "make", "man": "man-db", "mandoc": "mandoc", "node": "nodejs",
     "objdump": "binutils", "od": "coreutils", "parallel": "parallel", "promtool": "prometheus", "python3": "python3",
     "strace": "strace", "systemd-analyze": "systemd", "tar": "tar", "xargs": "findutils", "zsh": "zsh",
