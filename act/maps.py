@@ -1,8 +1,11 @@
-"""One map in place of several: what a disk lacks that was restored from a rescue, and is rescued itself.
+"""One map in place of several: what a disk lacks that was restored from a rescue, and is rescued itself. And the disk that
+reference/shardscrub.py reads, without having all of it in memory. The scripts in act/ import this.
 
-A byte is rescued in the one map only if it is in all maps. The rules of a map are those of docs/REPORT.md, and
-reference/shardscrub.py reads it: a byte that no block covers isn't rescued. The scripts in act/ import this.
+A byte is rescued in the one map only if it is in all maps. The rules of a map are those of docs/REPORT.md, and the reference
+reads it: a byte that no block covers isn't rescued.
 """
+import argparse
+import mmap
 import os
 import stat
 import sys
@@ -10,6 +13,7 @@ from functools import reduce
 from pathlib import Path
 
 sys.path.insert(0, str(Path(__file__).resolve().parent.parent / "reference"))
+import shardscrub  # noqa: E402
 from shardscrub import MapFault, read_map  # noqa: E402
 
 # The first byte, and the byte after the last one.
@@ -71,3 +75,27 @@ def one_map(names: list[str], folder: str) -> str | None:
         os.fsync(file.fileno())
     os.replace(f"{made}.part", made)
     return made
+
+
+READ = shardscrub.opened
+
+
+def mapped(name: str, what: str) -> bytes | mmap.mmap:
+    """The bytes of the image, which are read where they are looked at. A map is read as the reference does it, and what is neither a
+    file nor a block device is refused so."""
+    try:
+        mode = os.stat(name).st_mode
+        if what == "image" and (stat.S_ISREG(mode) or stat.S_ISBLK(mode)):
+            with open(name, "rb") as file:
+                size = file.seek(0, 2)
+                return mmap.mmap(file.fileno(), size, access=mmap.ACCESS_READ) if size else b""
+    except OSError:
+        pass
+    return READ(name, what)
+
+
+def disk_of(given: argparse.Namespace) -> shardscrub.Image:
+    """The disk that arguments name, which have page, pages, extents, map, image and unreadable. A shardscrub.Fault says why there is
+    none."""
+    shardscrub.opened = mapped
+    return shardscrub.disk_of(argparse.Namespace(**vars(given), command="runs"))
