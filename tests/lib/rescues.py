@@ -2,8 +2,6 @@
 
 The node has what the last superblock lists that was written whole. Each payload of that counts which a whole frame has anywhere.
 """
-import argparse
-import io
 import random
 import re
 import shutil
@@ -12,7 +10,9 @@ import tarfile
 import types
 from pathlib import Path
 from typing import NamedTuple
+from unittest import mock
 
+from lib.disks import geometry
 from lib.drives import with_older_format, worked
 from lib.node import Drive, Full, record_pages
 from lib.program import TOP
@@ -204,7 +204,7 @@ class Rescued(NamedTuple):
     """The status, what was printed, and the files of the archive."""
     status: int
     lines: list
-    files: dict
+    files: dict | None
 
 
 class Rescuer:
@@ -222,15 +222,20 @@ class Rescuer:
         if runs is not None:
             listed.write_text("".join(line + "\n" for line in run_lines(runs)), encoding="ascii")
         shutil.rmtree(folder, ignore_errors=True)
-        folder.mkdir()
-        given = argparse.Namespace(page=drive.page, pages=drive.pages, extents=drive.extents, map=[], last=last, take=take,
-                                   runs=None if runs is None else str(listed), image=str(image), folder=str(folder),
-                                   unreadable=[f"{e}:{g}" for e, g in sorted(drive.unreadable)])
+        words = [*geometry(drive.page, drive.pages, drive.extents), "--take", take, *(["--last", last] if last is not None else []),
+                 *(["--runs", listed] if runs is not None else [])]
+        return self.call(*words, image, folder, *(f"{e}:{g}" for e, g in sorted(drive.unreadable)))
+
+    def call(self, *words):
+        """What becomes of a call with these words."""
+        with mock.patch.object(sys, "argv", ["rescue", *map(str, words)]):
+            given = self.script.arguments()
         try:
-            lines, status = self.script.rescue(given, folder)
+            with self.script.new_folder(given.folder) as folder:
+                lines, status = self.script.rescue(given, folder)
         except self.script.Fault as why:
-            return Rescued(why.args[0], [why.args[1]], {})
-        return Rescued(status, lines, files_of(folder / "all.tar"))
+            return Rescued(why.args[0], [why.args[1]], None)
+        return Rescued(status, lines, files_of(Path(given.folder) / "all.tar"))
 
 
 def files_of(path):
