@@ -5,6 +5,7 @@ What is right of the worked images was written by hand, from docs/REPORT.md; ref
 on drives on which a node has worked, with the program alone.
 """
 import io
+import os
 import random
 import shlex
 import subprocess
@@ -17,6 +18,7 @@ from lib.disks import Disk, frame, geometry, locator, record, run, sealed_frame,
 from lib.drives import worked
 from lib.node import Full
 from lib.program import TOP, need
+from lib.rescues import loaded
 from lib.worked import FOURS, ONES, THREES, TWOS, written
 from reference.shardscrub import Image, answered, loose_frames, scrub, superblock_remarks, tile
 
@@ -351,6 +353,22 @@ class Laws(RoomCase):
 add_tests(Laws, Laws.check, [(f"drive {seed:03}", seed) for seed in range(120)])
 
 
+def by_counting_anew(order, image):
+    """The order that act/order had before: the newer runs among those that are left are counted for each choice."""
+    runs = [*order.runs_of(image)]
+    ends, left = order.ends_of(image, runs), set(range(len(runs)))
+    newer = [[set() for _ in runs] for _ in range(2)]
+    for of_rule, older in zip(newer, (order.certainly_older(runs, ends), order.older_by_place(runs, ends))):
+        for number in left:
+            for other in older(number, left):
+                of_rule[other].add(number)
+    gone = [sum(ends[order.place_of(c)] is None for c in one.locators) for one in runs]
+    while left:
+        best = min(left, key=lambda k: (*(len(of_rule[k] & left) for of_rule in newer), gone[k], -runs[k].extent, -runs[k].start))
+        left.remove(best)
+        yield runs[best]
+
+
 class Order(RoomCase):
     """`act/order` prints words that the program takes, each run once."""
 
@@ -387,6 +405,58 @@ class Order(RoomCase):
             path.write_bytes(made.bytes)
             done = subprocess.run([sys.executable, TOP / "act/order", *made.geometry(), path], stdin=subprocess.DEVNULL, capture_output=True)
             self.same(name, done.stdout.decode().split(), [f"--run={place}" for place in right.split()])
+
+    def test_the_choice_is_that_of_before(self):
+        """Until each run is chosen, those that are newer are counted anew."""
+        order = loaded("order")
+        for seed in range(300):
+            choice = random.Random(f"order {seed}")
+            try:
+                drive, node = worked(choice)
+                node.superblock()
+            except Full:
+                continue
+            rotten(choice, drive)
+            image = drive.image()
+            self.same(f"drive {seed}", [run[:2] for run in order.in_order(image)], [run[:2] for run in by_counting_anew(order, image)])
+
+    def test_a_sealed_chunk_lies_over_all_of_its_bytes(self):
+        """Only its last 34 bytes lie over the chunk that a run names and that is gone."""
+        disk = Disk(PAGES, EXTENTS)
+        gone = disk.chunk(1, 60, ONES, b"abc")
+        disk.chunk(2, 155, AS, run((shard(1), [gone])))
+        disk.chunk(2, 0, BS, run((shard(2), [disk.chunk(1, 0, TWOS, b"d", sealed_frame)])))
+        (self.room / "sealed").write_bytes(disk.bytes)
+        done = self.order(*disk.geometry(), self.room / "sealed")
+        self.same("the order", done.stdout.split(), ["--run=2:0", "--run=2:155"])
+
+    def order(self, *words):
+        return subprocess.run([sys.executable, TOP / "act/order", *words], stdin=subprocess.DEVNULL, capture_output=True, text=True, timeout=SECONDS)
+
+    def test_maps(self):
+        """The pages that the maps lack are those that are given else. The run at 2:41 has a byte on page 1."""
+        (self.room / "whole").write_bytes(IMAGES["whole"])
+        sizes, begin = geometry(PAGE, PAGES, EXTENTS), 2 * SIZE + PAGE
+        for name, at in (("one", begin), ("two", begin + 2048)):
+            (self.room / name).write_text(f"0x0 + 1\n0 {at} +\n{at} 64 -\n{at + 64} {4 * SIZE} +\n")
+        first = self.order(*sizes, "--map", self.room / "one", self.room / "whole")
+        self.same("one", (first.returncode, first.stdout, first.stderr), (0, "--run=3:0\n", ""))
+        both = self.order(*sizes, "--map", self.room / "two", "--map", self.room / "one", self.room / "whole")
+        self.same("two", (both.returncode, both.stdout, both.stderr), (0, "--run=3:0\n", ""))
+        bad = self.order(*sizes, "--map", self.room / "whole", "--map", self.room / "one", self.room / "whole")
+        self.same("what is no map", (bad.returncode, bad.stdout, bad.stderr), (2, "", f"act/order: map refused: {self.room / 'whole'}: line 1\n"))
+
+    def test_what_is_no_image(self):
+        pipe = self.room / "pipe"
+        os.mkfifo(pipe)
+        for name in ("no-such", "/dev/null", str(pipe), str(self.room)):
+            done = self.order(*geometry(PAGE, PAGES, EXTENTS), name)
+            self.same(name, (done.returncode, done.stdout, done.stderr), (3, "", f"shardscrub: image cannot be opened: {name}\n"))
+
+    def test_help(self):
+        done = self.order("--help")
+        self.same("help", (done.returncode, done.stdout.startswith("usage: act/order --page P --pages N --extents E [--map FILE]... IMAGE")),
+                  (0, True))
 
     def test_what_the_reference_refuses(self):
         done = subprocess.run([sys.executable, TOP / "act/order", *geometry(60, 8, 4), "no-such"], stdin=subprocess.DEVNULL, capture_output=True)
