@@ -291,6 +291,22 @@ class Calls(WorkedCase):
             self.true("it is one", right[0] > 1 and right[2] != "", right)
             self.same(" ".join(words), self.call(*words), right)
 
+    def test_a_line_that_reclaimable_has_not(self):
+        """Nothing is accepted by it, however great its numbers are."""
+        right = self.call(*self.WORDS)
+        self.same("there is a plan", right[0], 0)
+        for line in ("loose 1 2 3 x shard 1 99999999999999", f"loose 1 {'9' * 5000} 3 x shard 1 41", "loose 1 0 3 x shard 1 4294967295",
+                     "loose 9 0 3 x shard 1 41", "loose 1 4294967295 3 x shard 1 41", "loose 1 0 3 x shard 1 40"):
+            self.same(line[:60], self.call(*self.WORDS, "--accept", line), right)
+
+    def test_several_maps(self):
+        """Each lacks another page. The answer is that of both pages."""
+        for name, at in (("one.map", 6 * EIGHT.page), ("two.map", 7 * EIGHT.page)):
+            (self.room / name).write_text(f"0x0 + 1\n0 {at} +\n{at} {EIGHT.page} -\n{at + EIGHT.page} {2 ** 20} +\n")
+        self.same("the maps", self.call(*self.WORDS, "--map", "one.map", "--map", "two.map"),
+                  (1, "doubt superblock-lost 6\ndoubt superblock-lost 7\n", ""))
+        self.same("what is no map", self.call(*self.WORDS, "--map", "one.map", "--map", "first"), (2, "", "act/plan: map refused: first: line 1\n"))
+
     def test_no_program(self):
         found = self.call(*self.WORDS, SHARDSCRUB="./no-such")
         self.same("SHARDSCRUB", found, (70, "", "act/plan: ./no-such can't be started: No such file or directory\n"))
