@@ -15,9 +15,9 @@ import time
 from pathlib import Path
 
 from lib.cases import Case, RoomCase, add_tests
-from lib.disks import Disk, frame, run, shard, uuid
+from lib.disks import Disk, run, shard, uuid
 from lib.program import TOP, need
-from lib.rescues import KINDS, PLACES, Rescuer, deads, files_of, judged
+from lib.rescues import KINDS, PLACES, Rescuer, deads, judged
 from reference.shardscrub import Image, lost_by_map, read_map, records_of, uuid_text
 
 sys.path.insert(0, str(TOP / "act"))
@@ -91,7 +91,8 @@ class Maps(Case):
             found = one_map(names, str(self.room))
             with open(found, encoding="ascii") as file:
                 self.same(f"turn {turn}", lost(file.read(), 64, 9999), lost(wanted, 64, 9999))
-            self.same("its own state", subprocess.run(["ddrescuelog", "--show-status", found], capture_output=True, check=False).returncode, 0)
+            shown = subprocess.run(["ddrescuelog", "--show-status", found], capture_output=True, check=False)
+            self.same("its own state", shown.returncode, 0)
 
     def test_what_is_no_map_is_refused(self):
         good = STATE + "\n0 64 +\n"
@@ -112,6 +113,9 @@ class Maps(Case):
 PAGE, PAGES, EXTENTS = 64, 16, 5
 SIZES = ["--page=64", "--pages=16", "--extents=5"]
 S1, S2, S3 = (shard(number).hex() for number in (1, 2, 3))
+COUNTS = "source 1: superblock 2 on page 8, which counts: 2 of 2 runs"
+MENDED = "source 1: superblock 2 on page 8, mended by its digest: 2 of 2 runs"
+BEHIND = "source 1: superblock 2 on page 8, damaged, 1 of its 2 runs, and behind them superblock 1 on page 0, which counts: "
 
 
 class Two:
@@ -142,7 +146,7 @@ class Two:
 
 def lines_of_runs(*locators):
     """The lines `run` of `locators`."""
-    fields = [(int.from_bytes(c[:4], "big"), int.from_bytes(c[4:8], "big"), int.from_bytes(c[8:12], "big"), uuid_text(c[12:28])) for c in locators]
+    fields = [(*(int.from_bytes(c[at:at + 4], "big") for at in (0, 4, 8)), uuid_text(c[12:28])) for c in locators]
     return "".join(f"run {k} {e} {o} {length} {name} sound\n" for k, (e, o, length, name) in enumerate(fields))
 
 
@@ -157,8 +161,8 @@ class RescueCase(RoomCase):
         shutil.rmtree(self.folder, ignore_errors=True)
 
     def call(self, *words, **given):
-        return subprocess.run([sys.executable, RESCUE, *map(str, words)], stdin=subprocess.DEVNULL, capture_output=True, text=True, timeout=SECONDS,
-                              cwd=self.room, env={**os.environ, "SHARDSCRUB": self.program}, check=False, **given)
+        return subprocess.run([sys.executable, RESCUE, *map(str, words)], stdin=subprocess.DEVNULL, capture_output=True, text=True,
+                              timeout=SECONDS, cwd=self.room, env={**os.environ, "SHARDSCRUB": self.program}, check=False, **given)
 
     def check(self, what, disk, words, status, files, *lines):
         """The status, the files of the archive, and lines that are printed, by an image that isn't written."""
@@ -180,13 +184,13 @@ class Sources(RescueCase):
 
     def test_the_log(self):
         two = Two()
-        self.check("the newest", two.disk.bytes, ["--last=2"], 0, Two.NEWER, "source 1: superblock 2 on page 8, which counts: 2 of 2 runs")
+        self.check("the newest", two.disk.bytes, ["--last=2"], 0, Two.NEWER, COUNTS)
         self.check("an older one", two.disk.bytes, ["--last=1"], 1, Two.OLDER, "source 1: superblock 1 on page 0, older: 1 of 1 runs",
                    "doubt: superblock 2 on page 8 lists other runs")
         self.same("what differs", self.kept("differs"), [f"{S1} a b", f"{S2} - a", f"{S3} a -"])
         self.check("none of it", two.disk.bytes, ["--last=3"], 1, Two.NEWER, "source 1: a guess, the order of act/order: 2 of 2 runs",
                    "doubt: it is a guess")
-        self.check("no log", two.disk.bytes, [], 1, Two.NEWER, "source 1: superblock 2 on page 8, which counts: 2 of 2 runs",
+        self.check("no log", two.disk.bytes, [], 1, Two.NEWER, COUNTS,
                    "doubt: no --last says that it is the last one")
 
     def test_a_tie(self):
@@ -202,11 +206,11 @@ class Sources(RescueCase):
         for offset in range(Two().length):
             if offset % 3 == 0 or offset < 30:
                 self.check(f"byte {offset}", Two().flip(offset).disk.bytes, ["--last=2"] * (offset % 2), 1, Two.NEWER,
-                           "source 1: superblock 2 on page 8, mended by its digest: 2 of 2 runs", "doubt: a write that ended early may look like it")
+                           MENDED, "doubt: a write that ended early may look like it")
 
     def test_a_head_is_mended_by_the_log(self):
         two = Two().flip(0, 3, 5, 9, 13, 20)
-        self.check("with it", two.disk.bytes, ["--last=2"], 1, Two.NEWER, "source 1: superblock 2 on page 8, mended by its digest: 2 of 2 runs")
+        self.check("with it", two.disk.bytes, ["--last=2"], 1, Two.NEWER, MENDED)
         self.check("without it", two.disk.bytes, [], 1, Two.OLDER, "source 1: superblock 1 on page 0, which counts: 1 of 1 runs")
 
     def test_a_damaged_list(self):
@@ -215,9 +219,9 @@ class Sources(RescueCase):
         self.check("a pointer", Two().flip(27, 31).disk.bytes, [], 1, Two.NEWER,
                    "source 1: superblock 2 on page 8, damaged, its list is whole: 2 of 2 runs")
         self.check("the second run", Two().flip(listed + 70, listed + 90).disk.bytes, [], 1, Two.NEWER,
-                   "source 1: superblock 2 on page 8, damaged, 1 of its 2 runs, and behind them superblock 1 on page 0, which counts: 2 of 3 runs")
+                   f"{BEHIND}2 of 3 runs")
         self.check("the first run", Two().flip(listed + 10, listed + 20).disk.bytes, [], 1, Two.OLDER,
-                   "source 1: superblock 2 on page 8, damaged, 1 of its 2 runs, and behind them superblock 1 on page 0, which counts: 1 of 2 runs")
+                   f"{BEHIND}1 of 2 runs")
 
     def test_zeros(self):
         """Nothing shows that there was a newer one, but the log does. The guess is right here."""
@@ -243,10 +247,11 @@ class Sources(RescueCase):
                    "doubt: nothing on the disk shows that it has the last runs")
         self.check("of the superblock that counts", two.disk.bytes, [f"--runs={listed}", "--last=2"], 0, Two.NEWER)
         listed.write_text(older)
-        self.check("older", two.disk.bytes, [f"--runs={listed}"], 1, Two.NEWER, "source 1: superblock 2 on page 8, which counts: 2 of 2 runs",
+        self.check("older", two.disk.bytes, [f"--runs={listed}"], 1, Two.NEWER, COUNTS,
                    f"source 2: the list of {listed}: 1 of 1 runs")
         listed.write_text(lines_of_runs(two.new[:20] + bytes(8) + two.new[28:], two.old))
-        self.check("a run of it isn't there", two.before, [f"--runs={listed}"], 1, Two.OLDER, f"source 1: the list of {listed}: 1 of 2 runs")
+        self.check("a run of it isn't there", two.before, [f"--runs={listed}"], 1, Two.OLDER,
+                   f"source 1: the list of {listed}: 1 of 2 runs")
         self.true("what is missing", f"shard {S1}: a newer entry may be lost" in self.kept("missing"), self.kept("missing"))
         for text, why in (("run 0 3 0\n", "line 1"), (older.replace("run 0", "run 1"), "the numbers of its runs"), ("", "no line `run`"),
                           ("x\nrun 0 3 0 4 x sound\n", "line 2")):
@@ -256,7 +261,8 @@ class Sources(RescueCase):
 
     def test_retired_extents(self):
         """What is in them comes by --run, and is marked: a payload, and a run with all that it names."""
-        for retired, more in (([2], [f"{S2} 01"]), ([1, 2], [f"{S1} 00", f"{S2} 00", f"{S2} 01"]), ([4], None), ([1, 2, 4], None), ([3], [])):
+        for retired, more in (([2], [f"{S2} 01"]), ([1, 2], [f"{S1} 00", f"{S2} 00", f"{S2} 01"]), ([4], None), ([1, 2, 4], None),
+                              ([3], [])):
             self.check(f"retired {retired}", Two(retired).disk.bytes, ["--last=2"], 0, Two.NEWER)
             if more is not None:
                 self.same("what is marked", self.kept("retired") if more else [], more)
@@ -273,8 +279,8 @@ class Sources(RescueCase):
         self.same("there is no third", (done.returncode, done.stderr), (2, "act/rescue: there is no source 3: the last one is 2\n"))
 
     def check_torn(self, count):
-        """Only some sectors of the newest superblock arrive, where there were zeros or an older one. The one that counts until then is taken, and
-        by the log it is certain."""
+        """Only some sectors of the newest superblock arrive, where there were zeros or an older one. The one that counts until then is
+        taken, and by the log it is certain."""
         for under in (bytes(4 * PAGE), None):
             two = Two()
             text = two.record() + bytes(-two.length % PAGE)
@@ -317,8 +323,8 @@ class Folders(RescueCase):
         slow.write_text(f"#!/bin/sh\n[ \"$1\" != manifest ] || exec sleep 30\nexec '{self.program}' \"$@\"\n")
         slow.chmod(0o755)
         for number in (signal.SIGTERM, signal.SIGINT, signal.SIGHUP):
-            running = subprocess.Popen([sys.executable, RESCUE, *SIZES, self.image, self.folder], stdin=subprocess.DEVNULL, stdout=subprocess.DEVNULL,
-                                       env={**os.environ, "SHARDSCRUB": str(slow)})
+            running = subprocess.Popen([sys.executable, RESCUE, *SIZES, self.image, self.folder], stdin=subprocess.DEVNULL,
+                                       stdout=subprocess.DEVNULL, env={**os.environ, "SHARDSCRUB": str(slow)})
             while not Path(f"{self.folder}.part").exists():
                 time.sleep(.01)
             time.sleep(.2)
@@ -329,7 +335,8 @@ class Folders(RescueCase):
     def test_wrong_words(self):
         self.image.write_bytes(Two().disk.bytes)
         for words, status in (([], 2), ([self.image], 2), (["--page=64", self.image, "o"], 2), (["--last=x", self.image, "o"], 2),
-                              ([*SIZES, "no-such", "o"], 3), ([*SIZES, "/dev/null", "o"], 3), (["--page=65", *SIZES[1:], self.image, "o"], 2),
+                              ([*SIZES, "no-such", "o"], 3), ([*SIZES, "/dev/null", "o"], 3),
+                              (["--page=65", *SIZES[1:], self.image, "o"], 2),
                               ([*SIZES, self.image, "o", "9:9"], 2), ([*SIZES, "--map=no-such", self.image, "o"], 3),
                               ([*SIZES, f"--map={self.image}", self.image, "o"], 2), ([*SIZES, self.image, "no/such"], 3),
                               (["--page=64", "--pages=4", "--extents=3", self.image, "o"], 3)):
@@ -365,10 +372,10 @@ class Folders(RescueCase):
 
 # Made-up disks
 
-# How many disks of each kind, and of what the node had: how many of a thousand shards have to be right at least, without the log and with it.
+# How many disks of each kind, and how many of a thousand shards that the node had are right at least, without the log and with it.
 EACH = 6
-LEAST = {"none": (950, 950), **{f"bit in {place}": (900, 900) for place in PLACES}, "torn": (950, 950), "noise": (600, 600), "zeros": (500, 800),
-         "unreadable": (800, 800), "older format": (0, 950)}
+LEAST = {"none": (950, 950), **{f"bit in {place}": (900, 900) for place in PLACES}, "torn": (950, 950), "noise": (600, 600),
+         "zeros": (500, 800), "unreadable": (800, 800), "older format": (0, 950)}
 
 
 class MadeUp(RescueCase):
