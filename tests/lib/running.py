@@ -120,8 +120,8 @@ class Long(NamedTuple):
 SECONDS = {
     "answers": 5, "checklist": .1, "compare": .3, "corpus": 1, "costs": .3, "documents": 4, "examples": 5, "gate": 4, "help": .6,
     "last": .3, "listings": .2, "loose": 1, "memory": 1, "messages": 4, "monitoring": 1, "node": 14, "outside": 45, "package": 8,
-    "page": 12, "parts": 1, "plan": 14, "questions": .7, "reads": 22, "release": .7, "rescue": 6, "scrubs": 4, "shard": .3, "start": 3,
-    "statuses": 1, "system": 7, "tilings": 5,
+    "page": 12, "parts": 1, "plan": 14, "questions": .7, "reads": 22, "release": .7, "rescue": 6, "scrubs": 4, "shard": .3, "sources": .1,
+    "start": 3, "statuses": 1, "system": 7, "tilings": 5,
 }
 LONG = {
     "checklist.Laws": Long(5), "checklist.Mistakes": Long(40, 4), "checklist.Needed": Long(8), "checklist.Walks": Long(13, 2),
