@@ -308,6 +308,27 @@ class Refused(Case):
         self.true(f"{Path(JSON).name} names the schema", b"docs/report.schema.json" in JSON.read_bytes())
 
 
+class Page(RoomCase):
+    """What docs/REPORT.md says."""
+    TEXT = (TOP / "docs/REPORT.md").read_text(encoding="utf-8")
+
+    def test_its_examples(self):
+        (self.room / "shardscrub").symlink_to(self.program)
+        section = re.search(r"^## Lines as JSON\n(.*?)^## ", self.TEXT, re.M | re.S)[1]
+        examples = re.findall(r"^\$ (.*)\n((?:\{.*\n)+)", section, re.M)
+        self.same("examples", len(examples), 2)
+        for command, wanted in examples:
+            command = command.replace("./shardscrub", f"{self.room}/shardscrub")
+            done = subprocess.run(["sh", "-c", command], cwd=TOP, stdin=subprocess.DEVNULL, capture_output=True, text=True)
+            self.same(command, (done.stdout, done.stderr), (wanted, ""))
+
+    def test_compare_has_the_order_of_the_help(self):
+        helped = subprocess.run([self.program, "compare", "--help"], capture_output=True, text=True).stderr
+        order = re.findall(r"^  ([a-z]+) (?=[A-Z]|before)", helped, re.M)
+        section = re.search(r"^## Two images\n(.*?)^## ", self.TEXT, re.M | re.S)[1]
+        self.same("the kinds of lines", re.findall(r"^\| `([a-z]+) ", section, re.M), [kind for kind in order if kind != "safe"])
+
+
 add_tests(Examples, Examples.check, [(f"lines of {command}", command) for command in COMMANDS])
 add_tests(Disks, Disks.check, [(f"lines of {command}", command) for command in COMMANDS])
 add_tests(Refused, Refused.check, [(f"lines of {command}", command) for command in COMMANDS])

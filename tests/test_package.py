@@ -47,6 +47,7 @@ INSTALLED = {
     **{f"share/shardscrub/act/{name}": (0o755, f"act/{name}") for name in ("order", "plan", "put", "reclaim", "rescue")},
     **{f"share/shardscrub/act/{path.name}": (0o644, f"act/{path.name}") for path in (TOP / "act").glob("*.py")},
     "share/shardscrub/reference/shardscrub.py": (0o755, "reference/shardscrub.py"),
+    "share/shardscrub/view/json": (0o755, "view/json"),
     "share/shardscrub/view/metrics": (0o755, "view/metrics"),
     "share/shardscrub/view/monitoring/cron": (0o644, "view/monitoring/cron"),
     "share/shardscrub/view/monitoring/nightly": (0o755, "view/monitoring/nightly"),

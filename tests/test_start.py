@@ -13,8 +13,8 @@ import unittest
 from pathlib import Path
 
 from lib.cases import RoomCase
-from lib.program import (BUILD_TOOLS, FASTER, GENERAL, TOP, TUNABLES, V2_FLAGS, V3_FLAGS, find, has_v3, need, processors, with_processor,
-                         write)
+from lib.program import (BUILD_TOOLS, FASTER, GENERAL, TOP, TUNABLES, V2_FLAGS, V3_FLAGS, find, has_v3, need, processors, program,
+                         with_processor, write)
 from lib.system import Library, run_with
 
 sys.path.insert(0, str(TOP / "tools"))
@@ -42,6 +42,13 @@ CHANGES = re.compile(r"(?:^    echo 'crates/\S+ s/.*/'\n)+", re.MULTILINE)
 PROGRAM = """#!/bin/sh
 printf '%s\\n' 'NAME' "$@" "$PWD" "$GLIBC_TUNABLES"
 exit 3
+"""
+# It says its words on the error stream with some line feeds, as the program says help, and which process it is on the output of scan.
+HELPER = """#!/bin/sh
+if [ "$1" = scan ] && [ "$2" = process ]; then echo $$; exit; fi
+printf '%s|' "$@" >&2
+printf ':7:\\n\\n' >&2
+exit "$STATUS"
 """
 
 
@@ -323,6 +330,65 @@ class Start(StartCase):
         self.assertEqual(built.returncode, 0, built.stderr)
         self.assertEqual(self.on(V2_FLAGS | V3_FLAGS), "made by rt x86-64-v3")
         self.assertEqual(list(passing.iterdir()), [])
+
+
+class Helps(StartCase):
+    """Help that is asked for goes to the output. All else is as the program has it, by the same process."""
+    HELP = (["--help"], ["-h"], ["-hV"], ["help"], ["help", "scan"], ["scan", "--help"], ["scan", "-h", "--page"],
+            ["scan", "a  b", "*", "--help"])
+    OTHERS = ([], ["scan"], ["scan", "help"], ["scan", "--", "--help"], ["scan", "--map=-h"], ["-V"], ["--helper"], ["scan", "a -h"])
+
+    def setUp(self):
+        super().setUp()
+        self.build()
+        for name in (GENERAL, FASTER):
+            write(self.built(name), HELPER, 0o755)
+            self.mark(name).touch()
+        self.cpuinfo.write_text(processors(V2_FLAGS))
+
+    def check(self, words, status, is_output):
+        ended = self.run_in(self.folder, self.top / "shardscrub", *words, STATUS=str(status))
+        text = "".join(f"{word}|" for word in words or [""]) + ":7:\n\n"
+        self.assertEqual((ended.returncode, ended.stdout, ended.stderr), (status, *((text, "") if is_output else ("", text))), words)
+
+    def test_help_goes_to_the_output(self):
+        for words in self.HELP:
+            self.check(words, 0, True)
+
+    def test_what_is_wrong_stays_on_the_error_stream(self):
+        for status in (2, 127):
+            for words in self.HELP:
+                self.check(words, status, False)
+
+    def test_all_other_calls(self):
+        for words in self.OTHERS:
+            for status in (0, 1):
+                self.check(words, status, False)
+
+    def test_all_other_calls_are_the_same_process(self):
+        environment = {"PATH": os.environ["PATH"]}
+        with subprocess.Popen([self.top / "shardscrub", "scan", "process"], env=environment, stdout=subprocess.PIPE, text=True) as started:
+            self.assertEqual(started.stdout.read(), f"{started.pid}\n")
+
+    def test_a_pipe_that_ends(self):
+        """Nothing is said, and nothing if the reader had ended before."""
+        for reader in ("head -n 1", "true"):
+            ended = self.run_in(self.folder, "sh", "-c", f"'{self.top}/shardscrub' --help | {reader}", STATUS="0")
+            self.assertEqual((ended.stdout in ("", "--help|:7:\n"), ended.stderr), (True, ""))
+
+    def test_an_output_that_fails(self):
+        ended = self.run_in(self.folder, "sh", "-c", f"'{self.top}/shardscrub' --help >/dev/full", STATUS="0")
+        self.assertEqual(ended.returncode, 3)
+
+    def test_the_help_of_the_program(self):
+        """In the repository's own folder, to the byte."""
+        for words in (["--help"], ["help", "items"], ["compare", "-h"], ["help", "scans"], ["scan", "--page", "x", "--help"],
+                      ["scan", "--page"]):
+            by_script = subprocess.run([TOP / "shardscrub", *words], capture_output=True, timeout=300)
+            own = subprocess.run([program(), *words], capture_output=True, timeout=300)
+            streams = [own.stdout, own.stderr] if own.returncode else [own.stderr, b""]
+            self.assertEqual([by_script.returncode, by_script.stdout, by_script.stderr], [own.returncode, *streams], words)
+            self.assertTrue(own.stderr, words)
 
 
 # The tools that look at the sources.

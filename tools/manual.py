@@ -211,7 +211,7 @@ def options_text():
                 ".IR EXTENT : PAGE" if ":" in name else f".I {name}")
         text = TEXTS["FREE_PAGE_HELP"] if name == SIZES[0] else option.help
         out += [".TP", head, *(f"{roff(one)}." for one in text.split(". "))]
-    return [*out, ".TP", '.BR \\-h ", " \\-\\-help', "Prints help on the error stream.", ".TP", '.BR \\-V ", " \\-\\-version',
+    return [*out, ".TP", '.BR \\-h ", " \\-\\-help', "Prints help.", ".TP", '.BR \\-V ", " \\-\\-version',
             "Prints the version."]
 
 
