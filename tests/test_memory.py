@@ -198,19 +198,23 @@ class Runs(LibraryCase):
                 self.same(f"allocation {refused} and all later ones refused", got, wanted)
         self.true("there are allocations", refused > step)
 
+    def need_readers(self, words):
+        """Skips the test of several readers where there is one: a reader for each processor."""
+        if words.endswith(LARGE) and len(os.sched_getaffinity(0)) == 1:
+            raise unittest.SkipTest("with one processor there is one reader")
+
     def check_threads(self, words):
         """Each allocation of all threads except the first one is refused. By then that one has scanned all extents, or loaded its part,
         and still the run has to end out of memory."""
-        if words.endswith(LARGE) and len(os.sched_getaffinity(0)) == 1:
-            raise unittest.SkipTest("with one processor there is one reader")
+        self.need_readers(words)
         got, refused = self.refusing(words, growths.NONE_REFUSED, all_others=True)
         self.same("the answer", got, OUT_OF_MEMORY)
         self.true("allocations are refused", refused > 0)
 
-
     def check_ends(self, words):
         """Each allocation of the threads but the first one is refused in turn: none of those that were started is left when the
         answer is written."""
+        self.need_readers(words)
         words = words.replace(ROOM, f"{self.room}/")
         whole, ends = refusing(self.program, words, self.library, 0)[0], set()
         for refused, got, counts in refusing_of_others(self.program, words, self.library):
