@@ -208,7 +208,7 @@ class Install(OfTheRelease):
         """They run in the folder of the documents."""
         done("release/install", self.folder / "prefix")
         command = self.folder / "prefix/bin/shardscrub"
-        lines = re.findall(r"^  shardscrub (.*examples/\S+)$", run(command, "--help").stderr, re.M)
+        lines = re.findall(r"^  shardscrub (.*examples/\S+)$", run(command, "--help").stdout, re.M)
         self.assertGreater(len(lines), 2)
         for line in lines:
             done(command, *line.split(), cwd=self.folder / "prefix/share/doc/shardscrub")

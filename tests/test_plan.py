@@ -2,6 +2,7 @@
 and what act/put refuses. fuzz/plan.py has more disks."""
 import os
 import random
+import re
 import shutil
 import signal
 import subprocess
@@ -17,7 +18,7 @@ from lib.cases import RoomCase, add_tests
 from lib.disks import frame, geometry, locator, record, run, shard, uuid
 from lib.node import Drive, Engine, require
 from lib.planning import CALLS, SCRIPT, Planner, Words, is_right, judge, plan_on, planned_drive, put, reclaim, write_of
-from lib.program import TOP, need
+from lib.program import PUT_TOOLS, TOP, need
 
 SEED, DISKS, INTERRUPTED, BY_BOTH = 1, 400, 200, 24
 PLAN, PUT = TOP / "act/plan", TOP / "act/put"
@@ -434,7 +435,7 @@ class BothScripts(PlanCase):
     """The same by processes: act/plan and act/put on files."""
 
     def check(self, turn):
-        need("basenc")
+        need(*PUT_TOOLS)
         drive, words, listing, choice = planned_drive(self.engine, seed_of(turn))
         sizes, image, disk = geometry(drive.page, drive.pages, drive.extents), self.room / "image", self.room / "disk"
         options = [f"--last={words.last}", *(f"--accept={line}" for line in words.accepted), *(f"--reset={e}" for e in words.resets)]
@@ -524,7 +525,7 @@ class Put(WorkedCase):
     SHELL = None
 
     def setUp(self):
-        need(self.SHELL, "basenc")
+        need(self.SHELL, *PUT_TOOLS)
         self.plan_text = WRITE_RUN + "copy 1 0 2 195 41\n"
 
     def put(self, lines, *words, **more):
@@ -661,6 +662,29 @@ class Put(WorkedCase):
         for words in ([], ["first"], ["first", "disk", "more"], ["--chek", "first", "disk"], ["--page", "64", "first", "disk"],
                       ["--page", "x", "--pages", "8", "--extents", "4", "first", "disk"], ["--extents"]):
             self.same(" ".join(words), self.put(self.plan_text, *words), (2, "", usage))
+
+    def test_help(self):
+        """On the output, wherever it stands."""
+        for words in (["--help"], ["-h"], ["--check", "--page", "64", "--help", "first"]):
+            status, out, error = self.put("", *words)
+            self.same(" ".join(words), (status, error), (0, ""))
+            self.true("the usage and the statuses", "\nusage: act/put [--check] " in out and "\nExit status: 0; 1 " in out, out)
+
+    def test_each_tool_that_is_not_there(self):
+        """Its name is said, not that a line is wrong; and no other tool is needed than those that are looked for."""
+        tools = re.search(r"^for tool in (.*); do$", PUT.read_text(encoding="utf-8"), re.M)[1].split()
+        folder, shell = self.room / f"tools of {self.SHELL}", shutil.which(self.SHELL)
+        folder.mkdir()
+        for tool in tools:
+            (folder / tool).symlink_to(shutil.which(tool))
+        with mock.patch.dict(self.given, PATH=str(folder)), mock.patch.object(self, "SHELL", shell):
+            for tool in tools:
+                (folder / tool).rename(folder / "away")
+                self.refused(tool, self.plan_text, why=f"{tool} isn't there, and act/put needs it")
+                (folder / "away").rename(folder / tool)
+            self.disk()
+            self.same("put", self.put(self.plan_text, "first", "disk"), (0, "", ""))
+        self.true("copied", self.file("disk") == self.file("copied"))
 
     def test_names_with_spaces(self):
         for name in ("an image", "a disk"):

@@ -6,7 +6,7 @@ import subprocess
 
 from lib.disks import frame, geometry, record, run, sealed_frame
 from lib.planner import Planner, Words, write_over
-from lib.program import TOP
+from lib.program import PUT_TOOLS, TOP, need
 from reference import shardscrub as reference
 from reference.shardscrub import BEST, FORMS, Image, choose, frame_at, manifest, records_of, refusal, scrub, sha, tile, write_locator
 
@@ -92,6 +92,7 @@ class Engine:
 
     def put(self, image, disk, lines):
         """The bytes of the disk after act/put has made these writes."""
+        need(*PUT_TOOLS)
         names = [os.path.join(os.path.dirname(self.name), name) for name in ("image of the plan", "disk")]
         for name, drive in zip(names, (image, disk)):
             write_over(name, drive.raw)

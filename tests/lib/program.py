@@ -91,8 +91,10 @@ def need(*tools):
             raise unittest.SkipTest(why)
 
 
-# What view/row, view/metrics, release/package and build, which ./shardscrub asks for its program, call beside what each machine has.
-ROW_TOOLS, METRICS_TOOLS, PACKAGE_TOOLS = ("jq", "flock", "awk"), ("awk",), ("dpkg-deb", "awk", "xargs", "gzip")
+# What view/row, view/metrics, act/put, release/package and build, which ./shardscrub asks for its program, call beside what each machine
+# has.
+ROW_TOOLS, METRICS_TOOLS, PUT_TOOLS = ("jq", "flock", "awk"), ("awk",), ("basenc", "cmp")
+PACKAGE_TOOLS = ("dpkg-deb", "awk", "xargs", "gzip")
 BUILD_TOOLS = ("awk", "cmp", "find", "xargs")
 
 
