@@ -157,6 +157,14 @@ class Lines(RoomCase):
         self.same("rows without a line", [text for text, (group, _) in ROWS.items() if text not in shown and group != SCRIPT], [])
         self.same("lines without a row", shown - set(ROWS), set())
 
+    def test_the_map_of_the_row_is_taken(self):
+        """The state and the block that the row of refused maps has."""
+        lines = re.findall(r"`(0x[^`]*)`", ROWS["map refused: line K"][1].wrong)
+        self.same("lines", len(lines), 2)
+        (self.room / "map of the row").write_text("".join(f"{line}\n" for line in lines), encoding="ascii")
+        status, _, error = self.printed("shardscrub summary --map 'map of the row' examples/one-shard.img")
+        self.same("status and error stream", (status, error), (0, ""))
+
     def test_the_wrong_pages_of_the_row_are_tried(self):
         pages = re.findall(r"`([^`]*)`", ROWS["bad page refused: ARG"][1].wrong)
         self.true("there are some", len(pages) > 4, pages)

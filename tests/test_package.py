@@ -483,7 +483,7 @@ class Package(OfTheRelease):
 
     def test_lintian(self):
         """It finds no error."""
-        need("lintian")
+        need("lintian", "man")
         found = run("lintian", *["--allow-root"] * (os.geteuid() == 0), "--fail-on", "error", self.package)
         self.assertEqual((found.returncode, found.stdout), (0, ""))
 

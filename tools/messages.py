@@ -83,13 +83,15 @@ FAULTS = Group("After `shardscrub:`", "There is no answer, or only a part of one
             "If the sizes that `sizes` lists are the disk's, give them.", RESCUED, SIZES, 1),
     Message("extent out of range", "`--extent` or `--reset` names an extent that the disk doesn't have, or `--reset` names extent 0.",
             "Count extents from 0: the last one is `--extents` less 1.", "items --extent 2 examples/one-shard.img", RAW_IMAGE),
-    Message("shard refused: ID", "ID isn't an identifier of a shard: these have 32 hexadecimal digits, without hyphens or `0x`.",
-            "Copy it from a line of `locators`.", "shard --id 00000000000000000000000000000001 examples/one-shard.img", SHARD),
+    Message("shard refused: ID", "ID isn't an identifier of a shard: these have 32 hexadecimal digits, without hyphens or `0x`. "
+            "Leading zeros are a part of it.",
+            "Copy it from a line of `locators`, after the word `shard`.", "shard --id 00000000000000000000000000000001 examples/one-shard.img", SHARD),
     Message("pointer out of range", "`--pointer` is more than the bytes of an extent, `--page` × `--pages`.",
             "Count from the start of the extent.", "items --extent 1 --pointer 41 examples/one-shard.img", RAW_IMAGE),
     Message("run refused: WORD",
-            "`--run` takes the place of an index run. WORD isn't two numbers with a colon, or the disk has no such place outside extent 0.",
-            "Write `EXTENT:OFFSET`, as on a line of `runs`.", "shards --run 2:0 examples/one-shard.img", GIVEN_RUNS),
+            "`--run` takes the place of an index run: `EXTENT:OFFSET`, such as `2:0`, in decimal digits alone. WORD isn't that, or the disk has "
+            "no such place outside extent 0.",
+            "Write the two numbers of a line of `runs`, after `run`, with a colon in between.", "shards --run 2:0 examples/one-shard.img", GIVEN_RUNS),
     Message("bad page refused: ARG",
             "What follows the image are unreadable pages, and ARG isn't one. No page is `1`, `1:2-3`, `1:2,1:3` or `a:b`, nor is `1:9` on a disk "
             "with 4 pages in an extent.",
@@ -100,8 +102,9 @@ FAULTS = Group("After `shardscrub:`", "There is no answer, or only a part of one
             "`ls -lL NAME` shows which. Give the file that ddrescue wrote beside the image.",
             "sizes --map examples/rescued.map examples/rescued.img", MAP, 1, 3),
     Message("map refused: line K",
-            "Line K isn't one of a map of ddrescue. If K is 1: is the file an image? If the file has fewer lines, it is empty, or has only "
-            "comments.", "Give the file that ddrescue wrote beside the image.", RESCUED, MAP, 1),
+            "Line K isn't one of a map of ddrescue: first the state, such as `0x0800 + 1`, then a block a line, such as `0x0000 0x0800 +`: "
+            "position, size, and one of `?*/-+`, by ascending position. If K is 1: is the file an image? If the file has fewer lines, it is "
+            "empty, or has only comments.", "Give the file that ddrescue wrote beside the image.", RESCUED, MAP, 1),
     Message("image cannot be opened: NAME",
             "There is no such file, you may not read it, or it is a folder, a pipe or a character device. `-` doesn't mean the standard input.",
             "`ls -lL NAME` shows which. Give a file or a block device, in front of all `EXTENT:PAGE`. To read a block device, be root.",
@@ -112,8 +115,9 @@ FAULTS = Group("After `shardscrub:`", "There is no answer, or only a part of one
             "Check the sizes, and that nothing is in front of the disk. If the drive is longer than the disk, scan the device that `losetup -r "
             "--sizelimit BYTES -f --show DRIVE` prints; BYTES are the disk's.", f"summary {SIZED}",
             ("READING.md", "A drive that is longer than the disk"), 0, 3),
-    Message("run not found: WORD", "No index run that can be read begins at WORD, the value of `--run`.",
-            "Copy extent and offset from a line of `runs`.", f"runs {SIZED}", GIVEN_RUNS),
+    Message("run not found: WORD",
+            "No index run that can be read begins at WORD, the `EXTENT:OFFSET` of `--run`. The offset is in bytes from the start of the extent.",
+            "Copy both numbers from a line of `runs`.", f"runs {SIZED}", GIVEN_RUNS),
     Message("no such shard",
             "No index run that can be read has the shard. It was deleted, its run is lost, there is no superblock, or the identifier is wrong.",
             "See which runs and shards are known.", "locators examples/one-shard.img", SHARD, 0, 1),
