@@ -444,9 +444,9 @@ class Package(OfTheRelease):
         self.assertEqual(re.findall("^Version: (.*)$", ended.stdout, re.M)[0], newest()[0])
 
     def test_no_licence_has_been_granted(self):
-        """README and the package say the same."""
+        """README's first screen and the package say the same."""
         line = "none has been granted yet; all rights are with the owner"
-        self.assertIn(f"**Licence**: {line}.", (TOP / "README.md").read_text(encoding="utf-8"))
+        self.assertIn(f"**Licence**: {line}.", (TOP / "README.md").read_text(encoding="utf-8").splitlines()[:20])
         text = self.member("doc/shardscrub/copyright").decode()
         self.assertRegex(text, r"(?m)^Copyright \(C\) \d{4} ")
         self.assertIn(line.replace("none", "No licence"), text)
