@@ -240,6 +240,7 @@ class Examples(WorkedCase):
         self.check_command("compare", "many", ["many", "merged", "--reset", "1"], 0, "safe 7 8\n")
 
     def test_a_run_that_is_a_spare_is_copied_when_runs_are_merged(self):
+        need(*PUT_TOOLS)
         words = [sys.executable, PLAN, *MANY.words(), "--last", "7", "--reset", "1", "image"]
         for name in ("image", "disk"):
             shutil.copy(self.room / "spared", self.room / name)
@@ -253,6 +254,7 @@ class Examples(WorkedCase):
 
     def test_a_reclamation_by_both_scripts(self):
         """What act/put writes is what was written by hand."""
+        need(*PUT_TOOLS)
         for name, last, states in (("first", "2", ["copied", "done"]), ("runs", "7", ["runs-copied"]), ("many", "7", [None, "merged"])):
             shutil.copy(self.room / name, self.room / "disk")
             shutil.copy(self.room / name, self.room / "image")
