@@ -56,8 +56,10 @@ INSTALLED = {
     "share/shardscrub/view/monitoring/shardscrub@.service": (0o777, "view/monitoring/shardscrub@.service"),
     "share/shardscrub/view/monitoring/shardscrub@.timer": (0o777, "view/monitoring/shardscrub@.timer"),
     "share/shardscrub/view/questions.jq": (0o644, "view/questions.jq"),
+    "share/shardscrub/view/reasons.tsv": (0o644, "view/reasons.tsv"),
     "share/shardscrub/view/report.html": (0o644, "view/report.html"),
     "share/shardscrub/view/row": (0o755, "view/row"),
+    "share/shardscrub/view/why": (0o755, "view/why"),
     "share/zsh/site-functions/_shardscrub": (0o644, "release/completions/_shardscrub"),
 }
 # The package has the man page compressed and the completions for zsh where Debian's zsh looks, and two files more, which aren't copies.
