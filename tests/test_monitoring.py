@@ -4,6 +4,7 @@ written to meanwhile, and of a drive that is longer than its disk.
 import json
 import os
 import re
+import resource
 import shlex
 import shutil
 import signal
@@ -11,11 +12,12 @@ import subprocess
 import tempfile
 import time
 import unittest
-from pathlib import Path
+from typing import NamedTuple
 
 from lib.cases import Case, RoomCase
 from lib.disks import Disk, run, shard, uuid
-from lib.program import METRICS_TOOLS, TOP, absent, need, write
+from lib.nights import METRICS, MONITORING, NIGHTLY, RULES, NightlyCase, alert, done
+from lib.program import METRICS_TOOLS, TOP, absent, need, path_without, write
 from lib.system import FAILING_READS
 from reference.shardscrub import Image, summary
 
@@ -24,13 +26,12 @@ try:
 except ImportError:
     yaml = None
 
-MONITORING = TOP / "view/monitoring"
-NIGHTLY, RULES = MONITORING / "nightly", MONITORING / "shardscrub.rules.yml"
-METRICS, CASES = TOP / "view/metrics", TOP / "tests/alerts.yml"
 UNITS = ("shardscrub@.service", "shardscrub@.timer")
 READING = (TOP / "docs/READING.md").read_text(encoding="utf-8")
 SOUND, WRONG, TIE = (TOP / f"examples/{name}.img" for name in ("one-shard", "several-findings", "tie"))
 SIZES = ["--page", "64", "--pages", "4", "--extents", "3"]
+# The line of sda after a scan of SOUND, at a time that doesn't go on.
+SAID = "sda: sound: 1 shard, generation 1 (0 s, 768 bytes)\n"
 # Where the files are installed, and the folder of node_exporter.
 INSTALLED, COLLECTED = "/usr/share/shardscrub", "/var/lib/prometheus/node-exporter"
 
@@ -38,12 +39,6 @@ INSTALLED, COLLECTED = "/usr/share/shardscrub", "/var/lib/prometheus/node-export
 def need_yaml():
     if yaml is None:
         raise unittest.SkipTest(absent("Python's yaml"))
-
-
-def done(*words, **more):
-    """The status and both outputs of a run."""
-    ended = subprocess.run([str(word) for word in words], capture_output=True, encoding="utf-8", stdin=subprocess.DEVNULL, **more)
-    return ended.returncode, ended.stdout, ended.stderr
 
 
 def setUpModule():
@@ -57,68 +52,37 @@ def settings(unit):
     return [tuple(line.split("=", 1)) for line in lines if "=" in line and not line.startswith("#")]
 
 
-class NightlyCase(RoomCase):
-    """Nightly scans at a time that the tests give."""
-
-    @classmethod
-    def setUpClass(cls):
-        super().setUpClass()
-        need("flock")
-        write(cls.room / "bin/date", "#!/bin/sh\n[ \"$*\" = +%s ] && echo $NOW\n", 0o755)
-
-    def setUp(self):
-        folder = tempfile.TemporaryDirectory(dir=self.room)
-        self.addCleanup(folder.cleanup)
-        # The folder of node_exporter, and one for what else a test makes.
-        self.other = Path(folder.name)
-        self.folder = self.other / "collected"
-        self.folder.mkdir()
-        self.environment = {**os.environ, "SHARDSCRUB": self.program, "PATH": f"{self.room}/bin:{os.environ['PATH']}", "NOW": "1000"}
-        for name in ("LAST", "LOCK"):
-            self.environment.pop(name, None)
-
-    def right_text(self, disk, *words):
-        """The file of the disk after a summary with these arguments, which is an answer."""
-        status, text, _ = done(self.program, "summary", *words)
-        return subprocess.run([METRICS, disk, str(status), "0"], input=text, env=self.environment, capture_output=True, encoding="utf-8",
-                              check=True).stdout
-
-    def files(self):
-        return {path.name: path.read_text(encoding="utf-8") for path in self.folder.iterdir() if path.is_file()}
-
-    def nightly(self, *words, **more):
-        return done(NIGHTLY, *words, env=self.environment | more, umask=0o077)
-
-    def samples(self, disk):
-        """The numbers of the disk's file, by their names. There are none if it has no file."""
-        text = self.files().get(f"shardscrub-{disk}.prom", "")
-        return dict(re.findall(r"^shardscrub_(\w+)\{.*\} (\d+)$", text, re.M))
-
-    def script(self, text):
-        """A program that runs these lines."""
-        write(self.other / "script", f"#!/bin/sh\n{text}\n", 0o755)
-        return self.other / "script"
+def no_file_grows():
+    """Lets each write to a file fail, as on a full file system."""
+    signal.signal(signal.SIGXFSZ, signal.SIG_IGN)
+    resource.setrlimit(resource.RLIMIT_FSIZE, (0, 0))
 
 
 class Nightly(NightlyCase):
     """The script that renews the file of a disk."""
 
     def unanswered(self, what, answer, error, status, last_answer):
-        """Checks a scan that gave no answer: its own status, its error stream, and that the file of sda has nothing but what says so."""
+        """Checks a scan that gave no answer: its own status, its line, and that the file of sda has no number but those of a scan."""
         self.same(f"{what}: status and output", answer[:2], (2, ""))
         self.true(f"{what}: error stream", re.fullmatch(error, answer[2]), answer[2])
         self.same(f"{what}: files", list(self.files()), ["shardscrub-sda.prom"])
+        numbers = self.samples("sda")
         wanted = {"answered": "0", "exit_status": str(status), "last_answer_seconds": str(last_answer)}
-        self.same(f"{what}: numbers", self.samples("sda"), wanted)
+        self.same(f"{what}: numbers", {name: numbers.get(name) for name in wanted}, wanted)
+        self.true(f"{what}: other numbers", set(numbers) - set(wanted) <= {"last_given", "image_bytes"}, numbers)
 
     def test_each_verdict(self):
         """Also with options and unreadable pages."""
-        runs = {"sda": ([SOUND], 0), "sdb": ([WRONG, "3:1"], 2), "a disk": ([*SIZES, "--last", "2", SOUND], 1),
-                "-v": ([*SIZES, SOUND, "1:0"], 2)}
+        runs = {"sda": ([], SOUND, [], 0), "sdb": ([], WRONG, ["3:1"], 2), "a disk": ([*SIZES, "--last", "2"], SOUND, [], 1),
+                "-v": (SIZES, SOUND, ["1:0"], 2)}
+        said = {"sda": "sound: 1 shard, generation 1", "sdb": "wrong: 2 of 3 shards broken, 1 unreadable page, 2 torn items, 1 noise item",
+                "a disk": "doubt: generation 1 isn't the last one", "-v": "wrong: 1 of 1 shard broken, 1 unreadable page"}
         wanted = {}
-        for disk, (words, verdict) in runs.items():
-            self.same(disk, self.nightly(disk, self.folder, *words), (0, "", ""))
-            wanted[f"shardscrub-{disk}.prom"] = self.right_text(disk, *words)
+        for disk, (options, image, pages, verdict) in runs.items():
+            line = f"{disk}: {said[disk]} (0 s, {image.stat().st_size} bytes)\n"
+            self.same(disk, self.nightly(disk, self.folder, *options, image, *pages), (0, "", line) if verdict else (0, line, ""))
+            last = "2" if "--last" in options else None
+            wanted[f"shardscrub-{disk}.prom"] = self.right_text(disk, image, *pages, last=last)
             self.true(f"{disk}: verdict", f'\nshardscrub_verdict{{disk="{disk}"}} {verdict}\n' in wanted[f"shardscrub-{disk}.prom"])
             scan = {"answered": "1", "exit_status": "1" if verdict else "0", "last_answer_seconds": "1000"}
             self.same(f"{disk}: scan", {name: self.samples(disk).get(name) for name in scan}, scan)
@@ -141,18 +105,18 @@ class Nightly(NightlyCase):
         """The file says so, and has no number of the disk, also if an earlier scan had an answer."""
         program = f"exec {shlex.quote(self.program)} \"$@\""
         for last_answer in (0, 1000):
-            runs = {"no image": (["/nothing/here"], program, r"shardscrub: image cannot be opened: /nothing/here\n", 3),
-                    "no superblock": ([TOP / "examples/no-superblock.img"], program, r"shardscrub: sizes not .*\n", 2),
-                    "no image named": ([], program, r"(?s)error: .*", 2),
-                    "killed": ([SOUND], "kill -9 $$", r"", 137),
-                    "no program": ([SOUND], "exec /nothing/here", r".*not found\n", 127),
-                    "no output": ([SOUND], "exit 0", r"view/metrics: the input is not a whole summary\n", 70),
-                    "cut short": ([SOUND], f"{shlex.quote(self.program)} \"$@\" | head -n 9", r"view/metrics: the input .*\n", 70),
-                    "a whole text with another status": ([SOUND], f"{shlex.quote(self.program)} \"$@\"; exit 4", "", 4)}
-            for what, (words, text, error, status) in runs.items():
+            runs = {"no image": (["/nothing/here"], program, "image cannot be opened: /nothing/here", 3),
+                    "no superblock": ([TOP / "examples/no-superblock.img"], program, "sizes not found: run shardscrub sizes", 2),
+                    "no image named": ([], program, "the following required arguments were not provided: <IMAGE>", 2),
+                    "killed": ([SOUND], "kill -9 $$", "killed by signal 9", 137),
+                    "no program": ([SOUND], "exec /nothing/here", ".*not found", 127),
+                    "no output": ([SOUND], "exit 0", "status 0, but no whole answer", 70),
+                    "cut short": ([SOUND], f"{shlex.quote(self.program)} \"$@\" | head -n 9", "status 0, but no whole answer", 70),
+                    "a whole text with another status": ([SOUND], f"{shlex.quote(self.program)} \"$@\"; exit 4", "status 4, and no message", 4)}
+            for what, (words, text, why, status) in runs.items():
                 answer = self.nightly("sda", self.folder, *words, SHARDSCRUB=str(self.script(text)), NOW="2000")
-                self.unanswered(f"{what}, {last_answer}", answer, error, status, last_answer)
-            self.same("an answer", self.nightly("sda", self.folder, SOUND), (0, "", ""))
+                self.unanswered(f"{what}, {last_answer}", answer, rf"sda: no answer: {why} \(0 s(, \d+ bytes)?\)\n", status, last_answer)
+            self.same("an answer", self.nightly("sda", self.folder, SOUND), (0, SAID, ""))
             self.same("numbers", self.files(), {"shardscrub-sda.prom": self.right_text("sda", SOUND)})
 
     def test_the_last_answer(self):
@@ -175,9 +139,10 @@ class Nightly(NightlyCase):
         path = self.room / "last"
         for text, verdict in (("1\n", "0"), ("1", "0"), ("2\n", "1"), ("18446744073709551615\n", "1")):
             path.write_text(text, encoding="utf-8")
-            self.same(f"{text!r}: status and outputs", self.nightly("sda", self.folder, SOUND, LAST=str(path)), (0, "", ""))
-            self.same(f"{text!r}: verdict", self.samples("sda")["verdict"], verdict)
-        self.same("none", (self.nightly("sda", self.folder, SOUND, LAST=""), self.samples("sda")["verdict"]), ((0, "", ""), "0"))
+            self.same(f"{text!r}: status", self.nightly("sda", self.folder, SOUND, LAST=str(path))[0], 0)
+            self.same(f"{text!r}: verdict", [self.samples("sda")[name] for name in ("verdict", "last_given")], [verdict, "1"])
+        for words, given in (([SOUND], "0"), (["--last", "1", SOUND], "1"), (["--workers", "1", "--last=1", SOUND], "1")):
+            self.same(str(words), (self.nightly("sda", self.folder, *words)[0], self.samples("sda")["last_given"]), (0, given))
 
     def test_what_is_no_last(self):
         """A file that isn't there or hasn't one number is a night without an answer, and never a scan without --last."""
@@ -186,13 +151,13 @@ class Nightly(NightlyCase):
                  "1" * 21 + "\n", "0" * 99 + "1"]
         for text in texts:
             path.write_text(text, encoding="utf-8")
-            error = f"view/monitoring/nightly: LAST isn't a file with one number: {path}\n"
+            error = f"sda: no answer: LAST isn't a file with one number: {path}\n"
             self.unanswered(repr(text), self.nightly("sda", self.folder, SOUND, LAST=str(path)), re.escape(error), 2, 0)
-        for what in (self.room, self.room / "nothing"):
+        for what in ("", self.room, self.room / "nothing"):
             answer = self.nightly("sda", self.folder, SOUND, LAST=str(what))
-            self.unanswered(str(what), answer, f".*\nview/monitoring/nightly: LAST isn't a file with one number: {what}\n", 2, 0)
+            self.unanswered(str(what), answer, f"sda: no answer: LAST isn't a file with one number: {what}\n", 2, 0)
         path.write_text("18446744073709551616\n", encoding="utf-8")
-        self.unanswered("too great", self.nightly("sda", self.folder, SOUND, LAST=str(path)), "(?s)error: invalid value .*", 2, 0)
+        self.unanswered("too great", self.nightly("sda", self.folder, SOUND, LAST=str(path)), "sda: no answer: invalid value .*\n", 2, 0)
 
     def at_once(self, **more):
         """How many scans at most were there at once, of three that were started at once."""
@@ -203,7 +168,8 @@ class Nightly(NightlyCase):
                              f"{shlex.quote(self.program)} \"$@\"; status=$?; echo end >>{shlex.quote(str(log))}; exit $status")
         log.write_text("", encoding="utf-8")
         environment = self.environment | more | {"SHARDSCRUB": str(script)}
-        started = [subprocess.Popen([NIGHTLY, disk, self.folder, SOUND], env=environment) for disk in ("sda", "sdb", "sdc")]
+        started = [subprocess.Popen([NIGHTLY, disk, self.folder, SOUND], env=environment, stdout=subprocess.DEVNULL)
+                   for disk in ("sda", "sdb", "sdc")]
         self.same(f"{more}: statuses", [one.wait() for one in started], [0, 0, 0])
         self.same(f"{more}: answers", {self.samples(disk)["answered"] for disk in ("sda", "sdb", "sdc")}, {"1"})
         running = [0]
@@ -220,11 +186,10 @@ class Nightly(NightlyCase):
 
     def test_another_scan_takes_too_long(self):
         """This one gives up after six hours, without an answer."""
-        words = shlex.quote(f"-w 21600 -E 75 -- {self.folder} {self.program} summary {SOUND}")
-        write(self.other / "flock", f"#!/bin/sh\n[ \"$*\" = {words} ] && exit 75\n", 0o755)
+        write(self.other / "flock", "#!/bin/sh\n[ \"$1 $2 $3 $4\" = '-w 21600 -E 75' ] && exit 75\n", 0o755)
         answer = self.nightly("sda", self.folder, SOUND, PATH=f"{self.other}:{self.environment['PATH']}")
-        self.unanswered("lock", answer, "view/monitoring/nightly: another scan has had the lock for 6 hours: .*\n", 75, 0)
-        self.unanswered("no such folder", self.nightly("sda", self.folder, SOUND, LOCK="/no/lock"), "flock: .*\n", 66, 0)
+        self.unanswered("lock", answer, f"sda: no answer: another scan has had the lock for 6 hours: {self.folder}\n", 75, 0)
+        self.unanswered("no such folder", self.nightly("sda", self.folder, SOUND, LOCK="/no/lock"), "sda: no answer: flock: .*\n", 66, 0)
 
     def test_it_is_ended(self):
         """As by systemd, which ends each process of the service: the file says that there is no answer."""
@@ -238,11 +203,11 @@ class Nightly(NightlyCase):
             begun.unlink()
             os.killpg(scan.pid, signal.SIGTERM)
             out, error = scan.communicate()
-            self.unanswered(repr(lock), (scan.returncode, out, error), r"(.*Terminated\n)?", 143, 0)
+            self.unanswered(repr(lock), (scan.returncode, out, error), r"(.*Terminated\n)?sda: no answer: killed by signal 15.*\n", 143, 0)
 
     def test_no_folder(self):
         """And none is made, nor is a file in its place."""
-        error = f"view/monitoring/nightly: there is no folder {self.folder}/none for shardscrub-sda.prom\n"
+        error = f"sda: no answer: there is no folder {self.folder}/none for shardscrub-sda.prom\n"
         self.same("answer", self.nightly("sda", self.folder / "none", SOUND), (2, "", error))
         self.same("files", list(self.folder.iterdir()), [])
 
@@ -251,24 +216,93 @@ class Nightly(NightlyCase):
         (self.folder / "shardscrub-sda.prom/full").mkdir(parents=True)
         (self.folder / "shardscrub-sda.prom/shardscrub-sda.prom.new/full").mkdir(parents=True)
         status, out, error = self.nightly("sda", self.folder, SOUND)
-        self.same("status and output", (status, out), (2, ""))
-        self.true("error stream", "shardscrub-sda.prom" in error, error)
+        self.same("status and output", (status, out), (2, SAID))
+        self.same("error stream", error, f"sda: no answer: {self.folder}/shardscrub-sda.prom can't be written\n")
         self.same("files", self.files(), {})
 
+    def test_by_a_symbolic_link(self):
+        """It finds what is beside the script, also if only the path has a program."""
+        link = self.other / "nightly"
+        link.symlink_to(NIGHTLY)
+        self.same("answer", done(link, "sda", self.folder, SOUND, env=self.environment), (0, SAID, ""))
+        self.environment.pop("SHARDSCRUB")
+        self.same("its program", done(link, "sda", self.folder, SOUND, env=self.environment), (0, SAID, ""))
+
+    def test_the_journal(self):
+        """There each line has a priority, unless the disk is sound. Elsewhere it has none."""
+        runs = {"<3>sda: wrong: 1 of 3 shards broken, 1 torn item (0 s, 5120 bytes)\n": [WRONG],
+                "<4>sda: wrong: 1 torn item (0 s, 2048 bytes)\n": [TOP / "examples/to-move.img"],
+                "<3>sda: no answer: image cannot be opened: /no (0 s)\n": ["/no"], SAID: [SOUND]}
+        for wanted, words in runs.items():
+            with open(self.other / "journal", "w+b") as journal:
+                found = os.fstat(journal.fileno())
+                environment = self.environment | {"JOURNAL_STREAM": f"{found.st_dev}:{found.st_ino}"}
+                subprocess.run([NIGHTLY, "sda", self.folder, *words], stdout=journal, stderr=journal, env=environment)
+                self.same(str(words), (self.other / "journal").read_text(encoding="utf-8"), wanted)
+            self.same(f"elsewhere: {words}", "".join(self.nightly("sda", self.folder, *words, JOURNAL_STREAM="1:2")[1:]),
+                      re.sub(r"^<\d>", "", wanted))
+
+    def test_an_image_that_was_cut(self):
+        """It says how many bytes are missing, also of a file that isn't such a disk, and so does the alert in the place of all others."""
+        need("promtool")
+        raw, disks = SOUND.read_bytes(), {}
+        images = {"cut": raw[:-68], "one": raw[:-1], "empty": b"", "no": b"other bytes\n" * 8, "sound": raw}
+        short = {"cut": "68 bytes", "one": "1 byte", "empty": "768 bytes", "no": "672 bytes"}
+        for disk, text in images.items():
+            image = self.other / disk
+            image.write_bytes(text)
+            _, out, error = self.nightly(disk, self.folder, *SIZES, image)
+            line = f"{disk}: wrong: image is {short[disk]} short, " if disk in short else f"{disk}: sound: "
+            self.true(disk, (out + error).startswith(line), out + error)
+            self.same(f"{disk}: gauge", self.samples(disk)["image_bytes"], str(len(text)))
+            disks[disk] = [(self.samples(disk), True)]
+        self.raises(disks, {disk: ["Short!" if disk in short else ""] for disk in disks})
+
+    def test_what_the_map_lacks(self):
+        """Bytes that aren't zero were written there since, up to the disk's end. Then the map may be too old."""
+        path, image = self.other / "map", self.other / "image"
+        shutil.copy(TOP / "examples/rescued.map", path)
+        raw = (TOP / "examples/rescued.img").read_bytes()
+        sizes = ["--page", "512", "--pages", "4", "--extents", "4"]
+        for writes, wanted in (((), ""), (((1024, b"abc"), (0x1a00 + 511, b"x"), (512, b"y")), "; 4 bytes that the map lacks were written since")):
+            text = bytearray(raw)
+            for place, one in writes:
+                text[place:place + len(one)] = one
+            image.write_bytes(text)
+            for words in (["--map", path], [f"--map={path}"]):
+                _, out, error = self.nightly("sda", self.folder, *sizes, *words, image)
+                self.true(f"{words}, {writes}", (out + error).endswith(f"(0 s, 8192 bytes{wanted})\n"), out + error)
+        with open(path, "a", encoding="utf-8") as file:
+            file.write("0x00002000  0x00000200  ?\n")
+        image.write_bytes(raw + b"z" * 512)
+        _, out, error = self.nightly("sda", self.folder, *sizes, "--map", path, image)
+        self.same("behind the disk's end", out + error, "sda: no answer: image too long (0 s, 8704 bytes)\n")
+
+    def test_control_characters(self):
+        """They come from no name, neither of a disk nor of a file, to the terminal."""
+        for name in ("\x1b[31m\x07", "\x9b31m", "\u202d\x00"[:1] + "\x7f\r"):
+            for words in ([SOUND], [f"/no/{name}"], ["--map", f"/no/{name}", SOUND]):
+                status, out, error = self.nightly(name, self.folder, *words)
+                self.same(f"{name!r}, {words}: status", status, 0 if words == [SOUND] else 2)
+                self.same(f"{name!r}, {words}", re.findall(r"[\x00-\x09\x0b-\x1f\x7f-\x9f]", out + error), [])
+            error = self.nightly(name, f"/no/{name}", SOUND)[2] + self.nightly("sda", self.folder, SOUND, LAST=f"/no/{name}")[2]
+            self.same(f"{name!r}", re.findall(r"[\x00-\x09\x0b-\x1f\x7f-\x9f]", error), [])
+
     def test_usage(self):
+        usage = "usage: view/monitoring/nightly DISK FOLDER WORD..\n"
         for words in ([], ["sda"]):
-            self.same(str(words), self.nightly(*words), (2, "", "usage: view/monitoring/nightly DISK FOLDER WORD..\n"))
+            self.same(str(words), self.nightly(*words), (2, "", usage))
+        for word in ("-h", "--help"):
+            self.same(word, self.nightly(word), (0, usage, ""))
         for disk in ("", "a/b", "../sda"):
-            error = f"view/monitoring/nightly: a disk's name isn't empty and has no slash: {disk}\n"
-            self.same(repr(disk), self.nightly(disk, self.folder, SOUND), (2, "", error))
+            status, out, error = self.nightly(disk, self.folder, SOUND)
+            self.same(repr(disk), (status, out), (2, ""))
+            self.true(f"{disk!r}: error stream", error.endswith(f"no answer: a disk's name isn't empty and has no slash: {disk}\n"), error)
         self.same("files", self.files(), {})
 
 
 class Nights(NightlyCase):
     """What Prometheus raises night by night: what nightly does on a disk goes through promtool and the alerts."""
-    # In what follows all alerts have these labels.
-    LABELS = {"instance": "node1:9100", "job": "node"}
-
     def setUp(self):
         super().setUp()
         need("promtool")
@@ -282,35 +316,8 @@ class Nights(NightlyCase):
         is_renewed = path.exists() and path.stat().st_ino != before
         return self.samples("sdb"), is_renewed
 
-    def series(self, nights):
-        """Each number at each hour, with a night at the begin of each 24 hours, and the time of the file."""
-        names = {f'shardscrub_{name}{{disk="sdb"': [night.get(name) for night, _ in nights] for night, _ in nights for name in night}
-        written = [24 * 3600 * number if is_renewed else None for number, (_, is_renewed) in enumerate(nights)]
-        for number in range(1, len(written)):
-            written[number] = written[number - 1] if written[number] is None else written[number]
-        file = 'node_textfile_mtime_seconds{file="/var/lib/prometheus/node-exporter/shardscrub-sdb.prom"'
-        for name, values in (names | {file: written}).items():
-            labels = "".join(f', {label}="{value}"' for label, value in self.LABELS.items())
-            texts = ["_x24" if value is None else f"{value}+0x23" for value in values]
-            yield {"series": f"{name}{labels}}}", "values": " ".join(texts)}
-
-    def raises(self, nights, *wanted):
-        """Checks which alerts are raised in the first hour after each night. The wanted ones are names, with ! if it is critical."""
-        asked = []
-        for number, names in enumerate(wanted):
-            alerts = []
-            for name in names.split():
-                labels = {"alertname": f"Shardscrub{name.rstrip('!')}", "alertstate": "firing", "disk": "sdb", **self.LABELS,
-                          "severity": "critical" if name.endswith("!") else "warning"}
-                texts = ", ".join(f'{label}="{value}"' for label, value in labels.items())
-                alerts.append({"labels": f"ALERTS{{{texts}}}", "value": 1})
-            asked.append({"expr": 'ALERTS{alertstate="firing"}', "eval_time": f"{24 * number}h", "exp_samples": alerts})
-        tests = {"interval": "1h", "input_series": list(self.series(nights)), "promql_expr_test": asked}
-        cases = self.other / "cases.json"
-        cases.write_text(json.dumps({"rule_files": [str(RULES)], "evaluation_interval": "1h", "tests": [tests]}), encoding="utf-8")
-        self.same("nights", len(nights), len(wanted))
-        status, out, error = done("promtool", "test", "rules", cases)
-        self.true("alerts", status == 0, out + error)
+    def raise_each_night(self, nights, *wanted):
+        self.raises({"sdb": nights}, {"sdb": wanted})
 
     def written(self, *generations):
         """A sound disk with a superblock of each generation, one page after another, in the image."""
@@ -328,17 +335,17 @@ class Nights(NightlyCase):
             disk = self.written(number + 1, number + 2)
             nights.append(self.night(*(disk.geometry() if number % 2 else []), self.image))
         self.same("verdicts", {night["verdict"] for night, _ in nights}, {"0"})
-        self.raises(nights, *[""] * 10)
+        self.raise_each_night(nights, *[""] * 10)
 
     def test_a_new_disk_without_an_answer(self):
         """It has an alert at once, and until there is an answer."""
         nights = [self.night("/nothing/here"), self.night("/nothing/here"), self.night(SOUND)]
-        self.raises(nights, "NoAnswer!", "NoAnswer!", "")
+        self.raise_each_night(nights, "NoAnswer!", "NoAnswer!", "")
 
     def test_no_answer_any_more(self):
         """The alerts that its numbers had raised end with the numbers."""
         nights = [self.night(WRONG, "3:1"), self.night("/nothing/here"), self.night(WRONG, "3:1")]
-        self.raises(nights, "Wrong Broken! Unreadable!", "NoAnswer!", "Wrong Broken! Unreadable! GenerationSame")
+        self.raise_each_night(nights, "Broken! Unreadable!", "NoAnswer!", "Broken! Unreadable! GenerationSame")
 
     def test_a_bad_sector_in_the_first_64_MiB(self):
         """Without the sizes there is no answer, and with them there are all numbers that the disk still has. Its read fails."""
@@ -350,7 +357,7 @@ class Nights(NightlyCase):
         sizes = ["--page", "512", "--pages", "4", "--extents", "4"]
         nights = [self.night(image), self.night(image, SHARDSCRUB=str(failing)), self.night(*sizes, image, SHARDSCRUB=str(failing))]
         self.same("answers", [night.get("answered") for night, _ in nights], ["1", "0", "1"])
-        self.raises(nights, "", "NoAnswer!", "Wrong Unreadable! GenerationFell!")
+        self.raise_each_night(nights, "", "NoAnswer!", "Unreadable! GenerationFell!")
 
     def test_extent_0_is_zeros(self):
         """No superblock is there, so nothing is known of the disk."""
@@ -359,21 +366,50 @@ class Nights(NightlyCase):
         raw = self.image.read_bytes()
         self.image.write_bytes(bytes(disk.page * disk.pages) + raw[disk.page * disk.pages:])
         nights += [self.night(*disk.geometry(), self.image), self.night(self.image)]
-        self.raises(nights, "", "Wrong NoSuperblock! GenerationFell!", "NoAnswer!")
+        self.raise_each_night(nights, "", "NoSuperblock!", "NoAnswer!")
 
     def test_a_tie(self):
         disk = self.written(1, 2)
         nights = [self.night(*disk.geometry(), self.image), self.night(*SIZES, TIE), self.night(TIE)]
-        self.raises(nights, "", "Wrong Tie! GenerationFell!", "Wrong Tie! GenerationFell!")
+        self.raise_each_night(nights, "", "Tie! GenerationFell!", "Tie! GenerationFell!")
 
     def test_a_newest_superblock_that_reads_as_zeros(self):
         """Without the log's generation the disk is sound, though after an earlier night its generation has fallen."""
         disk, last = self.written(1), self.other / "last"
         last.write_text("2\n", encoding="utf-8")
-        self.raises([self.night(*disk.geometry(), self.image)], "")
-        self.raises([self.night(*disk.geometry(), self.image, LAST=str(last))], "Doubt")
+        self.raise_each_night([self.night(*disk.geometry(), self.image)], "")
+        self.raise_each_night([self.night(*disk.geometry(), self.image, LAST=str(last))], "Doubt!")
         last.write_text("", encoding="utf-8")
-        self.raises([self.night(*disk.geometry(), self.image, LAST=str(last))], "NoAnswer!")
+        for name in (str(last), "", str(self.other / "nothing")):
+            self.raise_each_night([self.night(*disk.geometry(), self.image, LAST=name)], "NoAnswer!")
+
+    def test_without_the_last_generation(self):
+        """The disk has an alert that says so, of severity info, as long as there is an answer."""
+        disk, last = self.written(1), self.other / "last"
+        last.write_text("1\n", encoding="utf-8")
+        nights = [self.night(*disk.geometry(), self.image, **more) for more in ({}, {"LAST": str(last)})] + [self.night("/nothing/here")]
+        self.same("gauge", [night["last_given"] for night, _ in nights], ["0", "1", "0"])
+        self.same("labels", alert("sdb", "NoLast?")["labels"].count('severity="info"'), 1)
+        self.raise_each_night(nights, "", "", "NoAnswer!")
+
+    def test_what_comes_behind_another_finding(self):
+        """A shared chunk stays for ever, and so may a stray page. What comes later has an alert of its own."""
+        shared, torn, hidden = (TOP / f"examples/{name}.img" for name in ("twins", "to-move", "collision"))
+        self.raise_each_night([self.night(image) for image in (shared, torn, hidden)], "Shared?", "TornOrNoise", "Hidden GenerationSame")
+        disk = self.written(1, 2)
+        disk.put(0, 7 * disk.page, b"stray")
+        self.image.write_bytes(disk.bytes)
+        nights = [self.night(*disk.geometry(), self.image)]
+        disk.put(0, 2 * disk.page, bytes(3 * disk.page))
+        self.image.write_bytes(disk.bytes)
+        self.raise_each_night([*nights, self.night(*disk.geometry(), self.image)], "Doubt!", "GenerationFell!")
+
+    def test_a_full_folder(self):
+        """The file of a sound night goes, so that an alert comes."""
+        self.night(SOUND)
+        status, _, error = self.nightly("sdb", self.folder, SOUND, preexec_fn=no_file_grows)
+        self.same("status and files", (status, list(self.folder.iterdir())), (2, []))
+        self.true("error stream", error.startswith(f"sdb: no answer: {self.folder}/shardscrub-sdb.prom can't be written: "), error)
 
 
 class Started(NightlyCase):
@@ -427,9 +463,10 @@ class Started(NightlyCase):
     def test_what_the_service_may_do(self):
         found = settings(UNITS[0])
         for key, value in (("ProtectSystem", "strict"), ("ReadOnlyPaths", "/dev"), ("ReadWritePaths", f"-{COLLECTED}"),
-                           ("DevicePolicy", "closed"), ("DeviceAllow", "block-* r"), ("PrivateNetwork", "yes"), ("NoNewPrivileges", "yes"),
-                           ("OOMScoreAdjust", "1000"), ("OOMPolicy", "continue")):
+                           ("DevicePolicy", "closed"), ("PrivateNetwork", "yes"), ("NoNewPrivileges", "yes"), ("OOMScoreAdjust", "1000"),
+                           ("OOMPolicy", "continue")):
             self.same(key, [one for name, one in found if name == key], [value])
+        self.same("devices", [one for name, one in found if name == "DeviceAllow"], ["block-* r", "/dev/loop-control rw"])
 
     def service(self, disk, text):
         """What the service of a disk does whose settings are this text: as systemd replaces variables, and splits those without braces."""
@@ -445,9 +482,9 @@ class Started(NightlyCase):
 
     def test_what_the_service_runs(self):
         """Without settings, with an image alone, and with those of READING and a name."""
-        self.same("no settings", self.service("none", "")[:2], (2, ""))
+        self.same("no settings", self.service("none", ""), (2, "", "none: no answer: image cannot be opened: /dev/none (0 s)\n"))
         self.same("numbers", self.samples("none")["exit_status"], "3")
-        self.same("an image", self.service("sda", f"IMAGE={SOUND}"), (0, "", ""))
+        self.same("an image", self.service("sda", f"IMAGE={SOUND}"), (0, SAID, ""))
         self.same("file", self.files()["shardscrub-sda.prom"], self.right_text("sda", SOUND))
         text = self.of_reading("IMAGE=")
         options = re.search(r"^OPTIONS=(.*)$", text, re.M)[1]
@@ -457,8 +494,9 @@ class Started(NightlyCase):
         for old, new in ((r"IMAGE=\S+", f"IMAGE={SOUND}"), (r"OPTIONS=.*", f"OPTIONS={' '.join(SIZES)}"), (r"LAST=\S+", f"LAST={last}")):
             text, count = re.subn(rf"^{old}$", new, text, flags=re.M)
             self.same(new, count, 1)
-        self.same("READING", self.service("sdb", text + "NAME=bay 7\n"), (0, "", ""))
-        self.same("file", self.files()["shardscrub-bay 7.prom"], self.right_text("bay 7", *SIZES, "--last", "2", SOUND))
+        said = "bay 7: doubt: generation 1 isn't the last one (0 s, 768 bytes)\n"
+        self.same("READING", self.service("sdb", text + "NAME=bay 7\n"), (0, "", said))
+        self.same("file", self.files()["shardscrub-bay 7.prom"], self.right_text("bay 7", SOUND, *SIZES, last="2"))
         self.same("verdict", self.samples("bay 7")["verdict"], "1")
 
     def test_the_settings(self):
@@ -467,10 +505,13 @@ class Started(NightlyCase):
         named = re.findall(r"^\| `(\w+)` \|", table, re.M)
         unit = (MONITORING / UNITS[0]).read_text(encoding="utf-8")
         known = re.findall(r"\b([A-Z]+)=", dict(settings(UNITS[0]))["Environment"])
-        self.same("settings", sorted(named), sorted([*known, "LAST", "LOCK"]))
+        self.same("settings", sorted(named), sorted([*known, "BYTES", "LAST", "LOCK"]))
         self.same("in the unit", [name for name in named if name not in unit], [])
-        for line in self.of_reading("IMAGE=").splitlines()[:2]:
+        lines = self.of_reading("IMAGE=").splitlines()[:3]
+        for line in lines:
             self.true(line, f"\n#   {line}\n" in unit)
+        numbers = [int(number) for number in re.findall(r"(?:=| )(\d+)", "\n".join(lines[1:]))]
+        self.same("bytes", numbers[0], numbers[1] * numbers[2] * numbers[3])
         wait = re.search(r"flock -w (\d+) -E (\d+) ", NIGHTLY.read_text(encoding="utf-8"))
         self.true("status and hours in READING", f"{wait[2]} if another scan took over {int(wait[1]) // 3600} hours" in READING)
 
@@ -489,14 +530,41 @@ class Started(NightlyCase):
         need("choom")
         lines = (MONITORING / "cron").read_text(encoding="utf-8").splitlines()
         path, line = [line for line in lines if not line.startswith("#")]
-        self.true("path", re.fullmatch(r"PATH=[\w/:]+", path), path)
+        self.true("path", re.fullmatch(r"PATH=[\w/:]+", path) and "/sbin" in path, path)
         *times, user, command = line.split(" ", 6)[:7]
         self.true("times and user", re.fullmatch(r"\d+ \d+ \* \* \* root", " ".join([*times, user])) and "%" not in command, line)
-        sizes, image = (re.search(rf"^{name}=(.*)$", self.of_reading("IMAGE="), re.M)[1] for name in ("OPTIONS", "IMAGE"))
-        self.true("sizes and image of READING", command.endswith(f" {sizes} {image}"), command)
+        sizes, image, size = (re.search(rf"^{name}=(.*)$", self.of_reading("IMAGE="), re.M)[1] for name in ("OPTIONS", "IMAGE", "BYTES"))
+        self.true("settings of READING", command.startswith(f"BYTES={size} ") and command.endswith(f" {sizes} {image} >/dev/null"), command)
         command = self.placed(command).replace(sizes, " ".join(SIZES)).replace(image, shlex.quote(str(SOUND)))
-        self.same(command, done("sh", "-c", command, env=self.environment), (0, "", ""))
-        self.same("files", self.files(), {"shardscrub-sdb.prom": self.right_text("sdb", *SIZES, SOUND)})
+        self.same("a sound disk", done("sh", "-c", command, env=self.environment), (0, "", ""))
+        self.same("files", self.files(), {"shardscrub-sdb.prom": self.right_text("sdb", SOUND, *SIZES)})
+        command = command.replace(str(SOUND), "/no")
+        self.same("what cron mails", done("sh", "-c", command, env=self.environment)[1:], ("", "sdb: no answer: image cannot be opened: /no (0 s)\n"))
+        self.same("numbers", self.samples("sdb")["answered"], "0")
+
+    def test_settings_of_many_disks(self):
+        """The loop of READING writes those of each disk whose records agree, and names the others."""
+        drives, folder = self.other / "by-id", self.other / "settings"
+        drives.mkdir()
+        folder.mkdir()
+        images = {"wwn-0x1": SOUND, "wwn-0x2": WRONG, "wwn-0x2-part1": SOUND, "wwn-0x3": TOP / "examples/no-superblock.img",
+                  "wwn-0x4": TOP / "examples/formatted-twice.img", "ata-1": SOUND, "wwn-0x5": SOUND}
+        for name, image in images.items():
+            shutil.copy(image, drives / name)
+        (folder / "wwn-0x5").write_text("of before\n", encoding="utf-8")
+        loop = re.search(r"^```sh\n(for image in .*?)^```$", READING, re.M | re.S)[1]
+        for old, new in (("/dev/disk/by-id", drives), ("/etc/shardscrub", folder), ("shardscrub sizes", f"{self.program} sizes")):
+            self.same(old, loop.count(old), 1)
+            loop = loop.replace(old, str(new))
+        status, out, _ = done("sh", "-c", loop)
+        self.same("by hand", (status, out), (0, "".join(f"by hand: {drives}/wwn-0x{number}\n" for number in (3, 4, 5))))
+        found = {path.name: path.read_text(encoding="utf-8") for path in folder.iterdir()}
+        one, two = ((f"IMAGE={drives}/wwn-0x{number}\nBYTES={page * pages * extents}\n"
+                     f"OPTIONS=--page {page} --pages {pages} --extents {extents}\n")
+                    for number, page, pages, extents in ((1, 64, 4, 3), (2, 64, 16, 5)))
+        self.same("settings", found, {"wwn-0x1": one, "wwn-0x2": two, "wwn-0x5": "of before\n"})
+        self.same("a scan by them", self.service("wwn-0x2", two)[::2],
+                  (0, "wwn-0x2: wrong: 1 of 3 shards broken, 1 torn item (0 s, 5120 bytes)\n"))
 
 
 def rules():
@@ -504,26 +572,89 @@ def rules():
     return re.findall(r"^ {6}- alert: (\w+)\n {8}expr: (.+)$", RULES.read_text(encoding="utf-8"), re.M)
 
 
-class Alerts(Case):
+# A superblock each day, and the numbers of a sound disk that aren't 0.
+GENERATIONS = "7+0x23 8+0x23 9+0x23 10"
+SOUND_NUMBERS = {"answered": "1", "last_given": "1", "image_bytes": "768", "page_bytes": "64", "extent_pages": "4", "extents": "3",
+                 "superblocks": "3"}
+DOUBT = "Disk sdb of node1:9100 may have lost a newer superblock."
+
+
+class Night(NamedTuple):
+    """What promtool is asked of a disk: the values of its numbers at each hour, sound ones where nothing is said, and the texts of all
+    alerts at some hours."""
+    changes: dict
+    alerts: dict
+    # The hours at which it has any numbers.
+    there: str = "{}+0x240"
+
+
+NIGHTS = {
+    "a sound disk": Night({}, {0: {}, 47: {}, 72: {}}),
+    "a wrong disk": Night(
+        {"verdict": "0+0x47 2+0x24", "shards_broken": "0+0x47 2+0x24", "runs_lost": "0+0x47 1+0x24", "unreadable_pages": "0+0x47 3+0x24",
+         "superblock_generation": "1000007+0x23 1000008+0x23 1000006+0x24"},
+        {47: {}, **dict.fromkeys((48, 71), {
+            "Broken": "Disk sdb of node1:9100 has 2 broken shards.", "RunsLost": "Disk sdb of node1:9100 has lost 1 index run.",
+            "Unreadable": "Disk sdb of node1:9100 has 3 unreadable pages.",
+            "GenerationFell": "Disk sdb of node1:9100 has fallen back to superblock generation 1000006."})}),
+    "one of each": Night(
+        dict.fromkeys(("shards_broken", "unreadable_pages", "locators_hidden", "superblock_tie", "torn_items", "shared_places"), "1+0x72")
+        | {"verdict": "2+0x72", "runs_lost": "2+0x72"},
+        {0: {"Broken": "Disk sdb of node1:9100 has 1 broken shard.", "RunsLost": "Disk sdb of node1:9100 has lost 2 index runs.",
+             "Unreadable": "Disk sdb of node1:9100 has 1 unreadable page.", "Hidden": "Disk sdb of node1:9100 has 1 hidden locator.",
+             "Tie": "Disk sdb of node1:9100 has several superblocks of the greatest generation."}}),
+    "torn, then shared, then what no number says": Night(
+        {"verdict": "2+0x72", "torn_items": "1+0x23 0+0x48", "noise_items": "1+0x23 0+0x48", "shared_places": "1+0x47 0+0x24"},
+        {0: {"TornOrNoise": "Disk sdb of node1:9100 has 2 torn or noise items."}, 24: {"Shared": "Disk sdb of node1:9100 has 1 shared chunk."},
+         48: {"Wrong": "Disk sdb of node1:9100 has findings."}}),
+    "a short image": Night(
+        {"verdict": "2+0x72", "image_bytes": "767+0x23 0+0x48", "unreadable_pages": "1+0x72", "superblocks": "3+0x23 0+0x48"},
+        {0: {"Short": "The image of disk sdb of node1:9100 is 1 byte short."},
+         24: {"Short": "The image of disk sdb of node1:9100 is 768 bytes short."}}),
+    "a stale disk, whose last verdict is doubt": Night(
+        {"verdict": "1+0x72", "superblock_generation": "7+0x72", "written": "0+0x72"},
+        {36: {"Doubt": DOUBT}, 37: {"Doubt": DOUBT, "Stale": "Disk sdb of node1:9100 was last scanned 1d 13h 0m 0s ago."},
+         48: {"Doubt": DOUBT, "Stale": "Disk sdb of node1:9100 was last scanned 2d 0h 0m 0s ago.",
+              "GenerationSame": "Disk sdb of node1:9100 has had superblock generation 7 for two days."}}),
+    "a stray page that stays, and then the newest superblock goes": Night(
+        {"superblocks_stray": "1+0x240", "verdict": "1+0x240", "superblock_generation": "7+0x23 6+0x215", "written": "0+3600x240"},
+        {23: {"Doubt": DOUBT}, 24: {"GenerationFell": "Disk sdb of node1:9100 has fallen back to superblock generation 6."},
+         200: {"Doubt": DOUBT, "GenerationSame": "Disk sdb of node1:9100 has had superblock generation 6 for two days."}}),
+    "no file from hour 24 on": Night(
+        {"superblock_generation": "7+0x23", "written": "0+0x23"},
+        {24: {}, **dict.fromkeys((26, 72), {"Missing": "Disk sdb of node1:9100 has no metrics any more."}), 240: {}}, "{}+0x23"),
+    "no answer, in the first night and in the third": Night(
+        {"answered": "0+0x23 1+0x23 0+0x23", "last_given": "0+0x23 1+0x23 0+0x23", "superblock_generation": "_x24 7+0x23 _x24"},
+        {**dict.fromkeys((0, 23, 48), {"NoAnswer": "The last scan of disk sdb of node1:9100 gave no answer."}), 24: {}, 47: {}},
+        "_x24 {}+0x23 _x24"),
+    "no superblock from hour 24 on": Night(
+        {"verdict": "0+0x23 2+0x48", "superblocks": "2+0x23 0+0x48", "superblock_generation": "7+0x23 0+0x48",
+         "superblocks_stray": "0+0x23 4+0x48", "noise_items": "0+0x23 7+0x48"},
+        {23: {}, **dict.fromkeys((24, 72), {"NoSuperblock": "Disk sdb of node1:9100 has no superblock of these sizes."})}),
+    "nobody says which superblock is the last one": Night(
+        {"last_given": "0+0x72"}, {72: {"NoLast": "Nobody says which superblock of disk sdb of node1:9100 is the last one."}}),
+}
+
+
+class Alerts(RoomCase):
     """The alerts of Prometheus."""
-    # What a text may have from an alert: the labels, and a value with its pattern.
-    LABELS = ("$labels.disk", "$labels.instance")
-    VALUES = {'printf "%.0f" $value': r"\d+", "$value | humanizeDuration": r"(?:\d+d )?\d+h \d+m \d+s"}
+    # What a text may have from an alert: the labels, a value, and an s unless that is 1.
+    PARTS = {"$labels.disk", "$labels.instance", 'printf "%.0f" $value', "$value | humanizeDuration", "if ne $value 1.0", "end"}
 
     def metrics_of(self, expr):
         """The metrics that an expression names."""
         return set(re.findall(r"\b(?:shardscrub|node)_\w+", expr))
 
+    def written(self):
+        """The names of the metrics that view/metrics writes."""
+        text, _ = summary(Image(SOUND.read_bytes(), 64, 4, 3, []))
+        printed = subprocess.run([METRICS, "sda", "0", "0", "0", "768"], input=text, capture_output=True, encoding="utf-8", check=True).stdout
+        return re.findall(r"^# TYPE (\w+) gauge$", printed, re.M)
+
     def test_each_metric_is_there(self):
         """view/metrics writes each one that an alert names, but for the time of the file."""
-        text, _ = summary(Image(SOUND.read_bytes(), 64, 4, 3, []))
-        printed = subprocess.run([METRICS, "sda", "0", "0"], input=text, capture_output=True, encoding="utf-8", check=True).stdout
-        written = set(re.findall(r"^# TYPE (\w+) gauge$", printed, re.M))
         names = {name for _, expr in rules() for name in self.metrics_of(expr)}
-        numbers = {f"shardscrub_{name}" for name in ("answered", "superblocks", "superblock_tie", "verdict", "shards_broken",
-                                                     "unreadable_pages", "runs_lost", "superblock_generation")}
-        self.same("metrics of the alerts", names, numbers | {"node_textfile_mtime_seconds"})
-        self.same("metrics that nobody writes", names - written, {"node_textfile_mtime_seconds"})
+        self.same("metrics that nobody writes", names - set(self.written()), {"node_textfile_mtime_seconds"})
 
     def test_expressions(self):
         """Each has its brackets and quotes in pairs, and no backslash, which PromQL would take as an escape."""
@@ -532,12 +663,14 @@ class Alerts(Case):
             rest = re.sub(r'"[^"\\]*"', "", expr)
             while (less := re.sub(r"\([^()]*\)|\[\d+[dhm]\]|\{[^(){}]*\}", "", rest)) != rest:
                 rest = less
-            self.true(name, re.fullmatch(r"[\w\s<>=*-]+", rest), rest)
+            self.true(name, re.fullmatch(r"[\w\s<>=*+-]+", rest), rest)
 
     def test_reading_has_each_alert(self):
-        table = READING[READING.index("| Alert `Shardscrub..` |"):].split("\n\n")[0]
-        named = [name for line in table.splitlines()[2:] for name in re.findall(r"`(\w+)`", line.split("|")[1])]
-        self.same("alerts", [f"Shardscrub{name}" for name in named], [name for name, _ in rules()])
+        """In the table of reasons, or in the one of the other alerts."""
+        reasons, others = (READING[READING.index(head):].split("\n\n")[0].splitlines()[2:]
+                           for head in ("| `view/why` says | Alert |", "| Alert `Shardscrub..` |"))
+        named = [line.split("|")[2] for line in reasons] + [line.split("|")[1] for line in others]
+        self.same("alerts", sorted(f"Shardscrub{name.strip(' `')}" for name in named), sorted(name for name, _ in rules()))
 
     def test_form(self):
         """The keys and values that Prometheus takes, and only parts that each alert has."""
@@ -545,54 +678,58 @@ class Alerts(Case):
         whole = yaml.safe_load(RULES.read_text(encoding="utf-8"))
         self.same("keys", (list(whole), [list(group) for group in whole["groups"]]), (["groups"], [["name", "rules"]]))
         for rule in whole["groups"][0]["rules"]:
-            name, text = rule["alert"], rule["annotations"]["summary"]
+            name = rule["alert"]
             self.same(f"{name}: keys", [key for key in rule if key != "for"], ["alert", "expr", "labels", "annotations"])
             self.true(f"{name}: for", re.fullmatch(r"\d+[mh]", rule.get("for", "0m")))
-            self.same(f"{name}: annotations", list(rule["annotations"]), ["summary"])
-            self.true(f"{name}: severity", rule["labels"] in ({"severity": "critical"}, {"severity": "warning"}))
-            self.same(f"{name}: parts", set(re.findall(r"\{\{ (.+?) \}\}", text)) - {*self.LABELS, *self.VALUES}, set())
-            self.same(f"{name}: braces", [text.count(brace) for brace in "{}"], [2 * len(re.findall(r"\{\{ .+? \}\}", text))] * 2)
+            self.same(f"{name}: annotations", list(rule["annotations"]), ["summary", "description"])
+            self.true(f"{name}: severity", rule["labels"] in [{"severity": one} for one in ("critical", "warning", "info")])
+            for text in rule["annotations"].values():
+                self.same(f"{name}: parts", set(re.findall(r"\{\{ (.+?) \}\}", text)) - self.PARTS, set())
+                self.same(f"{name}: braces", [text.count(brace * 2) for brace in "{}"], [len(re.findall(r"\{\{ .+? \}\}", text))] * 2)
+            self.true(f"{name}: description", re.fullmatch(r".+ \(/usr/share/doc/shardscrub/docs/[A-Z]+\.md#[a-z0-9-]+\)",
+                                                           rule["annotations"]["description"]), rule["annotations"]["description"])
         self.same("expressions", [(rule["alert"], rule["expr"]) for rule in whole["groups"][0]["rules"]], rules())
-
-    def test_cases(self):
-        """Each alert is expected in a case of tests/alerts.yml, with its text, and isn't expected in another."""
-        need_yaml()
-        alerts = {rule["alert"]: rule for rule in yaml.safe_load(RULES.read_text(encoding="utf-8"))["groups"][0]["rules"]}
-        whole = yaml.safe_load(CASES.read_text(encoding="utf-8"))
-        self.same("rules", [(CASES.parent / path).resolve() for path in whole["rule_files"]], [RULES])
-        expected, silent = set(), set()
-        for case in whole["tests"]:
-            metrics = {series["series"].split("{")[0] for series in case["input_series"]}
-            for one in case["alert_rule_test"]:
-                name, what = one["alertname"], f"{case['name']}, {one['alertname']} at {one['eval_time']}"
-                (expected if one["exp_alerts"] else silent).add(name)
-                self.true(f"{what}: metrics", self.metrics_of(alerts[name]["expr"]) <= metrics, metrics)
-                for alert in one["exp_alerts"]:
-                    self.check_expected(what, alerts[name], alert["exp_labels"], alert["exp_annotations"])
-        self.same("alerts that are expected, and that aren't", (expected, silent), (set(alerts), set(alerts)))
-        kinds = [case["name"].split(",")[0] for case in whole["tests"]]
-        self.same("cases", kinds, ["a sound disk", "a wrong disk", "a stale disk", "a missing disk", "a disk without an answer",
-                                       "a disk without a superblock", "a tie"])
-
-    def check_expected(self, what, rule, labels, annotations):
-        file = ["file"] * (rule["alert"] == "ShardscrubStale")
-        self.same(f"{what}: labels", sorted(labels), ["disk", *file, "instance", "job", "severity"])
-        self.same(f"{what}: severity", labels["severity"], rule["labels"]["severity"])
-        text = re.escape(rule["annotations"]["summary"])
-        patterns = {label: re.escape(labels[label.removeprefix("$labels.")]) for label in self.LABELS} | self.VALUES
-        for part, pattern in patterns.items():
-            text = text.replace(re.escape("{{ " + part + " }}"), pattern)
-        self.true(f"{what}: text", re.fullmatch(text, annotations["summary"]), annotations["summary"])
 
     def test_promtool_takes_the_rules(self):
         need("promtool")
         status, out, error = done("promtool", "check", "rules", RULES)
         self.true("rules", status == 0, out + error)
 
-    def test_promtool_expects_the_alerts(self):
+    def series(self, night):
+        """The numbers of a disk at each hour."""
+        for metric in self.written():
+            name = metric.removeprefix("shardscrub_")
+            sound = GENERATIONS if name == "superblock_generation" else night.there.format(SOUND_NUMBERS.get(name, "0"))
+            values = night.changes.get(name, sound)
+            yield {"series": f'{metric}{{disk="sdb", instance="node1:9100", job="node"}}', "values": values}
+        file = f'node_textfile_mtime_seconds{{file="{COLLECTED}/shardscrub-sdb.prom", instance="node1:9100", job="node"}}'
+        yield {"series": file, "values": night.changes.get("written", "0+0x23 86400+0x23 172800+0x23 259200")}
+
+    def expected(self, name, text):
+        """An alert as promtool expects it, with the description of the rules."""
+        part = RULES.read_text(encoding="utf-8").partition(f"- alert: Shardscrub{name}\n")[2]
+        severity, description = re.search(r"severity: (\w+)", part)[1], re.search(r"description: '(.*)'\n", part)[1]
+        labels = {"disk": "sdb", "instance": "node1:9100", "job": "node", "severity": severity}
+        if name == "Stale":
+            labels["file"] = f"{COLLECTED}/shardscrub-sdb.prom"
+        description = description.replace("''", "'").replace("{{ $labels.disk }}", "sdb")
+        return {"exp_labels": labels, "exp_annotations": {"summary": text, "description": description}}
+
+    def test_alerts_of_nights(self):
+        """At each of these hours promtool expects these alerts with their texts, and no others. Each alert is expected once."""
         need("promtool")
-        status, out, error = done("promtool", "test", "rules", CASES)
+        tests, names = [], [name.removeprefix("Shardscrub") for name, _ in rules()]
+        for what, night in NIGHTS.items():
+            asked = [{"eval_time": f"{hour}h", "alertname": f"Shardscrub{name}",
+                      "exp_alerts": [self.expected(name, alerts[name])] if name in alerts else []}
+                     for hour, alerts in night.alerts.items() for name in names]
+            tests.append({"name": what, "interval": "1h", "input_series": list(self.series(night)), "alert_rule_test": asked})
+        cases = self.room / "cases.json"
+        cases.write_text(json.dumps({"rule_files": [str(RULES)], "evaluation_interval": "1h", "tests": tests}), encoding="utf-8")
+        status, out, error = done("promtool", "test", "rules", cases)
         self.true("cases", status == 0, out + error)
+        self.same("alerts that are expected", {name for night in NIGHTS.values() for alerts in night.alerts.values() for name in alerts},
+                  set(names))
 
 
 class Meanwhile(RoomCase):
@@ -654,8 +791,51 @@ class Meanwhile(RoomCase):
         self.same("verdict, damaged pages", (found["verdict"], found["superblocks_damaged"]), ("doubt", "1"))
 
 
-class LongDrive(RoomCase):
+class LongDrive(NightlyCase):
     """A drive that is longer than its disk, as a loop device."""
+
+    def loops(self, path):
+        """The loop devices over this file."""
+        return done("losetup", "--noheadings", "--output", "NAME", "--associated", path)[1].split()
+
+    def test_bytes(self):
+        """The drive is scanned up to there by a loop device, which goes also if all is killed. Nothing is made of an image that ends there."""
+        need("losetup")
+        path, raw = self.other / "drive", WRONG.read_bytes()
+        path.write_bytes(raw + bytes(512) + b"\xff" * 512)
+        said = "sda: wrong: 1 of 3 shards broken, 1 torn item (0 s, 5120 bytes)\n"
+        answer = self.nightly("sda", self.folder, path, BYTES="5120")
+        if "none can be made" in answer[2]:
+            self.skipTest(f"no loop device can be made: {answer[2]}")
+        self.same("answer", answer, (0, "", said))
+        self.same("file", self.files()["shardscrub-sda.prom"], self.right_text("sda", WRONG))
+        self.same("loop devices", self.loops(path), [])
+        self.same("without it", self.nightly("sda", self.folder, path), (2, "", "sda: no answer: image too long (0 s, 6144 bytes)\n"))
+        script = self.script(f"for image; do :; done; echo \"$image\" >{shlex.quote(str(self.other / 'begun'))}; exec sleep 60")
+        scan = subprocess.Popen([NIGHTLY, "sda", self.folder, path], env=self.environment | {"SHARDSCRUB": str(script), "BYTES": "5120"},
+                                start_new_session=True)
+        while not (self.other / "begun").exists() or not (begun := (self.other / "begun").read_text(encoding="utf-8")):
+            time.sleep(.01)
+        self.same("while it runs", self.loops(path), [begun.strip()])
+        os.killpg(scan.pid, signal.SIGKILL)
+        scan.wait()
+        for _ in range(100):
+            if self.loops(path):
+                time.sleep(.05)
+        self.same("after a kill", self.loops(path), [])
+        for size in (len(raw) + 1024, len(raw) + 512 * 99):
+            self.same(f"{size}: short", self.nightly("sda", self.folder, path, BYTES=str(size))[0], 2)
+        self.same("of the image's own length", self.nightly("sda", self.folder, WRONG, BYTES="5120", PATH=self.without("losetup")), (0, "", said))
+
+    def without(self, tool):
+        return f"{self.room}/bin:{path_without(tool, self.other)}"
+
+    def test_what_is_no_bytes(self):
+        for text in ("", "0", "512x", "-512", " 512", "513", "0512", "1" * 16):
+            error = f"sda: no answer: BYTES isn't a multiple of 512: {text}\n"
+            self.same(repr(text), self.nightly("sda", self.folder, SOUND, BYTES=text), (2, "", error))
+        answer = self.nightly("sda", self.folder, SOUND, BYTES="512", PATH=self.without("losetup"))
+        self.same("without losetup", answer, (2, "", "sda: no answer: BYTES needs a loop device, and none can be made\n"))
 
     def device(self, *words):
         """The block device that losetup makes with these words, or None, and its error stream."""

@@ -17,9 +17,6 @@ def candidates_with_tail: candidates(.);
 def garbage: .candidates[].extent as $extent | [.orphans[] | select(.extent == $extent)]
     | "extent \($extent): \(length) chunks, \(map(.length) | add // 0) bytes of payload";
 
-# Each locator that doesn't lead to its chunk, and why.
-def broken_because: .dangling[] | "\(.owner): \(.reason), \(place)";
-
 # The bytes on unreadable pages of each payload whose locator is `unreadable`. The payload begins so many bytes into its chunk:
 # 22 if the chunk is plain, 54 if it is sealed.
 def lost_bytes($head): .geometry.page as $page | .extents[] as $extent | .dangling[]
