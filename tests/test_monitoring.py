@@ -153,7 +153,8 @@ class Nightly(NightlyCase):
             path.write_text(text, encoding="utf-8")
             error = f"sda: no answer: LAST isn't a file with one number: {path}\n"
             self.unanswered(repr(text), self.nightly("sda", self.folder, SOUND, LAST=str(path)), re.escape(error), 2, 0)
-        for what in ("", self.room, self.room / "nothing"):
+        self.unanswered("empty", self.nightly("sda", self.folder, SOUND, LAST=""), "sda: no answer: LAST is empty\n", 2, 0)
+        for what in (self.room, self.room / "nothing"):
             answer = self.nightly("sda", self.folder, SOUND, LAST=str(what))
             self.unanswered(str(what), answer, f"sda: no answer: LAST isn't a file with one number: {what}\n", 2, 0)
         path.write_text("18446744073709551616\n", encoding="utf-8")
@@ -279,14 +280,16 @@ class Nightly(NightlyCase):
         self.same("behind the disk's end", out + error, "sda: no answer: image too long (0 s, 8704 bytes)\n")
 
     def test_control_characters(self):
-        """They come from no name, neither of a disk nor of a file, to the terminal."""
-        for name in ("\x1b[31m\x07", "\x9b31m", "\u202d\x00"[:1] + "\x7f\r"):
-            for words in ([SOUND], [f"/no/{name}"], ["--map", f"/no/{name}", SOUND]):
-                status, out, error = self.nightly(name, self.folder, *words)
-                self.same(f"{name!r}, {words}: status", status, 0 if words == [SOUND] else 2)
-                self.same(f"{name!r}, {words}", re.findall(r"[\x00-\x09\x0b-\x1f\x7f-\x9f]", out + error), [])
-            error = self.nightly(name, f"/no/{name}", SOUND)[2] + self.nightly("sda", self.folder, SOUND, LAST=f"/no/{name}")[2]
-            self.same(f"{name!r}", re.findall(r"[\x00-\x09\x0b-\x1f\x7f-\x9f]", error), [])
+        """None of a name, of a disk or of a file, comes to the terminal."""
+        for name in ("\x1b[31m\x07", "\x9b31m", "\x7f\r"):
+            runs = {"sound": (name, self.folder, SOUND), "no image": (name, self.folder, f"/no/{name}"), "no folder": (name, f"/no/{name}", SOUND),
+                    "no map": (name, self.folder, "--map", f"/no/{name}", SOUND), "a slash": (f"/{name}", self.folder, SOUND)}
+            for what, words in runs.items():
+                status, out, error = self.nightly(*words)
+                self.same(f"{what}, {name!r}: status", status, 0 if what == "sound" else 2)
+                self.same(f"{what}, {name!r}", re.findall(r"[\x00-\x09\x0b-\x1f\x7f-\x9f]", out + error), [])
+            error = self.nightly("sda", self.folder, SOUND, LAST=f"/no/{name}")[2]
+            self.same(f"LAST, {name!r}", re.findall(r"[\x00-\x09\x0b-\x1f\x7f-\x9f]", error), [])
 
     def test_usage(self):
         usage = "usage: view/monitoring/nightly DISK FOLDER WORD..\n"

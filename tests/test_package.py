@@ -119,7 +119,7 @@ def unpacked(name, data):
 def without_places(name, data, place=None):
     """The content of a file; of a document without its links, and without what says where things are. If `place` is None, it is a
     document of the sources, and else one that is installed below that folder."""
-    if name.endswith(("/cron", "@.service")):
+    if name.endswith(("/cron", ".rules.yml", "@.service")):
         return data.decode() if place is None else data.decode().replace("\\ ", " ").replace("%%20", " ").replace(place, "/usr/share")
     if not re.search(r"\.md$|\.1(\.gz)?$|\.tsv$", name):
         return data

@@ -32,6 +32,7 @@ def label(text):
 class Metrics(RoomCase):
     """The summary as metrics."""
     NOT_WHOLE = "view/metrics: the input is not a whole summary\n"
+    USAGE = "usage: view/metrics DISK [STATUS SECONDS [LAST_GIVEN IMAGE_BYTES]] <SUMMARY\n"
 
     @classmethod
     def setUpClass(cls):
@@ -108,9 +109,10 @@ class Metrics(RoomCase):
 
     def test_what_is_no_name(self):
         for words in ([], [""], ["a", "0"], ["a", "0", "0", "0"], ["", "0", "0"], ["a", "", "0"], ["a", "0", ""], ["a", "-1", "0"],
-                      ["a", "0", "x"]):
-            error = "usage: view/metrics DISK [STATUS SECONDS] <SUMMARY\n"
-            self.check_refused(str(words), self.metrics(text_of(self.summaries[0]), *words), error)
+                      ["a", "0", "x"], ["a", "0", "0", "1", ""], ["a", "0", "0", "", "-"], ["a", "0", "0", "1", "-1"], ["a"] * 6):
+            self.check_refused(str(words), self.metrics(text_of(self.summaries[0]), *words), self.USAGE)
+        for word in ("-h", "--help"):
+            self.same(word, self.metrics("", word), (0, self.USAGE, ""))
 
     def test_a_scan(self):
         """With its status and the time of the last answer, three gauges come first. Without an answer they come alone."""
@@ -129,6 +131,17 @@ class Metrics(RoomCase):
                 answer = self.metrics(text, name, status, "7")
                 scan = {"answered": "0", "exit_status": shown, "last_answer_seconds": "7"}
                 self.check_lines(f"{name!r}, {status}, no answer", answer, name, scan, 1, error)
+
+    def test_what_a_scan_was_given(self):
+        """Two more gauges, also without an answer. A length that isn't known has none."""
+        whole = text_of(self.summaries[0])
+        for length, more in (("-", {}), ("0", {"image_bytes": "0"}), (str(2**44), {"image_bytes": str(2**44)})):
+            for given in ("0", "1"):
+                for text, status, numbers in ((whole, 0, self.summaries[0]), ("", 1, {})):
+                    answer = self.metrics(text, "sda", "0" if text else "3", "7", given, length)
+                    at = answer[1].splitlines()[8].split()[-1]
+                    scan = {"answered": str(1 - status), "exit_status": "3" if status else "0", "last_answer_seconds": at, "last_given": given}
+                    self.check_lines(f"{length}, {given}, {status}", answer, "sda", scan | more | numbers, status)
 
     def test_promtool(self):
         """Prometheus reads them, and has nothing to say about the names."""

@@ -8,14 +8,13 @@ from typing import NamedTuple
 
 from lib.cases import Case
 from lib.disks import Disk, run, shard, uuid
-from lib.nights import RULES, WHY, NightlyCase, done
-from lib.program import METRICS_TOOLS, ROW_TOOLS, TOP, need, path_without
+from lib.nights import WHY, NightlyCase, done
+from lib.program import METRICS_TOOLS, ROW_TOOLS, TOP, need
 from reference.shardscrub import Image, summary
 
 REASONS = [line.split("\t") for line in (TOP / "view/reasons.tsv").read_text(encoding="utf-8").splitlines() if not line.startswith("#")]
 EXAMPLES = TOP / "examples"
 SMALL, MIDDLE = (64, 4, 3), (64, 8, 4)
-DOUBT = "If the node runs, it has everything in memory"
 
 
 def setUpModule():
@@ -171,7 +170,7 @@ DISKS = {
     "a wrong map": Row(of("failing", 512, 4, 4, options=("--map", str(EXAMPLES / "failing.img"))), "no answer: map refused: line 1", "map ", "NoAnswer!"),
     "a wrong option": Row(of("one-shard", *SMALL, options=("--workers", "65")),
                           "no answer: invalid value '65' for '--workers <COUNT>': 65 is not in 0..=64", "", "NoAnswer!"),
-    "LAST is empty": Row(of("one-shard", *SMALL), "no answer: LAST isn't a file with one number: ", "LAST ", "NoAnswer!", {"LAST": ""}),
+    "LAST is empty": Row(of("one-shard", *SMALL), "no answer: LAST is empty", "LAST ", "NoAnswer!", {"LAST": ""}),
     "BYTES isn't a number": Row(of("one-shard", *SMALL), "no answer: BYTES isn't a multiple of 512: 1G", "BYTES ", "NoAnswer!", {"BYTES": "1G"}),
     "killed": Row(of("one-shard", *SMALL), "no answer: killed by signal 9", "killed", "NoAnswer!", program="kill -9 $$"),
     "out of memory": Row(of("one-shard", *SMALL), "no answer: out of memory", "out of memory", "NoAnswer!",
