@@ -9,7 +9,6 @@ import shlex
 import shutil
 import signal
 import subprocess
-import tempfile
 import time
 import unittest
 from typing import NamedTuple
@@ -273,11 +272,6 @@ class Nightly(NightlyCase):
             for words in (["--map", path], [f"--map={path}"]):
                 _, out, error = self.nightly("sda", self.folder, *sizes, *words, image)
                 self.true(f"{words}, {writes}", (out + error).endswith(f"(0 s, 8192 bytes{wanted})\n"), out + error)
-        with open(path, "a", encoding="utf-8") as file:
-            file.write("0x00002000  0x00000200  ?\n")
-        image.write_bytes(raw + b"z" * 512)
-        _, out, error = self.nightly("sda", self.folder, *sizes, "--map", path, image)
-        self.same("behind the disk's end", out + error, "sda: no answer: image too long (0 s, 8704 bytes)\n")
 
     def test_control_characters(self):
         """None of a name, of a disk or of a file, comes to the terminal."""
@@ -826,6 +820,9 @@ class LongDrive(NightlyCase):
             if self.loops(path):
                 time.sleep(.05)
         self.same("after a kill", self.loops(path), [])
+        (self.other / "map").write_text("# a map\n0x0 + 1\n0x0000 0x1400 +\n0x1400 0x0400 ?\n", encoding="utf-8")
+        answer = self.nightly("sda", self.folder, "--map", self.other / "map", path, BYTES="5120")
+        self.same("what a map lacks behind the disk's end", answer, (0, "", said))
         for size in (len(raw) + 1024, len(raw) + 512 * 99):
             self.same(f"{size}: short", self.nightly("sda", self.folder, path, BYTES=str(size))[0], 2)
         self.same("of the image's own length", self.nightly("sda", self.folder, WRONG, BYTES="5120", PATH=self.without("losetup")), (0, "", said))
