@@ -111,7 +111,8 @@ class Nightly(NightlyCase):
                     "no program": ([SOUND], "exec /nothing/here", ".*not found", 127),
                     "no output": ([SOUND], "exit 0", "status 0, but no whole answer", 70),
                     "cut short": ([SOUND], f"{shlex.quote(self.program)} \"$@\" | head -n 9", "status 0, but no whole answer", 70),
-                    "a whole text with another status": ([SOUND], f"{shlex.quote(self.program)} \"$@\"; exit 4", "status 4, and no message", 4)}
+                    "a whole text with another status": ([SOUND], f"{shlex.quote(self.program)} \"$@\"; exit 4",
+                                                         "status 4, and no message", 4)}
             for what, (words, text, why, status) in runs.items():
                 answer = self.nightly("sda", self.folder, *words, SHARDSCRUB=str(self.script(text)), NOW="2000")
                 self.unanswered(f"{what}, {last_answer}", answer, rf"sda: no answer: {why} \(0 s(, \d+ bytes)?\)\n", status, last_answer)
@@ -264,7 +265,8 @@ class Nightly(NightlyCase):
         shutil.copy(TOP / "examples/rescued.map", path)
         raw = (TOP / "examples/rescued.img").read_bytes()
         sizes = ["--page", "512", "--pages", "4", "--extents", "4"]
-        for writes, wanted in (((), ""), (((1024, b"abc"), (0x1a00 + 511, b"x"), (512, b"y")), "; 4 bytes that the map lacks were written since")):
+        for writes, wanted in (((), ""), (((1024, b"abc"), (0x1a00 + 511, b"x"), (512, b"y")),
+                                          "; 4 bytes that the map lacks were written since")):
             text = bytearray(raw)
             for place, one in writes:
                 text[place:place + len(one)] = one
@@ -276,7 +278,8 @@ class Nightly(NightlyCase):
     def test_control_characters(self):
         """None of a name, of a disk or of a file, comes to the terminal."""
         for name in ("\x1b[31m\x07", "\x9b31m", "\x7f\r"):
-            runs = {"sound": (name, self.folder, SOUND), "no image": (name, self.folder, f"/no/{name}"), "no folder": (name, f"/no/{name}", SOUND),
+            runs = {"sound": (name, self.folder, SOUND), "no image": (name, self.folder, f"/no/{name}"), "no folder": (name, f"/no/{name}",
+                                                                                                                       SOUND),
                     "no map": (name, self.folder, "--map", f"/no/{name}", SOUND), "a slash": (f"/{name}", self.folder, SOUND)}
             for what, words in runs.items():
                 status, out, error = self.nightly(*words)
@@ -536,7 +539,8 @@ class Started(NightlyCase):
         self.same("a sound disk", done("sh", "-c", command, env=self.environment), (0, "", ""))
         self.same("files", self.files(), {"shardscrub-sdb.prom": self.right_text("sdb", SOUND, *SIZES)})
         command = command.replace(str(SOUND), "/no")
-        self.same("what cron mails", done("sh", "-c", command, env=self.environment)[1:], ("", "sdb: no answer: image cannot be opened: /no (0 s)\n"))
+        mail = done("sh", "-c", command, env=self.environment)[1:]
+        self.same("what cron mails", mail, ("", "sdb: no answer: image cannot be opened: /no (0 s)\n"))
         self.same("numbers", self.samples("sdb")["answered"], "0")
 
     def test_settings_of_many_disks(self):
@@ -602,7 +606,8 @@ NIGHTS = {
              "Tie": "Disk sdb of node1:9100 has several superblocks of the greatest generation."}}),
     "torn, then shared, then what no number says": Night(
         {"verdict": "2+0x72", "torn_items": "1+0x23 0+0x48", "noise_items": "1+0x23 0+0x48", "shared_places": "1+0x47 0+0x24"},
-        {0: {"TornOrNoise": "Disk sdb of node1:9100 has 2 torn or noise items."}, 24: {"Shared": "Disk sdb of node1:9100 has 1 shared chunk."},
+        {0: {"TornOrNoise": "Disk sdb of node1:9100 has 2 torn or noise items."},
+         24: {"Shared": "Disk sdb of node1:9100 has 1 shared chunk."},
          48: {"Wrong": "Disk sdb of node1:9100 has findings."}}),
     "a short image": Night(
         {"verdict": "2+0x72", "image_bytes": "767+0x23 0+0x48", "unreadable_pages": "1+0x72", "superblocks": "3+0x23 0+0x48"},
@@ -645,7 +650,8 @@ class Alerts(RoomCase):
     def written(self):
         """The names of the metrics that view/metrics writes."""
         text, _ = summary(Image(SOUND.read_bytes(), 64, 4, 3, []))
-        printed = subprocess.run([METRICS, "sda", "0", "0", "0", "768"], input=text, capture_output=True, encoding="utf-8", check=True).stdout
+        printed = subprocess.run([METRICS, "sda", "0", "0", "0", "768"], input=text, capture_output=True, encoding="utf-8",
+                                 check=True).stdout
         return re.findall(r"^# TYPE (\w+) gauge$", printed, re.M)
 
     def test_each_metric_is_there(self):
@@ -796,7 +802,8 @@ class LongDrive(NightlyCase):
         return done("losetup", "--noheadings", "--output", "NAME", "--associated", path)[1].split()
 
     def test_bytes(self):
-        """The drive is scanned up to there by a loop device, which goes also if all is killed. Nothing is made of an image that ends there."""
+        """The drive is scanned up to there by a loop device, which goes also if all is killed. None is made of an image that
+        ends there."""
         need("losetup")
         path, raw = self.other / "drive", WRONG.read_bytes()
         path.write_bytes(raw + bytes(512) + b"\xff" * 512)
@@ -825,7 +832,8 @@ class LongDrive(NightlyCase):
         self.same("what a map lacks behind the disk's end", answer, (0, "", said))
         for size in (len(raw) + 1024, len(raw) + 512 * 99):
             self.same(f"{size}: short", self.nightly("sda", self.folder, path, BYTES=str(size))[0], 2)
-        self.same("of the image's own length", self.nightly("sda", self.folder, WRONG, BYTES="5120", PATH=self.without("losetup")), (0, "", said))
+        self.same("of the image's own length", self.nightly("sda", self.folder, WRONG, BYTES="5120", PATH=self.without("losetup")), (0, "",
+                                                                                                                                     said))
 
     def without(self, tool):
         return f"{self.room}/bin:{path_without(tool, self.other)}"

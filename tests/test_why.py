@@ -1,5 +1,5 @@
-"""view/why: forty disks, sound, in doubt, wrong or without an answer in each way, with the line of each, what to do next, its alerts and its
-row; what the line says of numbers and of texts; and view/reasons.tsv, which all of this is made from.
+"""view/why: forty disks, sound, in doubt, wrong or without an answer in each way, with the line of each, what to do next, its alerts and
+its row; what the line says of numbers and of texts; and view/reasons.tsv, which all of this is made from.
 """
 import json
 import re
@@ -122,7 +122,8 @@ DISKS = {
     "a retired extent": Row(of("retired-extent", 64, 4, 4), "sound: 1 shard, generation 1", "sound"),
     "five shards": Row(made(five_shards), "sound: 5 shards, generation 812", "sound"),
 
-    "a flipped bit": Row(of("flipped-bit", *MIDDLE), "doubt: 1 damaged superblock, 2 stray pages of extent 0", "superblocks_damaged", "Doubt!"),
+    "a flipped bit": Row(of("flipped-bit", *MIDDLE), "doubt: 1 damaged superblock, 2 stray pages of extent 0", "superblocks_damaged",
+                         "Doubt!"),
     "damaged": Row(made(with_damage(2)), "doubt: 1 damaged superblock", "superblocks_damaged", "Doubt!"),
     "damaged twice": Row(made(with_damage(2, 3)), "doubt: 2 damaged superblocks", "superblocks_damaged", "Doubt!"),
     "stray": Row(made(with_stray), "doubt: 1 stray page of extent 0", "superblocks_stray", "Doubt!"),
@@ -133,17 +134,21 @@ DISKS = {
     "no superblock": Row(of("no-superblock", *SMALL), "wrong: no superblock, 1 damaged superblock", "superblocks", "NoSuperblock!"),
     "another file": Row(raw((b"text " * 154)[:768], SMALL), "wrong: no superblock", "superblocks", "NoSuperblock!"),
     "a tie": Row(of("tie", *SMALL), "wrong: a tie of superblocks", "superblock_tie", "Tie!"),
-    "a tie and a broken shard": Row(made(tie_and_broken), "wrong: a tie of superblocks, 1 of 5 shards broken", "superblock_tie", "Tie! Broken!"),
+    "a tie and a broken shard": Row(made(tie_and_broken), "wrong: a tie of superblocks, 1 of 5 shards broken", "superblock_tie",
+                                    "Tie! Broken!"),
     "a lost run": Row(of("lost-run", 64, 4, 4), "wrong: 1 of 2 index runs lost", "runs_lost", "RunsLost!"),
     "both runs lost": Row(made(spoiled_runs), "wrong: 2 of 2 index runs lost", "runs_lost", "RunsLost!"),
-    "a run lost by its page": Row(made(five_shards, "2:0", "1:7"), "wrong: 1 of 1 index run lost, 2 unreadable pages, 1 noise item", "runs_lost",
+    "a run lost by its page": Row(made(five_shards, "2:0", "1:7"), "wrong: 1 of 1 index run lost, 2 unreadable pages, 1 noise item",
+                                  "runs_lost",
                                   "RunsLost! Unreadable!"),
     "a broken shard": Row(of("several-findings", 64, 16, 5), "wrong: 1 of 3 shards broken, 1 torn item", "shards_broken", "Broken!"),
     "several findings": Row(of("several-findings", 64, 16, 5, "3:1"),
-                            "wrong: 2 of 3 shards broken, 1 unreadable page, 2 torn items, 1 noise item", "shards_broken", "Broken! Unreadable!"),
+                            "wrong: 2 of 3 shards broken, 1 unreadable page, 2 torn items, 1 noise item", "shards_broken",
+                            "Broken! Unreadable!"),
     "its only shard": Row(of("rotted", *MIDDLE), "wrong: 1 of 1 shard broken", "shards_broken", "Broken!"),
     "a copy past the pointer": Row(of("tail", 64, 8, 5), "wrong: 1 of 2 shards broken", "shards_broken", "Broken!"),
-    "three of five": Row(made(lambda disk: five_shards(disk, spoiled=(1, 3, 5))), "wrong: 3 of 5 shards broken", "shards_broken", "Broken!"),
+    "three of five": Row(made(lambda disk: five_shards(disk, spoiled=(1, 3, 5))), "wrong: 3 of 5 shards broken", "shards_broken",
+                         "Broken!"),
     "broken, and damaged": Row(made(lambda disk: (with_damage(2)(disk), disk.spoil(1, 22))),
                                "wrong: 1 of 5 shards broken, 1 damaged superblock", "shards_broken", "Broken! Doubt!"),
     "a page past the pointer": Row(made(five_shards, "1:7"), "wrong: 1 unreadable page", "unreadable_pages", "Unreadable!"),
@@ -157,25 +162,32 @@ DISKS = {
     "shared": Row(of("twins", *SMALL), "wrong: 1 shared chunk", "shared_places", "Shared?"),
     "shared, and torn": Row(made(torn_behind(shared)), "wrong: 1 torn item, 1 shared chunk", "torn_items", "TornOrNoise"),
     "cut short": Row(raw((EXAMPLES / "one-shard.img").read_bytes()[:-68], SMALL),
-                     "wrong: image is 68 bytes short, 1 of 1 index run lost, 2 unreadable pages, 1 torn item, 1 noise item", "short_bytes", "Short!"),
+                     "wrong: image is 68 bytes short, 1 of 1 index run lost, 2 unreadable pages, 1 torn item, 1 noise item", "short_bytes",
+                     "Short!"),
     "an empty file": Row(raw(b"", SMALL), "wrong: image is 768 bytes short, no superblock, 12 unreadable pages", "short_bytes", "Short!"),
 
-    "no image": Row(lambda folder: ("/no/image", SMALL, (), ()), "no answer: image cannot be opened: /no/image", "image cannot be opened", "NoAnswer!"),
+    "no image": Row(lambda folder: ("/no/image", SMALL, (), ()), "no answer: image cannot be opened: /no/image", "image cannot be opened",
+                    "NoAnswer!"),
     "a longer drive": Row(of("one-shard", 64, 4, 2), "no answer: image too long", "image too long", "NoAnswer!"),
-    "sizes of two formats": Row(of("formatted-twice", "", "", ""), "no answer: sizes not found: run shardscrub sizes", "sizes not", "NoAnswer!"),
+    "sizes of two formats": Row(of("formatted-twice", "", "", ""), "no answer: sizes not found: run shardscrub sizes", "sizes not",
+                                "NoAnswer!"),
     "a lost page without sizes": Row(
-        of("rescued", "", "", "", options=RESCUED), "no answer: sizes not certain: records were found, but bytes of the first 64 MiB can't be read; "
+        of("rescued", "", "", "",
+           options=RESCUED), "no answer: sizes not certain: records were found, but bytes of the first 64 MiB can't be read; "
         "give --page, --pages and --extents (shardscrub sizes lists them)", "sizes not", "NoAnswer!"),
     "wrong sizes": Row(of("one-shard", 65, 4, 3), "no answer: geometry refused: PageSize", "", "NoAnswer!"),
-    "a wrong map": Row(of("failing", 512, 4, 4, options=("--map", str(EXAMPLES / "failing.img"))), "no answer: map refused: line 1", "map ", "NoAnswer!"),
+    "a wrong map": Row(of("failing", 512, 4, 4, options=("--map", str(EXAMPLES / "failing.img"))), "no answer: map refused: line 1",
+                       "map ", "NoAnswer!"),
     "a wrong option": Row(of("one-shard", *SMALL, options=("--workers", "65")),
                           "no answer: invalid value '65' for '--workers <COUNT>': 65 is not in 0..=64", "", "NoAnswer!"),
     "LAST is empty": Row(of("one-shard", *SMALL), "no answer: LAST is empty", "LAST ", "NoAnswer!", {"LAST": ""}),
-    "BYTES isn't a number": Row(of("one-shard", *SMALL), "no answer: BYTES isn't a multiple of 512: 1G", "BYTES ", "NoAnswer!", {"BYTES": "1G"}),
+    "BYTES isn't a number": Row(of("one-shard", *SMALL), "no answer: BYTES isn't a multiple of 512: 1G", "BYTES ", "NoAnswer!",
+                                {"BYTES": "1G"}),
     "killed": Row(of("one-shard", *SMALL), "no answer: killed by signal 9", "killed", "NoAnswer!", program="kill -9 $$"),
     "out of memory": Row(of("one-shard", *SMALL), "no answer: out of memory", "out of memory", "NoAnswer!",
                          program="echo shardscrub: out of memory >&2; exit 4"),
-    "half an answer": Row(of("one-shard", *SMALL), "no answer: status 0, but no whole answer", "", "NoAnswer!", program="echo verdict sound"),
+    "half an answer": Row(of("one-shard", *SMALL), "no answer: status 0, but no whole answer", "", "NoAnswer!",
+                          program="echo verdict sound"),
 }
 
 
@@ -262,7 +274,8 @@ class Lines(Case):
         numbers = {"superblock_tie": 1, "runs": 7, "runs_lost": 2, "shards": 96, "shards_broken": 1, "unreadable_pages": 7168,
                    "superblocks_damaged": 1, "superblocks_stray": 2, "locators": 9, "locators_hidden": 3, "torn_items": 4, "noise_items": 1,
                    "shared_places": 2}
-        wanted = ("wrong: a tie of superblocks, 2 of 7 index runs lost, 1 of 96 shards broken, 7168 unreadable pages, 1 damaged superblock, "
+        wanted = ("wrong: a tie of superblocks, 2 of 7 index runs lost, 1 of 96 shards broken, 7168 unreadable pages, "
+                  "1 damaged superblock, "
                   "2 stray pages of extent 0, 3 of 9 locators hidden, 4 torn items, 1 noise item, 2 shared chunks\n")
         self.same("all", self.said("wrong", **numbers), wanted)
         self.same("none", self.said("wrong"), "wrong: other findings\n")
@@ -288,7 +301,8 @@ class Lines(Case):
 
     def test_priorities(self):
         """By the first reason, and none for a sound disk."""
-        for image, sizes, priority in (("one-shard", SMALL, ""), ("twins", SMALL, "<4>"), ("tie", SMALL, "<3>"), ("flipped-bit", MIDDLE, "<3>")):
+        for image, sizes, priority in (("one-shard", SMALL, ""), ("twins", SMALL, "<4>"), ("tie", SMALL, "<3>"), ("flipped-bit", MIDDLE,
+                                                                                                                  "<3>")):
             text = summary(Image((EXAMPLES / f"{image}.img").read_bytes(), *sizes))[0]
             self.same(image, why(text, "--journal", "sdb")[1], f"{priority}sdb: {why(text)[1]}")
         self.same("a fault", why("shardscrub: out of memory", "--journal")[1], "<3>no answer: out of memory\n")
@@ -298,7 +312,8 @@ class Lines(Case):
         clap = "error: the following required arguments were not provided:\n  --page <BYTES>\n  --pages <COUNT>\n\nUsage: x\n"
         texts = {"shardscrub: image too long\n": "image too long", "shardscrub: image too long": "image too long",
                  clap: "the following required arguments were not provided: --page <BYTES> --pages <COUNT>",
-                 "head: cannot open '/x'\nview/monitoring/nightly: LAST isn't a file with one number: /x\n": "LAST isn't a file with one number: /x",
+                 "head: cannot open '/x'\nview/monitoring/nightly: LAST isn't a file with one number: /x\n":
+                 "LAST isn't a file with one number: /x",
                  "one\ntwo\n\n": "two", "": "no message", "\n\n": "no message", "x" * 999: "x" * 300 + "..",
                  "shardscrub: image cannot be opened: a\tb c  d\n": "image cannot be opened: a?b c  d"}
         for text, said in texts.items():
@@ -306,7 +321,8 @@ class Lines(Case):
 
     def test_the_form_of_a_word(self):
         """What the program's text leaves open is said by what to do next."""
-        for text, part in (("shard refused: 1", "32 hexadecimal digits"), ("run refused: 2", "EXTENT:OFFSET"), ("run not found: 2:0", "EXTENT:OFFSET"),
+        for text, part in (("shard refused: 1", "32 hexadecimal digits"), ("run refused: 2", "EXTENT:OFFSET"), ("run not found: 2:0",
+                                                                                                                "EXTENT:OFFSET"),
                            ("map refused: line 1", "ddrescue")):
             line, step = why(f"shardscrub: {text}\n", "--next")[1].splitlines()
             self.same(text, line, f"no answer: {text}")
@@ -314,7 +330,8 @@ class Lines(Case):
 
     def test_control_characters(self):
         """None reaches a terminal, in any coding, and all other characters do."""
-        for text, said in (("a\x1b[31mb", "a?[31mb"), ("a\x9b31mb", "a??31mb"), ("\x00\x07\x7f", "???"), ("Größe 木 😀", "Größe 木 😀")):
+        for text, said in (("a\x1b[31mb", "a?[31mb"), ("a\x9b31mb", "a??31mb"),
+                           ("\x00\x07\x7f", "???"), ("Größe 木 😀", "Größe 木 😀")):
             self.same(repr(text), why(f"shardscrub: {text}", text.replace("\x00", "\x01"))[1], f"{said}: no answer: {said}\n")
         for text in (b"a\x9bb", b"a\xe0\x82\x9bb", b"a\xc2", b"\xff\xfe"):
             out = subprocess.run([WHY], input=text, capture_output=True, check=True).stdout
@@ -323,7 +340,8 @@ class Lines(Case):
     def test_a_summary_that_is_not_whole(self):
         """It is no answer, with status 1, wherever it is cut or changed."""
         lines = self.SOUND.splitlines(keepends=True)
-        texts = ["".join(lines[:number]) for number in range(1, len(lines))] + [self.SOUND.replace("runs 1", "runs one"), self.SOUND + "more 1\n",
+        texts = ["".join(lines[:number]) for number in range(1, len(lines))] + [self.SOUND.replace("runs 1", "runs one"),
+                                                                                self.SOUND + "more 1\n",
                  self.SOUND.replace("runs_lost 0\n", ""), self.SOUND + "x\n" * 300]
         for text in texts:
             self.same(text[-40:], why(text), (1, "no answer: the summary is not whole\n", ""))

@@ -1,6 +1,6 @@
 #!/usr/bin/env python3
-"""Makes from view/reasons.tsv, by which view/why speaks: the table of docs/READING.md that says what each reason means, the one of the other
-alerts, and the descriptions of the alerts in view/monitoring/shardscrub.rules.yml.
+"""Makes from view/reasons.tsv, by which view/why speaks: the table of docs/READING.md that says what each reason means, the one of the
+other alerts, and the descriptions of the alerts in view/monitoring/shardscrub.rules.yml.
 """
 import re
 import sys
