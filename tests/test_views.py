@@ -1,20 +1,26 @@
-"""Tries view/metrics and view/row, and compares what they give with what reference/shardscrub.py says of the same disks."""
+"""Tries view/metrics and view/row, and compares what they give with what reference/shardscrub.py says of the same disks. Of the keys of
+a row that change from scan to scan only Origins speaks."""
 import json
 import os
 import re
 import subprocess
 import time
 from collections import Counter
+from datetime import datetime, timezone
 
 from lib.cases import RoomCase
 from lib.disks import geometry
 from lib.examples import check_line, examples, listed, made_up, summary_of
 from lib.program import METRICS_TOOLS, ROW_TOOLS, TOP, need
 
-METRICS, ROW = TOP / "view/metrics", TOP / "view/row"
+METRICS, ROW, WHY = TOP / "view/metrics", TOP / "view/row", TOP / "view/why"
 VERDICTS = {"sound": "0", "doubt": "1", "wrong": "2"}
 # Names of disks that need care in a label, in JSON, or as an argument.
 NAMES = ("sda", "a disk", 'say "a"', "back\\slash", "two\nlines", "\\n", '\\"', "%s%d", "&", "{disk=", "-v", "Größe", "'", "\t", "\\")
+# The beginning of a row: the first three keys, and the others as one text.
+TEXT = r'"(?:[^"\\]|\\.)*"'
+HEAD = re.compile(rf'(\{{"disk":{TEXT},"status":\d+,"text":{TEXT}),("time":{TEXT},"seconds":[\d.]+,"version":(?:{TEXT}|null),"image":{TEXT},'
+                  rf'"host":{TEXT}(?:,"why":{TEXT})?)(?=[,}}])')
 # What the program's own line says if it doesn't find the sizes.
 NO_SIZES = "shardscrub: sizes not found: run shardscrub sizes"
 
@@ -161,11 +167,20 @@ class RowCase(RoomCase):
         super().setUpClass()
         cls.made_up, cls.known = list(made_up(cls.room)), {}
 
-    def row(self, command, line):
+    def whole_row(self, command, line):
         """The row of a disk of the list. It is made once."""
         if (command, line) not in self.known:
             self.known[command, line] = self.row_by(self.program, command, line)
         return self.known[command, line]
+
+    def row(self, command, line):
+        """Such a row without the keys that say of which scan it is."""
+        return self.without_origin(self.whole_row(command, line))
+
+    def without_origin(self, row):
+        found = HEAD.match(row)
+        self.true("the first keys", found, row)
+        return found[1] + row[found.end():] if found else row
 
     def row_by(self, program, command, line):
         """The row that this program leads to."""
@@ -174,8 +189,12 @@ class RowCase(RoomCase):
         self.same(f"{command} of {line}", (done.returncode, done.stdout.count("\n")), (0, 1))
         return done.stdout
 
-    def rows(self, command, lines):
-        return [self.row(command, line) for line in lines]
+    def small_program(self, text):
+        """A script in the place of the program."""
+        start = self.room / "program"
+        start.write_text(f"#!/bin/sh\n{text}\n", encoding="utf-8")
+        start.chmod(0o755)
+        return str(start)
 
 
 class Rows(RowCase):
@@ -214,10 +233,10 @@ class Rows(RowCase):
         return self.row_of_text(command, self.BEGINNINGS[command], end)
 
     def row_of_text(self, command, text, end=""):
-        start = self.room / "program"
-        start.write_text(f"#!/bin/sh\nprintf '%s' '{text}'\n{end}\n", encoding="utf-8")
-        start.chmod(0o755)
-        return self.row_by(str(start), command, "a disk\timage\t64\t4\t3\t-\t-")
+        return self.without_origin(self.whole_row_of(command, text, end))
+
+    def whole_row_of(self, command, text, end=""):
+        return self.row_by(self.small_program(f"printf '%s' '{text}'\n{end}"), command, "a disk\timage\t64\t4\t3\t-\t-")
 
     def test_each_disk_has_a_row_of_scan(self):
         self.check_rows("scan")
@@ -298,9 +317,9 @@ class Rows(RowCase):
             self.same(f"the first {end} bytes", row, {"disk": "a disk", "status": 70, "text": "view/row: status 0, but no whole answer"})
 
     def test_the_schema(self):
-        cut = [self.row_of(command, end) for command in self.BEGINNINGS for end in self.ENDS]
-        some = [*listed(), *examples(), *self.made_up]
-        for row in [*self.rows("summary", some), *self.rows("scan", listed()), *self.rows("reclaimable", listed()), *cut]:
+        cut = [self.whole_row_of(command, self.BEGINNINGS[command], end) for command in self.BEGINNINGS for end in self.ENDS]
+        lines = {"summary": [*listed(), *examples(), *self.made_up], "scan": listed(), "reclaimable": listed()}
+        for row in [*(self.whole_row(command, line) for command, some in lines.items() for line in some), *cut]:
             check_line(self, row[:60], row)
 
     def test_digits_are_kept(self):
@@ -311,3 +330,64 @@ class Rows(RowCase):
         """While another row is being printed."""
         done = subprocess.run(["flock", ROW, "timeout", "1", ROW, "scan", "a disk"], capture_output=True, stdin=subprocess.DEVNULL)
         self.same("status and output", (done.returncode, done.stdout), (124, b""))
+
+
+class Origins(RowCase):
+    """What a row says of its scan: when, how long, by which program, of which image and where; and the reason of its verdict."""
+
+    def origin(self, row):
+        return json.loads(f"{{{HEAD.match(row)[2]}}}")
+
+    def why(self, answer, *words):
+        return subprocess.run([WHY, *words], input=answer, capture_output=True, encoding="utf-8", check=True).stdout.rstrip("\n")
+
+    def test_each_row(self):
+        version = subprocess.run([self.program, "--version"], capture_output=True, encoding="utf-8", check=True).stdout.split()[1]
+        for line in listed():
+            for command in ("summary", "scan", "reclaimable"):
+                begun = int(time.time())
+                found = self.origin(self.whole_row(command, line))
+                at = datetime.strptime(found.pop("time"), "%Y-%m-%dT%H:%M:%SZ").replace(tzinfo=timezone.utc).timestamp()
+                self.true(f"{command} of {line}: time", begun <= at <= time.time(), at)
+                self.true(f"{command} of {line}: seconds", 0 <= found.pop("seconds") <= time.time() - begun)
+                found.pop("why", None)
+                self.same(f"{command} of {line}", found, {"version": version, "image": line.split("\t")[1], "host": os.uname().nodename})
+
+    def test_the_reason(self):
+        """A summary has the line of view/why, and so has what gave no answer."""
+        for line in listed():
+            name, wanted = line.split("\t")[0], None
+            if name not in ("missing", "failing"):
+                wanted = self.why(text_of(summary_of(line)))
+                self.same(f"{line}: the verdict", wanted.split(": ")[0], summary_of(line)["verdict"])
+            fault = json.loads(self.whole_row("scan", line))["text"]
+            for command in ("summary", "scan", "reclaimable"):
+                right = self.why(fault) if fault else wanted if command == "summary" else None
+                self.same(f"{command} of {line}", self.origin(self.whole_row(command, line)).get("why"), right)
+
+    def test_a_short_image(self):
+        """The reason says it first, as the timer does."""
+        image = self.room / "short.img"
+        image.write_bytes((TOP / "examples/one-shard.img").read_bytes()[:-64])
+        row = self.whole_row("summary", f"short\t{image}\t64\t4\t3\t-\t-")
+        self.same("the reason", self.origin(row)["why"], "wrong: image is 64 bytes short, 1 unreadable page")
+
+    def test_when_it_began_and_how_long_it_took(self):
+        program = self.small_program("sleep 1.2\nexit 3")
+        begun = time.time()
+        found = self.origin(self.row_by(program, "scan", "d\timage\t64\t4\t3\t-\t-"))
+        at = datetime.strptime(found["time"], "%Y-%m-%dT%H:%M:%SZ").replace(tzinfo=timezone.utc).timestamp()
+        self.true("when", int(begun) <= at < begun + 1.1, found)
+        self.true("seconds", 1.1 <= found["seconds"] <= time.time() - begun, found)
+
+    def test_a_program_that_says_no_version(self):
+        for text, why in (("exit 3", "no answer: no message"), ("kill -9 $$", "no answer: killed"), ("echo 'x' >&2; exit 70", "no answer: x")):
+            found = self.origin(self.row_by(self.small_program(text), "scan", "d\ta \"b\"\t64\t4\t3\t-\t-"))
+            self.same(text, (found["version"], found["image"], found["why"]), (None, 'a "b"', why))
+
+    def test_help(self):
+        """It is printed on the output; wrong words have the usage on the error stream."""
+        for words, status in ((["--help"], 0), (["-h"], 0), ([], 2), (["summary"], 2), (["sizes", "d"], 2)):
+            done = subprocess.run([ROW, *words], capture_output=True, encoding="utf-8", stdin=subprocess.DEVNULL)
+            shown, silent = (done.stdout, done.stderr) if status == 0 else (done.stderr, done.stdout)
+            self.same(str(words), (done.returncode, "usage: view/row summary|scan|reclaimable LINE\n" in shown, silent), (status, True, ""))
