@@ -141,6 +141,7 @@ DRAWN = f"""[...{DISKS}.values()].map((disk) => pictureOf(disk.answers)).map((pi
     pieces: picture.rows.map((row) => [...row.kind].map((kind, at) => [kind, row.start[at], row.stop[at]])),
     damage: picture.damage.filter(({{isDamage}}) => isDamage).map(({{title, entries}}) =>
         [title, entries.map(({{places}}) => places.map(({{extent, offset}}) => [extent, offset]))]),
+    counts: Object.fromEntries(picture.damage.map(({{title, count}}) => [title, count])), kinds: countedKinds(picture.rows).slice(1),
     others: picture.damage.filter(({{isDamage}}) => !isDamage).map(({{title, entries}}) => [title, entries.length]),
     classes: picture.rows.map(classOf), overview: overviewLegendOf(picture.rows.map(classOf)).map(({{is}}) => is),
     legend: legendOf(picture.rows).map(({{style, text}}) => [KINDS.indexOf(style), text]), labels: picture.rows.map(labelOf),
@@ -166,11 +167,16 @@ class Pictures(PageCase):
         self.same(f"{what}: the overview", [page.CLASSES[one] for one in drawn["classes"]], page.classes(report, outputs))
         all_pieces = [(kind, stop - start) for some in right for kind, start, stop in some]
         bytes_of = {name: [length for kind, length in all_pieces if kind == name] for name in page.KINDS[1:]}
-        self.same(f"{what}: the kinds in the legend", [(kind, text.split(": ")[-1]) for kind, text in drawn["legend"] if kind > 0],
-                  [(kind, f"{len(some)}, {page.short_size(sum(some))}") for kind, some in enumerate(bytes_of.values(), 1) if some])
+        noise = sum(words[0] == "noise" for _, words in page.items_of(report))
+        counts = [(noise if kind == "noise" else len(some), sum(some)) for kind, some in bytes_of.items()]
+        self.same(f"{what}: the kinds", [(one["count"], one["bytes"]) for one in drawn["kinds"]], counts)
+        self.same(f"{what}: the kinds in the legend", sorted((kind, text.split(": ")[-1].split(", ")[0]) for kind, text in drawn["legend"] if kind > 0),
+                  [(kind, str(count)) for kind, (count, _) in enumerate(counts, 1) if count])
         marks = self.marks(report, outputs)
-        self.same(f"{what}: the rest of the legend", [text for kind, text in drawn["legend"] if kind < 0],
-                  [f"{name}: {count}" for name, count in marks.items() if count])
+        self.same(f"{what}: the rest of the legend", sorted(text for kind, text in drawn["legend"] if kind < 0),
+                  sorted(f"{name}: {count}" for name, count in marks.items() if count))
+        is_damage = [kind >= page.KINDS.index("noise") or text.startswith(("place of", "hidden")) for kind, text in drawn["legend"]]
+        self.same(f"{what}: damage comes first in the legend", is_damage, sorted(is_damage, reverse=True))
         self.same(f"{what}: the legend of the overview", drawn["overview"],
                   sorted({page.CLASSES.index(one) for one in page.classes(report, outputs)}))
         lines = page.lines_of(outputs, "reclaimable")
@@ -232,6 +238,9 @@ class Pictures(PageCase):
             files = [one for name, disk in disks().items() for one in files_of(name, disk, some)]
             for (name, disk), drawn in zip(disks().items(), self.value(DRAWN, files=files), strict=True):
                 self.check_picture(f"{name} with {some}", drawn, disk.report, {output: disk.outputs[output] for output in some})
+                numbers = dict(line.split(" ") for line in disk.outputs["summary"].splitlines())
+                self.same(f"{name}: noise and torn items as summary counts them", [drawn["counts"].get(title, 0) for title in ("Noise", "Torn")],
+                          [int(numbers["noise_items"]), int(numbers["torn_items"])])
         reports = [(disk.report, disk.outputs) for disk in disks().values()]
         self.same("the kinds that occur", {kind for pair in reports for some in page.pieces(*pair) for kind, _, _ in some}, set(page.KINDS[1:]))
         self.same("the classes that occur", {one for pair in reports for one in page.classes(*pair)}, set(page.CLASSES))
@@ -301,11 +310,13 @@ class Layout(PageCase):
             self.same(f"{first}, {span} of {bytes_}", list(self.value(f"viewOf({bytes_}, {first}, {span})").values()), right)
 
     def test_overview(self):
-        """All cells fit, as large as they can be; each extent is in a cell, which shows the first class in it."""
+        """All cells fit, as large as they can be, and none is too small to be found; each extent is in a cell, which shows the first class
+        in it."""
         for count, width, height in ((1, 900, 300), (12, 900, 300), (4000, 900, 300), (65536, 900, 300), (65536, 300, 60)):
             grid, cells = self.value("""(() => { const grid = gridOf(count, width, height), classes = Array.from({length: count}, (_, at) => at * 7919 % 9);
                 return [grid, Array.from({length: grid.cells}, (_, at) => cellOf(grid, classes, at))]; })()""", count=count, width=width, height=height)
             lines = -(-grid["cells"] // grid["columns"])
+            self.same(f"{count}: it can be found", grid["cell"] >= 4, True)
             self.same(f"{count}: it fits", grid["columns"] * grid["cell"] <= width and lines * grid["cell"] <= height, True)
             larger = grid["cell"] + 1
             self.same(f"{count}: no larger one fits", grid["cell"] == 14 or (width // larger) * (height // larger) < count, True)
@@ -454,7 +465,7 @@ class Fleet(PageCase):
         for count in (40, 4000):
             names, rows = self.fleet(count)
             entries, texts, [worst, best], took = self.entries(rows, """(() => { const begun = seconds(), sorted = [false, true].map((isReversed) =>
-                sortedEntries(entries, 'standing', isReversed)); return [sorted[0], [countsText(entries), sorted[0].map(cellsOf)],
+                sortedEntries(entries, 'standing', isReversed)); return [sorted[0], [filtered(entries, '', new Set()).counts, sorted[0].map(cellsOf)],
                 sorted.map((some) => some.map(({name}) => name)), seconds() - begun]; })()""")
             order = ["no answer", "wrong", "not judged", "doubt", "sound"]
             digits = lambda name: int(name[2:])
@@ -465,9 +476,8 @@ class Fleet(PageCase):
                       [one["standing"] for one in entries][::-1])
             counted = {one: sum(entry["standing"] == one for entry in entries) for one in order}
             self.same(f"{count} disks: each verdict occurs", min(counted.values()) > 0, True)
-            self.same(f"{count} disks: the counts", texts[0],
-                      f"{count:,} disks: " + ", ".join(f"{number:,} {one}" for one, number in counted.items()))
-            self.same(f"{count} disks: ages", {cells[5] for cells in texts[1]}, {"2 h"})
+            self.same(f"{count} disks: the counts", texts[0], [0, *counted.values()])
+            self.same(f"{count} disks: ages", {cells[6] for cells in texts[1]}, {"2 h ago"})
             self.same(f"{count} disks: soon enough", took < 2, True)
 
     def test_the_order_of_READING(self):
@@ -494,7 +504,7 @@ class Fleet(PageCase):
             .replace('"unreadable_pages":0', f'"unreadable_pages":{unreadable}')
             .replace('"candidates":0,"candidate_bytes":0', f'"candidates":2,"candidate_bytes":{free + 1}'),
             json.dumps({"disk": name, "status": 0, "text": "", "lines": [["reclaim", "1", str(free)], ["reclaim", "2", "1"]]}) + "\n")]
-        rows.append('{"disk":"c","status":4,"text":""}\n')
+        rows.append('{"disk":"c","status":4,"text":"out of memory"}\n')
         wanted = {"name": ["a9", "a10", "b", "c"], "broken": ["a9", "a10", "b", "c"], "unreadable": ["a9", "b", "a10", "c"],
                   "gain": ["b", "a10", "a9", "c"]}
         found = self.entries(rows, columns=[[column, is_reversed] for column in wanted for is_reversed in (False, True)])
@@ -502,8 +512,9 @@ class Fleet(PageCase):
         found = self.entries(rows, columns=[["standing", False], ["standing", True]])
         self.same("by the verdict", found, [["c", "a9", "a10", "b"], ["a9", "a10", "b", "c"]])
         cells = self.entries(rows, "sortedEntries(entries, 'name', false).map(cellsOf)")
-        self.same("cells", cells, [["a9", "sound", "3", "7", "1 byte", "2 h"], ["a10", "sound", "1", "0", "6 bytes", "2 h"],
-                                   ["b", "sound", "0", "2", "10 bytes", "2 h"], ["c", "no answer", "–", "–", "–", "2 h"]])
+        self.same("cells", cells, [[name, *some, "2 h ago"] for name, *some in (
+            ("a9", "sound", "–", "3", "7", "1 byte"), ("a10", "sound", "–", "1", "0", "6 bytes"), ("b", "sound", "–", "0", "2", "10 bytes"),
+            ("c", "no answer", "status 4, out of memory", "–", "–", "–"))])
 
     def test_ages(self):
         ages = {0: "0 s", 119e3: "119 s", 120e3: "2 min", 7199e3: "119 min", 7200e3: "2 h", 172799e3: "47 h", 172800e3: "2 d", 864e8: "1,000 d"}
@@ -511,6 +522,68 @@ class Fleet(PageCase):
         files = [file("a.summary", SOUND.outputs["summary"], 5000), file("a.reclaimable", "", 3000), file("b.reclaimable", "")]
         found = self.value(f"[...{DISKS}.values()].map((disk) => entryOf(disk, 9000).age)", files=files)
         self.same("that of the oldest file, if it is known", found, [6000, None])
+        # A row says itself when its scan began: what was copied today can be of last week.
+        row = self.row_with("a", time="1970-01-01T00:00:02Z")
+        for what, rows, right in (("of a scan", [row], 7000), ("of a row of before, by its file", [rows_of("a", SOUND)["summary"]], 1000),
+                                  ("of the oldest scan", [row, rows_of("a", SOUND)["reclaimable"]], 7000),
+                                  ("without a time", [self.row_with("a", time="last week")], 1000)):
+            found = self.value(f"[...{DISKS}.values()].map((disk) => entryOf(disk, 9000).age)", files=[file("rows.jsonl", "".join(rows), 8000)])
+            self.same(f"that {what}", found, [right])
+        texts = self.value("answersOf(files).map(fileText)", files=[file("rows.jsonl", self.row_with("a", time="1970-01-01T00:00:02Z", image="/dev/a", host="b"))])
+        self.same("the scan", texts, ["summary: rows.jsonl, /dev/a on b, 1970-01-01T00:00:02Z"])
+
+    def row_with(self, name, **more):
+        """A row of a sound disk's summary with these keys, too."""
+        return json.dumps(json.loads(rows_of(name, SOUND)["summary"]) | more) + "\n"
+
+    def test_reasons(self):
+        """The column has the line of view/why without the verdict; without it, what the page can say."""
+        wrong = {"disk": "a", "status": 3, "text": "shardscrub: image too long"}
+        cases = {
+            "a reason": (self.row_with("a", why="sound: 1 shard, generation 1"), "1 shard, generation 1"),
+            "one of another verdict": (self.row_with("a", why="wrong: 1 torn item"), "wrong: 1 torn item"),
+            "no reason": (self.row_with("a"), ""), "no text": (self.row_with("a", why=["x"]), ""),
+            "a control character": (self.row_with("a", why="sound: \x1b[31m\u202ex"), "\\u001b[31m\\u202ex"),
+            "no answer": (json.dumps(wrong | {"why": "no answer: image too long"}) + "\n", "image too long"),
+            "no answer in a row of before": (json.dumps(wrong) + "\n", "status 3, shardscrub: image too long"),
+            "not judged": (json.dumps(wrong | {"lines": None, "why": "no answer: x"}) + "\n" + rows_of("a", SOUND)["scan"], "reclaimable gave no answer: status 3, shardscrub: image too long"),
+        }
+        found = self.value(f"cases.map((files) => [...{DISKS}.values()].map((disk) => entryOf(disk, 0).why))", cases=[[file("a.jsonl", text)] for text, _ in cases.values()])
+        for (what, (_, right)), some in zip(cases.items(), found, strict=True):
+            self.same(what, some, [right])
+        mixed = [self.row_with("a", why="sound: x"), json.dumps(json.loads(rows_of("a", LATER)["scan"]) | {"why": "wrong: x"}) + "\n"]
+        found, = self.value(f"[...{DISKS}.values()].map((disk) => entryOf(disk, 0).why)", files=[file("a.jsonl", "".join(mixed))])
+        self.same("of two scans the difference", found.startswith("clean: false in scan, verdict sound in summary; "), True)
+
+    def test_the_faults_come_first(self):
+        """Of an opened summary the verdict comes first, then each fault that isn't zero, in the order of view/why."""
+        names = self.value("FAULTS")
+        reasons = [line.split("\t")[1] for line in (TOP / "view/reasons.tsv").read_text(encoding="utf-8").splitlines() if line.startswith("number\t")]
+        self.same("the order of view/why", [name for name in names if name in reasons], reasons[1:])
+        occurring = set()
+        for name, disk in disks().items():
+            lines = disk.outputs["summary"].splitlines()
+            found = self.value("summaryOrder(lines)", lines=lines)
+            self.same(f"{name}: the same lines", sorted(found["lines"]), sorted(lines))
+            numbers = dict(line.split(" ") for line in lines)
+            right = [one for one in names if (numbers[one] == "0") == (one == "superblocks")]
+            occurring |= set(right)
+            self.same(f"{name}: the faults", [line.split(" ")[0] for line in found["lines"][:len(right) + 1]], ["verdict", *right])
+            self.same(f"{name}: their number", len(found["faults"]), len(right))
+            self.same(f"{name}: a sound disk has none", right == [] or numbers["verdict"] != "sound", True)
+        self.same("faults that occur", occurring, set(names))
+
+    def test_filters(self):
+        """The chosen verdicts and the letters of a name; the counts are those of the letters."""
+        _, rows = self.fleet(40)
+        call = "choices.map(([letters, some]) => ((found) => [found.counts, [...found.shown].map(({name}) => name)])(filtered(entries, letters, new Set(some))))"
+        entries = self.entries(rows, "entries")
+        choices = [["", []], [" D1 ", []], ["", ["wrong"]], ["", ["wrong", "no answer"]], ["d1", ["sound", "doubt"]], ["", [MIXED]]]
+        for (letters, some), (counts, names) in zip(choices, self.entries(rows, call, choices=choices), strict=True):
+            named = [one for one in entries if letters.strip().lower() in one["name"]]
+            self.same(f"{letters!r} and {some}", names, [one["name"] for one in named if not some or one["standing"] in some])
+            self.same(f"{letters!r} and {some}: the counts", counts,
+                      [sum(one["standing"] == standing for one in named) for standing in self.value("STANDINGS")])
 
     def test_disks_without_an_answer(self):
         """A disk without any answer, or without one of summary or scan, has none; a refused reclaimable alone isn't that."""
@@ -610,6 +683,16 @@ class Files(PageCase):
         found = self.value("answersOf(files)", files=[file("y.jsonl", written(SOUND.report) * 2)])
         self.same("lines without names", [one["disk"] for one in found], ["y, line 1", "y, line 2"])
 
+    def test_control_characters(self):
+        """Those of a file's name and of a row reach no text."""
+        name, right = "a\x1b[31m\nb\u202e\u0085", "a\\u001b[31m\\u000ab\\u202e\\u0085"
+        row = json.dumps({"disk": name, "status": 3, "text": f"1\n 2\x1b{name}", "image": name, "host": name}) + "\n"
+        found = self.value(f"[...{DISKS}.values()].map((disk) => [disk.name, ...disk.texts.map(fileText), ...reasonsOf(disk)])",
+                           files=[file(f"x/{name}.reclaimable", ""), file(f"{name}.jsonl", row)])
+        self.same("the texts", found, [[right, f"reclaimable: x/{right}.reclaimable", f"summary or scan: {right}.jsonl, {right} on {right}",
+                                        f"status 3, 1 2\\u001b{right}".replace("\\u000a", " ")]])
+        self.same("a fault", self.throws("answersOf(files)", files=[file(f"{name}.x", f"{name}\n")]).startswith(f"{right}.x: "), True)
+
     def test_parts_of_addresses(self):
         """A disk has an address, whatever its name is, and so has a place."""
         for name, place in (("sda", None), ("several findings", {"extent": 3, "offset": 9}), ("a&b#c/%é=1:2", {"extent": 0, "offset": 0}), ("1:2", None)):
@@ -630,10 +713,25 @@ class Files(PageCase):
 add_tests(Files, Files.check_refused, [(case[0], case) for case in HOSTILE])
 
 
+def rgb(colour):
+    return [int(colour[at:at + 2], 16) for at in (1, 3, 5)]
+
+
+def luminance(parts):
+    """The relative luminance of a colour by its red, green and blue, as WCAG 2 has it."""
+    linear = [part / 12.92 if part <= .04045 else ((part + .055) / 1.055) ** 2.4 for part in (part / 255 for part in parts)]
+    return sum(weight * part for weight, part in zip((.2126, .7152, .0722), linear))
+
+
+def contrast(one, other):
+    """The contrast of two colours by WCAG 2, from 1 to 21."""
+    low, high = sorted(map(luminance, (one, other)))
+    return (high + .05) / (low + .05)
+
+
 def lightness(colour):
     """The lightness L* of a colour, from 0 to 100."""
-    linear = [part / 12.92 if part <= .04045 else ((part + .055) / 1.055) ** 2.4 for part in (int(colour[at:at + 2], 16) / 255 for at in (1, 3, 5))]
-    return 116 * sum(weight * part for weight, part in zip((.2126, .7152, .0722), linear)) ** (1 / 3) - 16
+    return 116 * luminance(rgb(colour)) ** (1 / 3) - 16
 
 
 class Looks(PageCase):
@@ -659,21 +757,49 @@ class Looks(PageCase):
         light, dark = (set(re.findall(r"--[a-z-]+(?=:)", rule)) for rule in re.findall(r":root[^{]*\{([^}]*)\}", page))
         self.same("colours that dark lacks", light - dark, set())
 
-    def test_colours(self):
-        """Greys differ without colour, and nothing but a verdict is green."""
-        kinds, classes, others = self.value("[KINDS.filter(Boolean), CLASSES, [TAIL, UNSHOWN, ...Object.values(ROOMS), TWIN, HIDDEN, DANGLING]]")
+    def styles(self):
+        """The paper and the styles of the light page and of the dark one: kinds, classes and the other ones."""
+        found = self.value("[KINDS.filter(Boolean), CLASSES, [TAIL, UNSHOWN, ...Object.values(ROOMS), TWIN, HIDDEN, DANGLING]]")
         papers = re.findall(r"--paper: (#\w+)", text_of_page())
         self.same("papers", len(papers), 2)
-        groups = {"plain kinds": [one["fill"] for one in kinds if "hatch" not in one] + [others[2]["fill"]],
-                  "damage": [one["fill"] for one in kinds if "hatch" in one],
-                  "other hatched ones": [one["fill"] for one in others[:4] if "hatch" in one]}
-        groups |= {f"the overview on {paper}": [one["fill"] or paper for one in classes] for paper in papers}
-        for what, colours in groups.items():
-            greys = sorted(map(lightness, colours))
-            self.same(f"{what}: greys", [(low, high) for low, high in zip(greys, greys[1:]) if high - low < 5], [])
-        for colour in [one[key] for one in kinds + classes + others for key in ("fill", "hatch") if one.get(key)]:
-            red, green, blue = (int(colour[at:at + 2], 16) for at in (1, 3, 5))
-            self.same(f"{colour} is no green", green > red + 20 and green > blue + 20, False)
+        for paper, is_dark in zip(papers, (False, True)):
+            yield paper, *([one | one.get("dark", {}) if is_dark else one for one in some] for some in found)
+
+    def test_colours(self):
+        """Greys differ without colour, and nothing but a verdict is green."""
+        for paper, kinds, classes, others in self.styles():
+            groups = {"plain kinds": [one["fill"] for one in kinds if "hatch" not in one] + [others[2]["fill"]],
+                      "damage": [one["fill"] for one in kinds if "hatch" in one],
+                      "other hatched ones": [one["fill"] for one in others[:4] if "hatch" in one],
+                      "the overview": [one["fill"] or paper for one in classes]}
+            for what, colours in groups.items():
+                greys = sorted(map(lightness, colours))
+                self.same(f"{what} on {paper}: greys", [(low, high) for low, high in zip(greys, greys[1:]) if high - low < 5], [])
+            live = {one["name"]: lightness(one["fill"] or paper) for one in classes}
+            self.same(f"nothing live and up to half live on {paper}", abs(live["none live"] - live["half live"]) > 15, True)
+            for colour in [one[key] for one in kinds + classes + others for key in ("fill", "hatch") if one.get(key)]:
+                red, green, blue = (int(colour[at:at + 2], 16) for at in (1, 3, 5))
+                self.same(f"{colour} is no green", green > red + 20 and green > blue + 20, False)
+
+    def test_contrast(self):
+        """By WCAG, damage has at least 3 on either paper, as its ground and with its lines (a quarter of it); zeros have less than any."""
+        for paper, kinds, classes, others in self.styles():
+            damage = [one for one in kinds if "hatch" in one] + [classes[0], *others[-2:]]
+            self.same(f"damage on {paper}", len(damage), 8)
+            contrasts = {}
+            for one in damage:
+                whole, lines = rgb(one["fill"]), rgb(one.get("hatch", one["fill"]))
+                contrasts |= {one["name"]: contrast(whole, rgb(paper)),
+                              f"{one['name']}, hatched": contrast([.75 * a + .25 * b for a, b in zip(whole, lines)], rgb(paper))}
+            zeros = contrast(rgb(kinds[0]["fill"]), rgb(paper))
+            self.same(f"too little on {paper}", {name: value for name, value in contrasts.items() if value < 3}, {})
+            self.same(f"zeros on {paper}", zeros < min(contrasts.values()), True)
+
+    def test_sizes(self):
+        """A unit is chosen after rounding."""
+        sizes = {0: "0 bytes", 1: "1 byte", 1023: "1,023 bytes", 1024: "1.0 KiB", 1075: "1.0 KiB", 1076: "1.1 KiB", 1000000: "976.6 KiB",
+                 2 ** 20 - 52: "1023.9 KiB", 2 ** 20 - 51: "1.0 MiB", 2 ** 20: "1.0 MiB", 2 ** 30 - 1: "1.0 GiB", 2 ** 32: "4.0 GiB", 2 ** 42: "4096.0 GiB"}
+        self.same("texts", self.value("sizes.map(shortSize)", sizes=list(sizes)), list(sizes.values()))
 
 
 class InBrowser(Case):
@@ -757,12 +883,110 @@ class InBrowser(Case):
             self.browser.press("D", 68)
             self.browser.press("7", 55)
             self.same("a filter", self.cells(1), [name for name in names if "d7" in name])
-            self.same("its counts", self.browser.text("counts").split(":")[0], f"{sum('d7' in name for name in names)} of {count:,} disks")
+            self.same("its counts", self.browser.text("counts"), f"{sum('d7' in name for name in names)} of {count:,} disks:")
         self.same("the table's name", self.browser.value("document.querySelector('#fleet table').ariaLabel"), "Disks")
         self.browser.resize(420)
         heights = self.browser.value("[...document.querySelectorAll('#disks tr')].map((one) => one.offsetHeight)")
         self.browser.resize(1400)
         self.same("each row is one line in a narrow window, too", max(heights) < 40, True)
+
+    def pressed(self):
+        """The buttons of the verdicts that are shown: their texts, and whether they are pressed."""
+        return self.browser.value("[...document.querySelectorAll('#standings button:not([hidden])')]"
+                                  ".map((one) => [one.textContent, one.getAttribute('aria-pressed')])")
+
+    def test_verdicts_as_filters(self):
+        """The counts above the table are buttons. A pressed one shows its disks alone, several show theirs."""
+        _, rows = Fleet().fleet(40)
+        self.open("rows", {"jsonl": "".join(rows)})
+        right = {one: self.cells(2).count(one) for one in ("no answer", "wrong", "not judged", "doubt", "sound")}
+        texts = [f"{count} {one}" for one, count in right.items()]
+        self.same("the counts", self.pressed(), [[text, "false"] for text in texts])
+        self.browser.value("document.querySelectorAll('#standings button:not([hidden])')[1].focus()")
+        self.browser.press("Enter", 13)
+        self.same("one", (set(self.cells(2)), len(self.cells(2)), self.browser.text("counts")), ({"wrong"}, right["wrong"], f"{right['wrong']} of 40 disks:"))
+        self.same("it is pressed", self.pressed(), [[text, str(text.endswith("wrong")).lower()] for text in texts])
+        self.same("the focus is still there", self.focused(), texts[1])
+        self.browser.screenshot("verdicts-as-filters")
+        self.browser.value("document.querySelectorAll('#standings button:not([hidden])')[3].focus()")
+        self.browser.press(" ", 32)
+        self.same("two", set(self.cells(2)), {"wrong", "doubt"})
+        self.browser.value("document.getElementById('columns').querySelector('button').click()")
+        self.same("also after sorting", set(self.cells(2)), {"wrong", "doubt"})
+        self.browser.press(" ", 32)
+        self.same("one again", set(self.cells(2)), {"wrong"})
+
+    def test_an_opened_row(self):
+        """Its reason is beside the verdict, and its faults come before its sizes."""
+        row = rows_of("a", disks()["several findings"])["summary"].replace('"text": ""', '"text": "", "why": "wrong: 2 of 3 shards broken"')
+        self.open("rows", {"jsonl": row})
+        self.same("the reason", self.browser.text("reasons"), "2 of 3 shards broken")
+        lines = self.browser.text("numbers").split("\n")
+        self.same("the numbers", lines[:7], ["verdict wrong", "shards_broken 2", "locators_dangling 2", "unreadable_pages 1", "lost_items 1",
+                                             "torn_items 2", "noise_items 1"])
+        self.same("then the sizes", lines[7:10], ["page_bytes 64", "extent_pages 16", "extents 5"])
+        heights = self.browser.value("['damage', 'doubts', 'rooms'].map((id) => document.getElementById(id).parentNode.offsetHeight)")
+        self.same("a part without a list is one line", max(heights) < 30, True)
+
+    def test_a_missing_file(self):
+        """The others are opened; the page says which one isn't."""
+        self.browser.put("there.summary", SOUND.outputs["summary"])
+        for address in ("there.summary&none.json", "none.json&there.summary", "there.summary&//localhost:1/x.json"):
+            self.browser.open(f"{self.browser.site}/report.html?{address}")
+            self.same(address, (self.verdict()[0], self.browser.text("fault").count("can't be opened")), ("verdict sound", 1))
+        self.browser.put("wrong.txt", "hello\n")
+        self.browser.open(f"{self.browser.site}/report.html?wrong.txt&none.json")
+        fault = self.browser.text("fault")
+        self.same("one is missing and one is refused", ("none.json: 404" in fault, "wrong.txt: it is neither" in fault), (True, True))
+
+    def test_names_with_control_characters(self):
+        """They are escapes in the texts around the picture."""
+        path = self.browser.room / "a\x1b[31m\u202eb.json"
+        path.write_text(written(SOUND.report), encoding="utf-8")
+        self.browser.open(PAGE.as_uri())
+        self.browser.choose_files(path)
+        self.browser.state()
+        self.same("the name", self.browser.text("name"), "a\\u001b[31m\\u202eb")
+        self.same("no text has one", re.findall("[\x1b\u202e]", self.browser.value("document.title + document.body.textContent")), [])
+
+    def test_a_narrow_window(self):
+        """At 390 pixels the bars have the width, and the table says that it has more columns."""
+        self.open("one", self.files("several findings"))
+        width = lambda: self.browser.value("pointOf(3, 1024).x - pointOf(3, 0).x")
+        self.same("beside labels", width() > 600, True)
+        self.browser.resize(390)
+        self.browser.value("new Promise((done) => requestAnimationFrame(() => requestAnimationFrame(done)))")
+        self.same("below labels", width() > 320, True)
+        self.browser.screenshot("narrow")
+        self.browser.value("document.getElementById('bars').scrollIntoView()")
+        self.browser.point("mouseMoved", 3, 80)
+        self.same("under the pointer", self.browser.text("tip").split("\n")[0], "extent 3: lost 64 128")
+        self.open("rows", {"jsonl": "".join(Fleet().fleet(40)[1])})
+        hint = "document.getElementById('wider').checkVisibility()"
+        self.same("a hint", self.browser.value(hint), True)
+        self.browser.screenshot("narrow-fleet")
+        self.browser.resize(1400)
+        self.browser.value("new Promise((done) => requestAnimationFrame(() => requestAnimationFrame(done)))")
+        self.same("no hint in a wide one", self.browser.value(hint), False)
+
+    def test_damage_in_the_dark(self):
+        """The pixels of damage differ from the paper by a contrast of 3, those of zeros by less; light again on paper."""
+        self.open("one", self.files("several findings"))
+        places = {"lost": (3, 96), "noise": (3, 160), "torn": (3, 215), "zeros": (3, 260)}
+        for scheme, paper in (("light", "#ffffff"), ("dark", "#16191d")):
+            self.browser.call("Emulation.setEmulatedMedia", features=[{"name": "prefers-color-scheme", "value": scheme}])
+            self.browser.value("new Promise((done) => requestAnimationFrame(() => requestAnimationFrame(done)))")
+            found = {name: contrast(self.colour(*place), rgb(paper)) for name, place in places.items()}
+            self.same(f"damage on a {scheme} page", {name: value for name, value in found.items() if name != "zeros" and value < 3}, {})
+            self.same(f"zeros on a {scheme} page", found["zeros"] < min(value for name, value in found.items() if name != "zeros"), True)
+        self.browser.call("Emulation.setEmulatedMedia", features=[])
+
+    def colour(self, extent, byte):
+        """The average of the twelve pixels in a line around a byte of a bar: two tiles of a hatched piece."""
+        pixels = self.browser.value(f"(({{x, y}}, box) => [...document.getElementById('bars').getContext('2d')"
+                                    f".getImageData(x - box.left - 6, y - box.top, 12, 1).data])(pointOf({extent}, {byte}), "
+                                    "document.getElementById('bars').getBoundingClientRect())")
+        return [sum(pixels[part::4]) / 12 for part in range(3)]
 
     def test_two_scans(self):
         """Forty disks of which three have files of two scans, and six more with a difference each: they come first, without a colour, a
@@ -784,7 +1008,7 @@ class InBrowser(Case):
             self.browser.screenshot(f"two-scans-{turn}")
             self.same("they come first", sorted(self.cells(1)[:9]), wanted)
             self.same("their standing", self.cells(2)[:10].count(MIXED), 9)
-            self.same("their numbers", {text for column in (3, 4, 5) for text in self.cells(column)[:9]}, {"–"})
+            self.same("their numbers", {text for column in (4, 5, 6) for text in self.cells(column)[:9]}, {"–"})
             same = self.browser.value("[...document.querySelectorAll('#disks .verdict')].slice(0, 9).map((one) => one.className.trim() + "
                                       "(getComputedStyle(one).color === getComputedStyle(document.body).color))")
             self.same("no colour", set(same), {"verdicttrue"})
@@ -841,6 +1065,7 @@ class InBrowser(Case):
         pages = self.browser.printed()
         self.same("several pages", len(pages) > 2, True)
         self.same("the titles", [page.count("Unreadable") for page in pages], [1] * len(pages))
+        self.check_paper_of_many()
         self.open("one", disks()["several findings"].outputs)
         text = "".join(self.browser.printed())
         self.same("the summary", [text.count(f"{line.split()[0]} ") for line in disks()["several findings"].outputs["summary"].splitlines()[30:]], [1] * 7)
@@ -848,6 +1073,17 @@ class InBrowser(Case):
         self.open("many", {"reclaimable": "".join(f"doubt tail {extent} 1 1\n" for extent in range(1, 1502))})
         text = "".join(self.browser.printed())
         self.same("a very long list", [text.count(one) for one in ("doubt tail 1000 1 1", "doubt tail 1001 1 1", "501 more aren't printed.")], [1, 0, 1])
+
+    def check_paper_of_many(self):
+        """Of 1,200 disks the bad ones alone are printed, unless the sound ones were asked for."""
+        rows = [rows_of(f"disk-{number:04}-", LATER if number % 25 == 0 else SOUND)["summary"] for number in range(1200)]
+        self.open("rows", {"jsonl": "".join(rows)})
+        text = "".join(self.browser.printed())
+        self.same("the disks", sorted(re.findall(r"disk-(\d{4})-", text)), [f"{number:04}" for number in range(0, 1200, 25)])
+        self.same("what isn't printed", "1,152 sound disks aren't printed." in text, True)
+        self.browser.value("[...document.querySelectorAll('#standings button')].find((one) => one.textContent.endsWith('sound')).click()")
+        text = "".join(self.browser.printed())
+        self.same("the sound ones", (len(re.findall(r"disk-\d{4}-", text)), "aren't printed" in text), (1152, False))
 
     def test_keys_and_pointer(self):
         browser, here = self.browser, lambda: self.browser.text("here").split("\n")[0]

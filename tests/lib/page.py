@@ -199,15 +199,6 @@ def classes(report, outputs):
     return list(map(of, range(report["geometry"]["extents"])))
 
 
-def short_size(count):
-    """Bytes in the greatest unit that they fill, with one decimal."""
-    for unit, name in ((2 ** 30, "GiB"), (2 ** 20, "MiB"), (2 ** 10, "KiB")):
-        if count >= unit:
-            tenths = (20 * count + unit) // (2 * unit)
-            return f"{tenths // 10}.{tenths % 10} {name}"
-    return f"{count:,} byte" + "s" * (count != 1)
-
-
 # Disks to draw
 
 # The seeds of the made-up disks. On the last one a bad locator names the place of a live chunk.
@@ -433,7 +424,7 @@ WRONG_PAGES = {
     ),
     "Answers.test_rows": (
         ("words of a row are run together", '[words].flat().join(" ")', '[words].flat().join("")'),
-        ("a row is of the disk with its file's name", "disk = isRow ? row.disk : name;", "disk = name;"),
+        ("a row is of the disk with its file's name", "disk = isRow ? printable(row.disk) : name;", "disk = name;"),
     ),
     "Answers.test_great_numbers_keep_their_digits": (
         ("a great number of a row is rounded", "=== row[key] ? digits(key)", "=== row[key] ? String(row[key])"),
@@ -446,7 +437,7 @@ WRONG_PAGES = {
     "Fleet.test_forty_and_four_thousand_disks": (
         ("the best disk comes first", "STANDINGS.indexOf(one.standing) - STANDINGS.indexOf(other.standing)", "STANDINGS.indexOf(other.standing) - STANDINGS.indexOf(one.standing)"),
         ("a disk in doubt is worse than a wrong one", '"no answer", "wrong", "not judged", "doubt", "sound"]', '"no answer", "doubt", "not judged", "wrong", "sound"]'),
-        ("a disk without an answer is left out of the counts", "STANDINGS.filter(count)", "STANDINGS.slice(2).filter(count)"),
+        ("a disk without an answer is left out of the counts", "counts: STANDINGS.map(", "counts: STANDINGS.slice(2).map("),
     ),
     "Fleet.test_columns": (
         ("a second click changes nothing", "compare(other, one) : compare;", "compare(one, other) : compare;"),
@@ -457,8 +448,34 @@ WRONG_PAGES = {
     ),
     "Fleet.test_ages": (
         ("the age is that of the newest file", "Math.min(...times)", "Math.max(...times)"),
+        ("a file's time counts for a row", "({time, ...answer, file,", "({...answer, time, file,"),
         ("an age is rounded up", "grouped(Math.floor(seconds / unit))", "grouped(Math.ceil(seconds / unit))"),
     ),
+    "Fleet.test_reasons": (
+        ("of two scans one reason counts", 'return standing === MIXED || !said ? ""', 'return !said ? ""'),
+        ("another verdict is cut off", "said.startsWith(`${standing}: `) ? said", 'said.includes(": ") ? said'),
+    ),
+    "Fleet.test_the_faults_come_first": (
+        ("faults come last", "[verdict, ...faults, ...lines.filter((line) => !faults.includes(line))]", "[verdict, ...lines.filter((line) => !faults.includes(line)), ...faults]"),
+        ("no superblock is no fault", '(name === "superblocks") === line.endsWith(" 0")', '!line.endsWith(" 0")'),
+    ),
+    "Fleet.test_filters": (
+        ("a chosen verdict hides nothing", "chosen.size ? named.filter", "false ? named.filter"),
+        ("the counts are those of all disks", "named.filter((entry) => entry.standing", "entries.filter((entry) => entry.standing"),
+    ),
+    "Files.test_control_characters": (
+        ("a file's name is shown as it is", "const file = printable(name);", "const file = name;"),
+        ("a row's text is shown as it is", 'printable(String(row.text ?? "")', '((text) => text)(String(row.text ?? "")'),
+    ),
+    "Looks.test_sizes": (
+        ("sizes are off by ten", "(tenths(power) / 10)", "(tenths(power) / 100)"),
+        ("a unit is chosen before rounding", "tenths(one) >= 10240", "bytes >= 1024 ** (one + 1)"),
+    ),
+    "Looks.test_contrast": (
+        ("damage is dim in the dark", 'dark: {fill: "#e5484d", hatch: "#ffd7d2"}', "dark: {}"),
+        ("zeros are bright in the dark", 'dark: {fill: "#3a4149"}', "dark: {}"),
+    ),
+    "Looks.test_colours": (("nothing live and up to half live look alike", 'fill: "#3f80b8"', 'fill: "#5aa2d6"'),),
     "Fleet.test_disks_without_an_answer": (
         ("no answer is not judged", "return failures.some(({command}) => command === null) ||", "return false &&"),
         ("a refused reclaimable is no answer at all", "return failures.some(({command}) => command === null)", "return failures.length"),
@@ -504,7 +521,10 @@ WRONG_PAGES = {
     "Pictures.test_disks": (
         ("without a superblock chunks are live", "!hasSuperblock ? CHUNK :", "false ? CHUNK :"),
         ("a chunk with a changed payload is an orphan", "damaged.has(key) ? DAMAGED : ORPHAN", "ORPHAN"),
-        ("noise isn't joined", "last.stop === start) last.stop", "false) last.stop"),
+        ("noise isn't joined", "last.stop === start) Object.assign", "false) Object.assign"),
+        ("noise is counted as it is drawn", "counts[is].count += items[index];", "counts[is].count++;"),
+        ("a list counts joined noise once", "sumOf(entries, ({items = 1}) => items)", "entries.length"),
+        ("damage comes last in the legend", "...kinds.splice(NOISE - 1).reverse(), ", ""),
         ("an unreadable page over a pointer is left out", "past = bad.filter((number) => (number + 1) * page > pointer)", "past = bad.filter((number) => number * page > pointer)"),
         ("a stray page looks right", '=== "lost" ? LOST : RECORD', '=== "lost" ? LOST : OLDER'),
         ("an older superblock looks like that which counts", '(state === "older" ? OLDER : SUPERBLOCK)', "SUPERBLOCK"),
@@ -524,7 +544,6 @@ WRONG_PAGES = {
         ("lost chunks take space", '(status !== "sound" && status !== "hidden")', "false"),
         ("the smallest shard comes first", "other.bytes - one.bytes ||", "one.bytes - other.bytes ||"),
         ("the legend has kinds that aren't there", "entries.filter(({count}) => count)", "entries"),
-        ("sizes are off by ten", "bytes * 10 / unit) / 10", "bytes * 100 / unit) / 10"),
         ("the legend counts pieces as bytes", "counts[is].bytes += stop[index] - start[index];", "counts[is].bytes++;"),
     ),
     "Pictures.test_search": (
@@ -539,7 +558,8 @@ WRONG_PAGES = {
     ),
     "Layout.test_views": (("a view goes past the extent", "Math.min(bytes - shown, Math.max(0, from))", "Math.max(0, from)"),),
     "Layout.test_overview": (
-        ("cells are smaller than they could be", "for (let cell = 14; cell >= 2; cell--) {", "for (let cell = 13; cell >= 2; cell--) {"),
+        ("cells are smaller than they could be", "for (let cell = 14; cell >= 4; cell--) {", "for (let cell = 13; cell >= 4; cell--) {"),
+        ("cells are too small to be found", "for (let cell = 14; cell >= 4; cell--) {", "for (let cell = 14; cell >= 2; cell--) {"),
         ("a cell has the class of its best extent", "classes[other] < classes[extent]", "classes[other] > classes[extent]"),
     ),
     "Layout.test_keys_in_the_overview": (("a key leads to the other end of a line", "Math.abs(step) === columns ? index :", "false ? index :"),),
