@@ -7,6 +7,7 @@ it will take, and from time to time how long it still takes. Exit status: 0 if a
 wrong, 70 if there is no program of these sources.
 """
 import argparse
+import os
 import sys
 import tempfile
 import time
@@ -15,11 +16,13 @@ from functools import partial
 from pathlib import Path
 
 sys.path.insert(0, str(Path(__file__).resolve().parent.parent / "tests"))
+from lib.faults import Script
 from lib.laws import hold_compare_laws_on, hold_laws_on
 from lib.mistakes import MISTAKES
 from lib.node import Broken, Engine
 from lib.outcomes import DEAD_END, NEEDED, judge_mistake
 from lib.program import choose_program
+from lib.reclaims import walk_by_command
 from lib.trials import row, trials
 from lib.walk import walk_honestly
 
@@ -34,9 +37,7 @@ BETWEEN = 15
 
 def print_rows(engine, one, seed, found, tries):
     print(row(one.name, found), flush=True)
-    if any(box in (5, 6) for boxes, _ in found for box in boxes):
-        print(row("    without the comparison of act/put", trials(engine, one, seed, tries, ("comparison of put",))), flush=True)
-    if (rule := RULES.get(one.name)) not in (None, "comparison of put"):
+    if (rule := RULES.get(one.name)) is not None:
         print(row(f"    without {rule}", trials(engine, one, seed, tries, (rule,))), flush=True)
 
 
@@ -51,7 +52,8 @@ def checks(engine, given, seen):
     """Each check, with its seconds and as a function. A table comes first."""
     seeds = range(given.seed * 1_000_003, (given.seed + 1) * 1_000_003)
     laws = [(LAW, partial(hold, engine, seed, seen)) for hold in (hold_laws_on, hold_compare_laws_on) for seed in seeds[:given.laws]]
-    walks = [(WALK, partial(walk_honestly, engine, seed, seen)) for seed in seeds[:given.disks]]
+    command = partial(walk_by_command, Script(engine.program), engine, os.path.dirname(engine.name)) if engine.program else lambda *_: None
+    walks = [(WALK, partial(walk_honestly, engine, seed, seen, command)) for seed in seeds[:given.disks]]
     mistakes = [(given.tries * (MISTAKE + BESIDE * given.table), partial(check_mistake, engine, one, given))
                 for one in MISTAKES if given.tries]
     return mistakes + laws + walks if given.table else laws + walks + mistakes

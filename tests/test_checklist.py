@@ -1,4 +1,4 @@
-"""Walks the checklist of docs/RECLAIMING.md on made-up disks, by act/plan and act/put or by a node's own tools, and makes mistakes on the
+"""Walks a reclamation on made-up disks, by act/reclaim or by the boxes of docs/RECLAIMING.md and a node's own tools, and makes mistakes on the
 way, one at a time; or a copy rots meanwhile, a page or a superblock goes, a node writes, or the power fails. Leaves out boxes and rules,
 one at a time, and sees that they are needed. Also holds the laws of spares, copies, resets, manifests and shards on pairs of images.
 fuzz/checklist.py does so on others, and prints which box stops what."""
@@ -8,19 +8,22 @@ import signal
 import subprocess
 import sys
 from collections import Counter
+from functools import partial
 
 from lib.cases import Case, RoomCase, add_tests
+from lib.faults import Script
 from lib.laws import hold_laws_on
 from lib.mistakes import MISTAKES
 from lib.node import Engine
 from lib.outcomes import DEAD_END, HARMLESS, NEEDED, TOO_LATE, UNSEEN, judge_mistake, judge_without
 from lib.program import TOP
+from lib.reclaims import walk_by_command
 from lib.trials import trials
 from lib.walk import walk_honestly
 
 SEED, LAWS, WALKS, TRIES = 1, 200, 120, 2
-# Without some rules bytes are lost on few disks.
-WITHOUT = {"comparison of put": 12}
+# Without these rules bytes are lost on few disks.
+WITHOUT = {}
 # How long the first row of a table may take.
 SECONDS = 100
 BY_NAME = {one.name: one for one in MISTAKES}
@@ -46,8 +49,13 @@ class Walks(EngineCase):
     """Each extent that the checklist allows is reset. All that the disk held is still there, and the copies of lost payloads. On most of
     the disks a chunk that was moved has rotted, and some have crowded extents."""
 
+    @classmethod
+    def setUpClass(cls):
+        super().setUpClass()
+        cls.script = Script(cls.program)
+
     def check(self, turn):
-        walk_honestly(self.engine, seed_of(turn), Counter())
+        walk_honestly(self.engine, seed_of(turn), Counter(), partial(walk_by_command, self.script, self.engine, self.room))
 
 
 class Mistakes(EngineCase):

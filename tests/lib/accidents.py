@@ -1,10 +1,12 @@
 """What happens to a disk between two boxes of the checklist, or while something is written: chunks rot, pages can't be read any more, a
 superblock goes, a node writes, the power fails, an extent is erased. See lib/mistakes.py."""
+from lib.disks import HEAD, frame
+from lib.drives import DRIVES, worked
 from lib.mistakes import flipped, mistake
-from lib.node import Full, Node, named_locators, put_record, record_pages
+from lib.node import Full, Node, locator_of, named_locators, place_of, put_record, record_pages, run_of
 from lib.own_tools import FIELDS
 from lib.walk import Again, Stop, Walk
-from reference.shardscrub import choose
+from reference.shardscrub import choose, loose_of, scrub
 
 
 def erase(walk, value):
@@ -89,9 +91,8 @@ def fail(walk, value=()):
     raise Again
 
 
-BETWEEN = {"after box 3": "before box 4", "copying": "between box 4 and the copies", "after the copies": "after the copies",
-           "after box 5": "before box 6", "after box 6": "before box 7", "after box 7": "before box 8", "after box 8": "before box 9",
-           "after box 9": "before the erase"}
+BETWEEN = {"after box 1": "before box 4", "after box 4": "before the copies", "after the copies": "before the superblock",
+           "after the writes": "before box 7", "after box 7": "before box 8", "after box 8": "before box 9", "after box 9": "before the erase"}
 for point, when in BETWEEN.items():
     for what in ("chunk", "run", "superblock"):
         mistake(f"the node writes a {what} {when}", point)(node_writes(what))
@@ -105,7 +106,7 @@ for point in list(BETWEEN)[2:]:
     mistake(f"a chunk rots at its old place {BETWEEN[point]}", point, begins_again=True)(rot_source)
 
 
-@mistake("a superblock of the same generation without the reset is written over that of box 6", "after box 6")
+@mistake("a superblock of the same generation without the reset is written over it", "after the writes")
 def _(walk, value):
     chosen = choose(walk.drive.image())
     pointers = [v if e in walk.chosen else w for e, (v, w) in enumerate(zip(walk.first_fields["pointers"], chosen["pointers"]), 1)]
@@ -114,7 +115,7 @@ def _(walk, value):
     return ()
 
 
-@mistake("the superblock of before is written again after that of box 6", "after box 6")
+@mistake("the superblock of before is written again", "after the writes")
 def _(walk, value):
     fields = {**walk.first_fields, "generation": walk.generation + 2}
     text = walk.drive.record(*(fields[key] for key in FIELDS))
@@ -125,57 +126,131 @@ def _(walk, value):
     return ()
 
 
-@mistake("the first image is made anew after the copies", "after the copies")
+@mistake("the first image is made anew before the superblock", "after the copies")
 def _(walk, value):
     walk.first = walk.drive.copy()
     return ()
 
 
-@mistake("the first image is made anew after box 6", "after box 6")
+@mistake("the first image is made anew after the writes", "after the writes")
 def _(walk, value):
     walk.first = walk.drive.copy()
     return ()
 
 
-# What is written in part
+# The power fails while something is written
 
-def torn(walk, value):
-    """Only the first bytes of a copy, a run or a superblock are written."""
-    x, at, text = value
-    walk.drive.write(x, at, text[:walk.choice.randrange(1, len(text))])
+def power_fails(walk, value):
+    """Only some sectors are on the disk of what was written since the last flush. The copies and the run are flushed before the superblock."""
+    before, copied, after = value
+    old, new = walk.choice.choice([(before, copied), (copied, after)])
+    if "flush" in walk.without:
+        old, new = after[:walk.drive.size] + before[walk.drive.size:], after
+    for k in range(0, len(old), 64):
+        walk.drive.raw[k:k + 64] = walk.choice.choice([old, new])[k:k + 64]
+    walk.known, walk.begun = walk.generation, walk.generation + 1
     fail(walk)
 
 
-def torn_at_random(walk, value):
-    """Only some sectors of it are written."""
-    x, at, text = value
-    for k in range(0, len(text), 64):
-        if walk.choice.random() < .5:
-            walk.drive.write(x, at + k, text[k:k + 64])
+def superblock_torn(walk, value):
+    """Only the first bytes of the superblock are written."""
+    _, copied, after = value
+    at, count = walk.written
+    stop = at + walk.choice.randrange(1, min(count, 60))
+    walk.drive.raw[:] = after[:stop] + copied[stop:]
+    walk.known, walk.begun = walk.generation, walk.generation + 1
     fail(walk)
 
 
 def taken_as_written(walk, value):
-    """The generation of a superblock that was written in part is taken for the last one."""
-    x, at, text = value
-    walk.known = walk.begun
-    walk.drive.write(x, at, text[:walk.choice.randrange(1, 26)])
+    """Its first bytes are written, and its generation is taken for the last one."""
+    _, copied, after = value
+    stop = walk.written[0] + walk.choice.randrange(1, 26)
+    walk.drive.raw[:] = after[:stop] + copied[stop:]
+    walk.known = walk.generation + 1
     fail(walk)
 
 
 def written_unseen(walk, value):
     """The whole superblock is on the disk, and nobody knows."""
-    walk.drive.write(*value)
+    walk.known, walk.begun = walk.generation, walk.generation + 1
     fail(walk)
 
 
-mistake("the power fails while a copy or the run is written", "writing of box 5", begins_again=True)(torn)
-mistake("the power fails when a copy or the run has just been written", "writing of box 5", begins_again=True)(written_unseen)
-mistake("the power fails when the superblock has just been written", "writing of box 6", begins_again=True)(written_unseen)
-mistake("the power fails while the superblock is written", "writing of box 6", begins_again=True)(torn)
-mistake("the power fails, and some sectors of the superblock are written", "writing of box 6", begins_again=True)(torn_at_random)
-mistake("the power fails while the superblock is written, and its generation is given", "writing of box 6", begins_again=True)(
-    taken_as_written)
+mistake("the power fails, and some sectors are written", "power", begins_again=True)(power_fails)
+mistake("the power fails while the superblock is written", "power", drive="grown", begins_again=True)(superblock_torn)
+mistake("the power fails when the superblock has just been written", "power", begins_again=True)(written_unseen)
+mistake("the power fails while the superblock is written, and its generation is given", "power", begins_again=True)(taken_as_written)
+
+
+# Between two walks, and around them
+
+@mistake("a chunk rots, and the power fails", "after the copies", begins_again=True)
+def _(walk, value):
+    """What rots between two walks is broken in the new first image, too."""
+    moved = {part.place for part in walk.parts}
+    some = [c for owner, c, status in named_locators(walk.drive)
+            if isinstance(owner, bytes) and status == "sound" and c["length"] and place_of(c) not in moved]
+    if not some:
+        return None
+    e, o = place_of(c := walk.choice.choice(some))
+    walk.drive.write(e, o, flipped(walk, walk.drive.read(e, o, c["length"] + 38)))
+    fail(walk)
+
+
+def grown(choice):
+    """A drive on which the last superblock has a shard that the one before lacks."""
+    drive, node = worked(choice)
+    node.superblock()
+    node.bind(choice.randbytes(16), [node.append(choice.randbytes(30))])
+    node.flush()
+    if not node.superblock():
+        raise Full
+    return drive, node.generation
+
+
+@mistake("the newest superblock goes, and the node still runs", "before box 1", drive="grown", begins_again=True)
+def _(walk, value):
+    walk.still_runs = True
+    return lose_superblock(walk, value)
+
+
+def with_hidden_run(choice):
+    """A drive on which a node has written a run that lies in another chunk, so that a scan steps over it."""
+    drive, node = worked(choice)
+    node.bind(choice.randbytes(16), [node.append(choice.randbytes(30))])
+    payload, name = run_of(sorted(node.changed.items())), choice.randbytes(16)
+    around = node.append(frame(name, payload), form=frame)
+    node.runs.insert(0, locator_of(around["extent"], around["offset"] + HEAD, name, payload))
+    if not node.superblock():
+        raise Full
+    return drive, node.generation
+
+
+DRIVES.update({"grown": grown, "hidden run": with_hidden_run})
+
+
+@mistake("the node merges its runs, and one is hidden", "merge", drive="hidden run", begins_again=True)
+def _(walk, value):
+    return True
+
+
+@mistake("the node writes over a loose copy once it has the disk back", "given back", drive="moved")
+def _(walk, value):
+    """The shards that have only copies are written anew first."""
+    found = scrub(walk.drive.image())
+    some = [(e, item) for c in found.checked for e, item in loose_of(found, c) if c.shard is not None and found.pointers[e - 1] <= item.start]
+    walk.first = walk.drive.copy()
+    kept = walk.kept_for_node()
+    if not some or None in kept.values():
+        return None
+    if "giving back" not in walk.without:
+        walk.write_entries(kept)
+    pointers = choose(walk.drive.image())["pointers"]
+    for e, item in some:
+        if pointers[e - 1] <= item.start:
+            walk.drive.write(e, item.start, bytes(item.stop - item.start))
+    return ()
 
 
 # What was on the disk before

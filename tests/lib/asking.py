@@ -1,5 +1,5 @@
-"""The mistakes of a walk through the checklist in what is asked: of which image, with which generation, sizes, pages and extents; what is
-given to act/put; and answers that aren't asked for. See lib/mistakes.py."""
+"""The mistakes of a walk through the checklist in what is asked: of which image, with which generation, sizes, pages and extents; and answers
+that aren't asked for. See lib/mistakes.py."""
 from lib.mistakes import MISTAKES, Mistake, flipped, mistake, parsed
 from lib.node import Drive, frames_in, named_locators, place_of
 from reference.shardscrub import choose, loose_of, scrub
@@ -100,89 +100,6 @@ for number in (4, 7, 8, 9):
     mistake(f"box {number}: the newer image is given twice", point)(lambda walk, images: [images[1]] * 2)
 
 
-# What act/plan is given
-
-def other_words(**changes):
-    """The words of a plan with some of them changed, or None if one can't be."""
-    def make(walk, words):
-        new = {key: change(walk, words[key]) for key, change in changes.items()}
-        return None if None in new.values() or new == {key: words[key] for key in new} else {**words, **new}
-    return make
-
-
-def another_extent(walk, extents):
-    """Another listed extent, or one that isn't."""
-    return [e for e in walk.choice.sample([*walk.listed, *range(1, walk.drive.extents)], len(walk.listed)) if e not in extents][:1] or None
-
-
-def with_another(walk, extents):
-    return [*extents, *(another_extent(walk, extents) or [])]
-
-
-for number in (3, 5):
-    point = f"words of box {number}"
-    mistake(f"box {number}: the generation that is given is smaller", point)(other_words(last=other_generation([-1])))
-    mistake(f"box {number}: the generation that is given is greater", point)(other_words(last=other_generation([1, 9, 2 ** 32])))
-    mistake(f"box {number}: another extent is given", point)(other_words(resets=another_extent))
-    mistake(f"box {number}: one more extent is given", point)(other_words(resets=with_another))
-    mistake(f"box {number}: one of several extents is given", point)(
-        other_words(resets=lambda walk, extents: extents[:1] if len(extents) > 1 else None))
-    mistake(f"box {number}: a line that was accepted isn't given", point, drive="moved")(
-        other_words(accepted=lambda walk, lines: lines[1:] if lines else None))
-    mistake(f"box {number} has other sizes", f"image of box {number}")(lambda walk, drive: other_sizes(drive))
-    mistake(f"box {number} lacks the unreadable pages", f"image of box {number}")(lambda walk, drive: without_pages(drive))
-mistake("box 5 always has another extent", "words of box 5", often=True)(other_words(resets=another_extent))
-mistake("box 5: the plan is of the first image", "image of box 5", often=True)(lambda walk, drive: walk.first)
-
-
-# What act/put is given
-
-def other_put(change):
-    """The image, the disk and the lines, changed; None if they can't be."""
-    def make(walk, given):
-        changed = change(walk, *given)
-        return None if changed is None or changed == given else changed
-    return make
-
-
-def plan_of_another(walk):
-    """A plan for another extent, of the first image."""
-    for e in walk.listed:
-        if e not in walk.chosen:
-            lines, is_given = walk.engine.plan(walk.first, walk.generation, walk.accepted, [e])
-            if is_given:
-                return lines
-    return None
-
-
-def with_a_digit(walk, lines):
-    """The lines with another digit in a write."""
-    some = [k for k, line in enumerate(lines) if line.startswith("write ")]
-    if not some:
-        return None
-    *words, text = lines[some[0]].split()
-    at = walk.choice.randrange(len(text))
-    text = text[:at] + format(int(text[at], 16) ^ 1, "x") + text[at + 1:]
-    return [*lines[:some[0]], " ".join([*words, text]), *lines[some[0] + 1:]]
-
-
-mistake("box 6: an older image is given to act/put", "put of box 6")(
-    other_put(lambda walk, image, disk, lines: (walk.first, disk, lines) if walk.first.raw != image.raw else None))
-for number in (5, 6):
-    point = f"put of box {number}"
-    mistake(f"box {number}: act/put writes on another disk", point)(
-        other_put(lambda walk, image, disk, lines: (image, image.copy(walk.choice.randbytes(len(image.raw))), lines)))
-    mistake(f"box {number}: act/put writes on a clone of the disk", point)(
-        other_put(lambda walk, image, disk, lines: (image, disk.copy(), lines)))
-    mistake(f"box {number}: act/put gets the plan for another extent", point)(
-        other_put(lambda walk, image, disk, lines: (image, disk, other) if (other := plan_of_another(walk)) else None))
-    mistake(f"box {number}: act/put gets a plan with another digit", point)(
-        other_put(lambda walk, image, disk, lines: (image, disk, other) if (other := with_a_digit(walk, lines)) else None))
-mistake("box 5: act/put gets a plan that lacks a line", "put of box 5")(
-    other_put(lambda walk, image, disk, lines: (image, disk, lines[1:])))
-mistake("box 5: act/put is called twice", "after the copies")(lambda walk, value: walk.put_again() or ())
-
-
 # The extents of box 7
 
 def other_extents(walk, extents):
@@ -200,5 +117,5 @@ for what, make in (("no extent is given", lambda walk, extents: []),
 # What isn't asked
 
 for name, *without in (("box 4 isn't asked", "compare of box 4"), ("box 7 isn't asked", 7), ("box 8 isn't asked", 8),
-                       ("boxes 7 and 8 aren't asked", 7, 8), ("act/put compares nothing", "comparison of put")):
+                       ("boxes 7 and 8 aren't asked", 7, 8)):
     MISTAKES.append(Mistake(name, "never", None, without=without))

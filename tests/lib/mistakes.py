@@ -447,12 +447,11 @@ mistake("the superblock: another extent is reset, too", "superblock")(
                                               for e, w in enumerate(pointers, 1)]))
 mistake("box 7 is misread, and an older run was forgotten", "superblock", without=(7,), begins_again=True)(
     field("runs", lambda walk, runs: runs[:-1] if len(runs) > bool(walk.entries) else None))
-mistake("something else is written with the superblock", "after box 6")(
+mistake("something else is written with the superblock", "after the writes")(
     lambda walk, value: walk.drive.write(walk.choice.randrange(1, walk.drive.extents), walk.choice.randrange(walk.drive.size - 4), b"oops") or ())
 
 
 # Boxes left out
 
 mistake("the copies are left out, and named", "copies")(lambda walk, parts: [] if parts else None)
-mistake("the run is left out", "box 5")(lambda walk, entries: [] if entries else None)
-mistake("box 6 is left out", "box 6")(lambda walk, value: False)
+mistake("the run is left out", "entries of the run")(lambda walk, entries: [] if entries else None)

@@ -10,8 +10,8 @@ from lib.trials import row
 UNSEEN = {
     "the generation is taken from the disk, and the newest superblock is damaged",
     "a run was written after the last superblock, and the log isn't read to its end",
-    # The next image has it, in a tail that is accepted. The next plan may write over it, and no superblock names it.
-    *(f"the node writes a {what} after the copies" for what in ("chunk", "run")),
+    # The tools write over all of it, and no superblock names it.
+    *(f"the node writes a {what} before the copies" for what in ("chunk", "run")),
     # No image is made any more.
     *(f"{what} before the erase" for what in (
         "a copy rots", "the run rots", "the superblock that counts goes", "a page becomes unreadable", "the node writes a chunk",
@@ -24,8 +24,8 @@ TOO_LATE = {
     "a copy goes past the end of its extent", "a copy goes over a chunk in use", "a copy goes over a loose copy, in an extent without room",
     "a copy goes over what is left of a broken shard behind a pointer, in an extent without room",
     "the superblock: it is written into another extent", "something else is written with the superblock",
-    *(f"the extent is erased {when}" for when in ("before box 4", "between box 4 and the copies", "after the copies", "before box 6")),
-    *(f"the node writes a {what} after the copies" for what in ("chunk", "run")),
+    *(f"the extent is erased {when}" for when in ("before box 4", "before the copies", "before the superblock")),
+    *(f"the node writes a {what} {when}" for what in ("chunk", "run", "superblock") for when in ("before the copies", "before the superblock")),
 }
 # What may pass. Nothing is lost by that alone.
 HARMLESS = {
@@ -36,45 +36,45 @@ HARMLESS = {
         "what is left of an overwritten one isn't zeroed")),
     "box 7 is misread, and an older run was forgotten",
     # Where the images are the same, or the bytes on the unreadable pages don't matter.
-    *(f"box {number} lacks the unreadable pages" for number in (1, 3, 4, 5, 7, 8, 9)),
+    *(f"box {number} lacks the unreadable pages" for number in (1, 4, 7, 8, 9)),
     *(f"box {number}: {what}" for number in (4, 9) for what in (
         "the images are exchanged", "the older image is given twice", "the newer image is given twice")),
-    "box 5: the plan is of the first image", "the first image is made anew after the copies",
-    # The next plan is a right one again.
-    "a copy rots after the copies", "the run rots after the copies",
-    *(f"box {number}: {what}" for number in (3, 5) for what in (
-        "another extent is given", "one more extent is given", "one of several extents is given")),
-    *(f"box 5: act/put {what}" for what in (
-        "writes on a clone of the disk", "gets the plan for another extent", "gets a plan with another digit", "gets a plan that lacks a line",
-        "is called twice")),
+    "the first image is made anew before the superblock",
+    # The tools know what it had, and write the next one.
+    *(f"the superblock that counts goes {when}" for when in ("before the copies", "before the superblock")),
     # Nothing that is named is in the one more.
     "box 7: one more extent is given",
     # The extent had only zeros, or is reset already; or what nothing names is erased.
     *(f"the extent is erased {when}" for when in accidents.BETWEEN.values()), "another extent is erased",
     # The walk begins again.
     *(f"the power fails {when}" for when in accidents.BETWEEN.values()),
-    *(f"the power fails {when}" for when in (
-        "while a copy or the run is written", "when a copy or the run has just been written", "while the superblock is written",
-        "when the superblock has just been written")),
-    "the power fails, and some sectors of the superblock are written",
+    "the power fails, and some sectors are written", "the power fails while the superblock is written",
+    "the power fails when the superblock has just been written",
+    # The node writes what it has in memory, or the shards that it is told.
+    "the newest superblock goes, and the node still runs", "the node writes over a loose copy once it has the disk back",
     "a superblock of an older format has a greater generation", "the generation is one of the greatest",
     "a chunk that was moved has rotted",
     # Its copy is named by then.
     "a chunk rots at its old place before the erase",
     # Nothing is wrong that they could stop.
-    "box 4 isn't asked", "box 7 isn't asked", "box 8 isn't asked", "boxes 7 and 8 aren't asked", "act/put compares nothing",
+    "box 4 isn't asked", "box 7 isn't asked", "box 8 isn't asked", "boxes 7 and 8 aren't asked",
 }
 
 
 # Boxes and rules without which bytes are lost and no box stops it, and what shows it.
 NEEDED = {
     **{f"a page becomes unreadable {when}": "restore" for when in accidents.BETWEEN.values() if when != "before the erase"},
-    "the node writes a chunk between box 4 and the copies": "comparison of put",
     "another extent is erased": 9, "the extents of three reclamations are erased at the end": 9,
     "the node is back before the extent is erased": 9,
     "a superblock of an older format has a greater generation": "older format",
     "box 7 is misread, and an older run was forgotten": "way back",
     "a chunk that was moved has rotted": "loose copies",
+    "the power fails, and some sectors are written": "flush",
+    "the power fails while the superblock is written": "beside the one that counts",
+    "a chunk rots, and the power fails": "images of before",
+    "the newest superblock goes, and the node still runs": "in memory",
+    "the node merges its runs, and one is hidden": "hidden runs",
+    "the node writes over a loose copy once it has the disk back": "giving back",
 }
 # A rule without which the walk can't begin again.
 DEAD_END = "the superblock that counts goes before box 7", "way back"

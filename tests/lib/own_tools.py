@@ -1,4 +1,4 @@
-"""The writes of a reset by a node's own tools, in place of act/plan and act/put: each copy in any room that has space, runs and copies of
+"""The writes of a reset by a node's own tools, in place of act/reclaim: each copy in any room that has space, runs and copies of
 either form, runs merged two by two, the superblock on any page. Boxes 7 to 9 of the checklist look at what is on the disk, whatever wrote
 it. A part of a walk; see lib/walk.py."""
 from lib.disks import frame, sealed_frame
@@ -7,10 +7,6 @@ from reference.shardscrub import choose, scrub
 
 FIELDS = ("generation", "pointers", "retired", "runs")
 GREATEST = 2 ** 64 - 1
-# The points of a walk at which only these tools can do something wrong.
-POINTS = {"copies", "source", "target", "copy", "place", "box 5", "entries", "run", "target of the run", "frame of the run", "superblock",
-          "record", "page", "zeros"}
-
 
 class Part:
     """A chunk to copy: the place that a listing gives, its bytes, and the place of the copy. A run has no place before. `word` is the kind of
@@ -80,10 +76,14 @@ class OwnTools:
         """Writes all."""
         if self.generation == GREATEST:
             raise Full
+        states = [bytes(self.drive.raw)]
         if self.parts:
             self.copy_by_tools()
             self.write_runs()
+        self.slip("after the copies", ())
+        states.append(bytes(self.drive.raw))
         self.write_superblock()
+        self.slip("power", [*states, bytes(self.drive.raw)])
 
     def write_piece(self, target, text):
         self.drive.write(*self.slip("place", target), text)
@@ -107,7 +107,7 @@ class OwnTools:
             (k, entries), name = self.merged, self.choice.randbytes(16)
             self.write_piece(self.merged_part.target, self.form(name, run_of(entries)))
             self.runs[k:k + 2] = [locator_of(*self.merged_part.target, name, run_of(entries))]
-        if self.slip("box 5", self.entries):
+        if self.slip("entries of the run", self.entries):
             entries = self.slip("entries", [(i, [self.moved(c) for c in locators]) for i, locators in self.entries])
             payload, name = self.slip("run", run_of(entries)), self.choice.randbytes(16)
             target = self.slip("target of the run", self.run_part.target)
@@ -121,6 +121,8 @@ class OwnTools:
         self.fields = self.slip("superblock", {**self.fields, "generation": self.generation + 1, "pointers": pointers, "runs": runs})
         text = self.slip("record", self.drive.record(*(self.fields[key] for key in FIELDS)))
         pages = record_pages(self.drive, len(text))
+        if "beside the one that counts" in self.without:
+            pages = [choose(self.drive.image())["page"]]
         at = self.slip("page", self.choice.choice(pages) * self.drive.page if pages else None)
         if at is None:
             raise Full

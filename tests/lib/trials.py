@@ -75,7 +75,7 @@ def walk_again(walk):
     boxes = []
     for _ in range(4):
         last, walk = walk, Walk(walk.engine, walk.drive, walk.known, walk.choice, without=walk.without, begun=walk.begun)
-        walk.anew, walk.given_up = last.anew, last.given_up
+        walk.anew, walk.given_up, walk.kept, walk.still_runs = last.anew, last.given_up, last.kept, False
         box, again = walk_with(walk) or (None, False)
         boxes += [box] * (box is not None)
         if not again:

@@ -1,20 +1,19 @@
-"""Walks the checklist of docs/RECLAIMING.md on a made-up disk. The code plays the person, who does what each box says with what the commands
-and act/plan print, and act/put, which makes the writes. On some walks the node's own tools make them (lib/own_tools.py). A mistake may be
-made on the way, or something may happen to the disk; then a box should stop the walk. lib/trials.py says what comes of it.
+"""Walks the boxes of docs/RECLAIMING.md on a made-up disk. The code plays the person, who does what each box says with what the commands
+print; the node's own tools make the writes (lib/own_tools.py). A mistake may be made on the way, or something may happen to the disk; then a
+box should stop the walk. lib/trials.py says what comes of it. Without a mistake act/reclaim walks, too (lib/reclaims.py has its faults).
 """
 import random
+import re
 
 from lib.disks import frame
 from lib.drives import moved, with_copies_in_listed, worn
-from lib.node import (Full, Node, acceptable, are_risen, bindings_of, doubts_in, held, is_held, lines_with, locator_of, named_locators,
+from lib.node import (Full, Node, acceptable, bindings_of, doubts_in, held, is_held, lines_with, locator_of, named_locators,
                       open_doubts_in, put_record, record_pages, require, run_of, zero_record)
-from lib.own_tools import FIELDS, POINTS, OwnTools, Part
-from reference.shardscrub import SEALED, choose, frame_at, rooms, scrub, sha
+from lib.own_tools import FIELDS, OwnTools, Part
+from reference.shardscrub import SEALED, choose, frame_at, records_of, rooms, scrub, sha
 
-# How often act/plan is called in box 5: for the copies, for those that a mistake left out, and for the superblock.
-MOST_PLANS = 4
-# How many of the walks without a mistake are made by act/plan, and on how many of these the script act/put makes the writes, too.
-BY_PLAN, BY_SCRIPT = .6, .1
+# How many of the walks without a mistake are made by act/reclaim.
+BY_COMMAND = .5
 
 
 class Stop(Exception):
@@ -34,18 +33,17 @@ class Walk(OwnTools):
     """One walk through the boxes. `slip` is where a mistake changes what is done. By the node's log `known` is the generation of the last
     superblock, later that of the last one whose writing has ended; `written_after` says whether something was written after it. `without`
     has the boxes and rules that are left out. `erases` says whether the extents are erased at the end. `begun` is the generation of the last
-    superblock whose writing has begun. `by_plan` says whether act/plan makes the writes; what only other tools can do wrong is done by
-    these. `anew` has the shards that the node wrote anew or deleted, `given_up` the crowded extents to reset, `refused` the words with which
-    act/plan refused some extents, and `written` the place of the superblock in extent 0, and its bytes."""
+    superblock whose writing has begun. `still_runs` says whether the node has all in memory, `kept` has the last image of each superblock that a
+    walk before has left. `anew` has the shards that the node wrote anew or deleted, `given_up` the crowded extents to reset, and
+    `written` the place of the superblock in extent 0, and its bytes."""
 
-    def __init__(self, engine, drive, known, choice, mistake=None, without=(), written_after=False, erases=True, begun=None, by_plan=True):
+    def __init__(self, engine, drive, known, choice, mistake=None, without=(), written_after=False, erases=True, begun=None):
         self.engine, self.drive, self.known, self.choice = engine, drive, known, choice
         self.mistake, self.written_after, self.erases, self.begun = mistake, written_after, erases, begun
         self.without = {*without, *(mistake.without if mistake else ())}
-        self.by_plan = by_plan and "loose copies" not in self.without and not (mistake and mistake.point in POINTS)
         self.slipped = mistake is not None and mistake.point == "never"
-        self.node, self.by_script = None, False
-        self.generation, self.written, self.chosen, self.refused, self.merged = None, None, [], [], None
+        self.node, self.still_runs, self.kept = None, False, {}
+        self.generation, self.written, self.chosen, self.merged = None, None, [], None
         self.parts, self.run_part, self.entries = [], None, []
         self.owed, self.ends, self.places, self.anew, self.given_up = [], {}, {}, set(), set()
 
@@ -69,27 +67,29 @@ class Walk(OwnTools):
         if choose(self.drive.image())["page"] is not None:
             self.running.resume()
         self.first_shards = dict(self.running.shards)
+        self.slip("before box 1", ())
+        if self.slip("merge", False):
+            self.let_node_merge()
         self.first = self.slip("first image", self.drive).copy()
         self.box_1()
         self.fields = self.first_fields = {key: choose(self.first.image())[key] for key in FIELDS}
         self.read_listing()
-        if not (self.box_3() if self.by_plan else self.choose_by_tools()):
+        if not self.choose_by_tools():
             return False
-        self.slip("after box 3", ())
-        self.fourth = self.ask_compare(4, self.first, (), self.generation, self.generation)
-        if self.by_plan:
-            self.box_5()
-            self.slip("after box 5", ())
-            self.box_6()
-        else:
-            self.write_by_tools()
-        self.slip("after box 6", ())
+        self.slip("after box 1", ())
+        self.ask_compare(4, self.first, (), self.generation, self.generation)
+        self.kept[superblock_of(self.first)] = self.first
+        self.slip("after box 4", ())
+        self.write_by_tools()
+        self.slip("after the writes", ())
         self.seventh = self.ask_compare(7, self.first, self.chosen, self.generation, self.generation + 1)
+        self.kept[superblock_of(self.seventh)] = self.seventh
         self.slip("after box 7", ())
         self.box_8()
         self.slip("after box 8", ())
         if self.erases:
             self.box_9()
+        self.slip("given back", ())
         return True
 
     def new_image(self, box):
@@ -108,6 +108,7 @@ class Walk(OwnTools):
     def box_1(self):
         self.generation = self.slip("last generation", self.known)
         self.check(1, not self.slip("written after", self.written_after), "something was written after the last superblock", then=None)
+        self.look_back()
         text, _ = self.listed_with(())
         self.settle_last(text)
         left = self.accepted = acceptable(open_doubts_in(text))
@@ -122,13 +123,48 @@ class Walk(OwnTools):
         if any(line.startswith("crowded ") for line in left):
             self.settle_crowded(self.choice.choice(["give up", "give up", "give up", "write", "delete"]))
 
+    def look_back(self):
+        """What a walk before left by this superblock has to be there still. Else that goes to another drive."""
+        old = self.kept.get(superblock_of(self.first))
+        if old and "images of before" not in self.without and re.search("^(lost|spare|loose) ", self.compare(old, self.first), re.M):
+            self.first = old
+            raise Stop(1, "the disk has lost something since the walk before", "restore")
+
+    def let_node_merge(self):
+        """The node merges its index runs, but those that its scan steps over."""
+        runs = self.engine.manifest(self.drive)[0].splitlines()[0]
+        self.check(1, runs == "runs lost 0 hidden 0", runs, "hidden runs", None)
+        node, seen = Node(self.drive, self.choice), scrub(self.drive.image())
+        node.resume()
+        read = [dict(run.entries) for run, c in zip(seen.runs, seen.checked) if c.status == "sound" and run.entries]
+        node.shards = {i: locators for entries in read[::-1] for i, locators in entries.items() if locators}
+        node.runs, node.changed = [], dict(node.shards)
+        self.write_by_node(node)
+        raise Again
+
+    def write_by_node(self, node):
+        """The node writes what it has in memory, and a superblock."""
+        node.flush()
+        if not node.superblock():
+            raise Full
+        self.known = node.generation
+
+    def settle_newer(self):
+        """The newest superblock has gone. A node that still runs writes another one. By the rule of before, it is started again."""
+        if "in memory" in self.without:
+            if choose(self.drive.image())["page"] is None:
+                raise Full
+            self.running.resume()
+        self.write_by_node(self.running)
+        raise Again
+
     def settle_last(self, text):
         """If the superblock that counts has a greater generation than the log, its writing has ended unseen; or it may be left from an older
         format: the walk begins anew without it, if the manifest is then what the node knows. By the rule of before, the node writes a
         superblock."""
         counts = [words[2] for words in lines_with(text, "doubt") if words[1] == "last"]
         if not counts or counts[0] == "none" or int(counts[0]) < self.generation:
-            return
+            return self.settle_newer() if counts and self.still_runs else None
         if int(counts[0]) == self.begun:
             self.known = self.begun
             raise Again
@@ -197,10 +233,7 @@ class Walk(OwnTools):
         node.resume()
         for identifier, text in sorted(entries.items()):
             node.bind(identifier, [] if text is None else [node.append(text)])
-        node.flush()
-        if not node.superblock():
-            raise Full
-        self.known = node.generation
+        self.write_by_node(node)
 
     def name_spare(self, identifier, place, uuid, length):
         """Writes an entry in which the shard's dangling locators of this payload name the spare."""
@@ -250,33 +283,6 @@ class Walk(OwnTools):
         self.chosen = some
         self.given_up |= {e for e in some if f"crowded {e}" in self.doubts}
 
-    def box_3(self):
-        """Chooses extents for which there is a plan. False if there are none."""
-        for some in self.tries():
-            lines, is_given = self.ask_plan(3, self.first, some)
-            if is_given:
-                self.set_chosen(some)
-                self.read_pieces(lines)
-                return True
-            word, *_ = lines[0].split()
-            self.check(3, word in ("no-room", "no-page", "no-generation"), "; ".join(lines), then=None)
-            self.refused.append(word)
-        return False
-
-    def read_pieces(self, lines):
-        """The copies and the run of a plan, with their places."""
-        words = [line.split() for line in lines]
-        self.parts = [Part((int(e), int(o)), int(count), None, (int(x), int(at)))
-                      for e, o, x, at, count in (rest for word, *rest in words if word == "copy")]
-        new_runs = [Part(None, len(text) // 2, None, (int(x), int(at))) for _, x, at, text in (w for w in words if w[0] == "write")
-                    if x != "0"]
-        self.run_part = new_runs[0] if new_runs else None
-
-    def ask_plan(self, box, drive, resets):
-        """The lines of act/plan, and whether its status is 0."""
-        words = self.slip(f"words of box {box}", {"last": self.generation, "accepted": self.accepted, "resets": resets})
-        return self.engine.plan(self.slip(f"image of box {box}", drive), **words)
-
     # The writes
 
     def ask_compare(self, box, before, resets, *generations):
@@ -297,63 +303,6 @@ class Walk(OwnTools):
                 lines = ["safe {} {}".format(*(choose(drive.image())["generation"] for drive in (before, after)))]
             text = "".join(line + "\n" for line in lines)
         return text
-
-    def box_5(self):
-        """The copies and their run, until the plan is the superblock."""
-        self.newest = self.fourth
-        for turn in range(MOST_PLANS):
-            lines, is_given = self.ask_plan(5, self.newest, self.chosen)
-            if not is_given:
-                is_newer = lines[0].startswith("doubt last ") and int(choose(self.newest.image())["generation"] or 0) > self.generation
-                has_rotted = lines[0].startswith("unlisted ") and turn > 0
-                raise Stop(5, "; ".join(lines), "start over" if is_newer else "restore" if has_rotted else "go back")
-            self.next = lines
-            if lines[0].startswith("write 0 "):
-                return
-            self.slip("copying", ())
-            self.put(5)
-            self.slip("after the copies", ())
-            self.newest = self.new_image(5)
-        raise Stop(5, "the plan is never the superblock", None)
-
-    def put(self, box):
-        """Makes the writes of the plan, as act/put does, in any order."""
-        image, disk, lines = self.slip(f"put of box {box}", (self.newest, self.drive, self.next))
-        if disk.unreadable - self.first.unreadable:
-            raise Stop(box, "a page can't be read any more", "begin again" if "restore" in self.without else "restore")
-        if disk.raw != image.raw:
-            then = way_out(self.compare(self.first, self.drive), "start over")
-            self.check(box, False, "the disk isn't what the image shows", "comparison of put", then)
-        wanted = self.engine.put(image, disk, lines) if self.by_script else None
-        for line in self.choice.sample(lines, len(lines)):
-            self.make(box, line, image, disk)
-        require(wanted in (None, disk.raw), "act/put writes something else", *lines)
-
-    def put_again(self):
-        """Makes the writes of the plan once more, with a newer image."""
-        self.newest = self.new_image(5)
-        self.put(5)
-
-    def make(self, box, line, image, disk):
-        """Makes the write of one line."""
-        word, *words, text = line.split()
-        if word == "copy":
-            e, o, *target = map(int, words)
-            text = image.read(e, o, int(text))
-        else:
-            target, text = map(int, words), bytes.fromhex(text)
-        x, at = target
-        is_superblock = x == 0
-        if is_superblock:
-            self.begun, self.written = self.generation + 1, (at, len(text))
-        self.slip(f"writing of box {box}", (x, at, text))
-        disk.write(x, at, text)
-        if is_superblock:
-            self.known = self.begun
-
-    def box_6(self):
-        if self.slip("box 6", True):
-            self.put(6)
 
     # The answers after the reset
 
@@ -400,6 +349,12 @@ class Walk(OwnTools):
             self.restore()
 
 
+def superblock_of(drive):
+    """The bytes of the superblock that counts."""
+    page = choose(drive.image())["page"]
+    return drive.read(0, page * drive.page, records_of(drive.image())[page].length) if page is not None else b""
+
+
 def way_out(text, then):
     """What to do after this answer of `compare`: to go back if something was lost, or an older superblock counts now, or none."""
     return "go back" if any(line.startswith(("lost ", "generation ", "doubt after no-superblock")) for line in text.splitlines()) else then
@@ -418,14 +373,13 @@ def erased(drive, extents, choice):
 def count_seen(walk, drive, seen):
     """Counts what came up on a walk that ended."""
     moves = [words for e in walk.chosen for words in walk.listed[e]]
-    kind = "by plan" if walk.by_plan else "by own tools"
-    seen[f"walk {kind}: ended"] += 1
+    seen["walk by own tools: ended"] += 1
     seen["walk: extents reset"] += len(walk.chosen)
     seen["walk: several at once"] += len(walk.chosen) > 1
     seen["walk: erased"] += walk.erases
-    seen[f"walk {kind}: copies"] += len(walk.parts)
-    seen[f"walk {kind}: runs written"] += walk.run_part is not None
-    seen["walk by own tools: runs merged"] += walk.merged is not None
+    seen["walk: copies"] += len(walk.parts)
+    seen["walk: runs written"] += walk.run_part is not None
+    seen["walk: runs merged"] += walk.merged is not None
     seen["walk: chunks shared"] += len(moves) - len({tuple(words[1:3]) for words in moves})
     seen["walk: sealed chunks copied"] += sum(drive.read(*part.place, 2) == SEALED.magic for part in walk.parts)
     seen["walk: runs moved"] += sum(words[5] == "run" for words in moves)
@@ -433,21 +387,23 @@ def count_seen(walk, drive, seen):
     seen["walk: spares and loose copies copied"] += sum(part.place in [other.place for other in walk.owed] for part in walk.parts)
     seen["walk: crowded extents given up"] += len(walk.given_up)
     seen["walk: tails that --last accepts"] += any(line.startswith("tail ") for line in walk.doubts)
-    seen["walk: written by act/put, too"] += walk.by_script
 
 
-def walk_honestly(engine, seed, seen):
-    """Resets what can be reset on one disk, and lets the node go on between the resets."""
+def walk_honestly(engine, seed, seen, command):
+    """Resets what can be reset on one disk, by act/reclaim or by own tools, and lets the node go on between the resets. `command` resets some
+    extents by act/reclaim, and returns these and those that are given up, or None if it can't."""
     choice = random.Random(f"honest {seed}")
     drive, known = choice.choice([worn, moved, with_copies_in_listed, with_copies_in_listed])(choice)
     for _ in range(12):
         before = drive.copy()
-        walk = Walk(engine, drive, known, choice, erases=choice.random() < .5, by_plan=choice.random() < BY_PLAN)
-        walk.by_script = choice.random() < BY_SCRIPT and walk.by_plan and engine.name is not None
+        reset = command(drive, known, choice) if choice.random() < BY_COMMAND else None
+        if reset:
+            seen["walk by act/reclaim: ended"] += 1
+            known = judge_reset(before, drive, *reset, known + 1, choice)
+            continue
+        walk = Walk(engine, drive, known, choice, erases=choice.random() < .5)
         try:
-            has_reset = walk.go()
-            seen.update(f"plan: {word}" for word in walk.refused)
-            if not has_reset:
+            if not walk.go():
                 seen["walk: nothing can be reset"] += 1
                 break
         except Stop as stop:
@@ -465,12 +421,16 @@ def walk_honestly(engine, seed, seen):
             known = walk.known
             continue
         count_seen(walk, drive, seen)
-        for after in drive, erased(drive, walk.chosen, choice):
-            require(is_held(held(before, walk.given_up), held(after, walk.given_up)),
-                    f"disk {seed}: after the reset of {walk.chosen} something is lost")
-        known = walk.known
-        if choice.random() < .5:
-            node = Node(drive, choice)
-            node.resume()
-            node.live_on(1)
-            known = node.generation
+        known = judge_reset(before, drive, walk.chosen, walk.given_up, walk.known, choice)
+
+
+def judge_reset(before, drive, chosen, given_up, known, choice):
+    """Nothing is lost, also once the extents are used again. The node may go on. Returns its last generation."""
+    for after in drive, erased(drive, chosen, choice):
+        require(is_held(held(before, given_up), held(after, given_up)), "after the reset of", chosen, "something is lost")
+    if choice.random() < .5:
+        return known
+    node = Node(drive, choice)
+    node.resume()
+    node.live_on(1)
+    return node.generation
