@@ -1,6 +1,6 @@
 #!/usr/bin/env python3
-"""Walks act/reclaim on made-up disks, as tests/test_reclaim.py does, on more disks and others: at any step something happens, and then it is
-called again. Makes two walks one after the other, between which something rots. Takes rules out of the script, and sees what finds it.
+"""Walks act/reclaim on made-up disks, as tests/test_reclaim.py does, on more disks and others: at any step something happens, and then it
+is called again. Makes two walks one after the other, between which something rots. Takes rules out of the script, and sees what finds it.
 
 Prints a line for each failure, how often each case came up, and with --rules what each rule was found by. The last line is 'N passed, M
 failed'. Exit status: 0 if all passed, 1 if something failed, 2 if the arguments are wrong, 70 if there is no program of these sources.
@@ -33,12 +33,13 @@ def checks(given, script, engine, seen):
 def arguments():
     parser = argparse.ArgumentParser(prog="fuzz/reclaim.py", description=__doc__.partition("\n\n")[0],
                                      epilog=__doc__.partition("\n\n")[2], formatter_class=argparse.RawDescriptionHelpFormatter)
-    for name, value, what in (("--trials", 400, "on how many disks something happens"), ("--disks", 100, "on how many disks two walks are made"),
+    for name, value, what in (("--trials", 400, "on how many disks something happens"),
+                              ("--disks", 100, "on how many disks two walks are made"),
                               ("--rules", 0, "on how many disks of each kind a rule is missed, for each that is taken out"),
                               ("--seed", 2, "others for each seed")):
         parser.add_argument(name, type=int, default=value, metavar="N", help=f"{what} (default: {value})")
     parser.add_argument("--only", choices=KINDS, metavar="KIND", help=f"what a trial is for: {', '.join(KINDS)}")
-    parser.add_argument("--real", type=float, default=0, metavar="SHARE", help="on which part of them act/plan and act/put are programs, too")
+    parser.add_argument("--real", type=float, default=0, metavar="SHARE", help="on which part of them the scripts below it are real")
     parser.add_argument("--program", metavar="P", help="the program (default: that of ./shardscrub)")
     given = parser.parse_args()
     return given, choose_program(parser, given.program)

@@ -1,5 +1,5 @@
-"""Walks a reclamation on made-up disks, by act/reclaim or by the boxes of docs/RECLAIMING.md and a node's own tools, and makes mistakes on the
-way, one at a time; or a copy rots meanwhile, a page or a superblock goes, a node writes, or the power fails. Leaves out boxes and rules,
+"""Walks a reclamation on made-up disks, by act/reclaim or by the boxes of docs/RECLAIMING.md and a node's own tools, and makes mistakes on
+the way, one at a time; or a copy rots meanwhile, a page or a superblock goes, a node writes, or the power fails. Leaves out boxes and rules,
 one at a time, and sees that they are needed. Also holds the laws of spares, copies, resets, manifests and shards on pairs of images.
 fuzz/checklist.py does so on others, and prints which box stops what."""
 import os
@@ -22,8 +22,6 @@ from lib.trials import trials
 from lib.walk import walk_honestly
 
 SEED, LAWS, WALKS, TRIES = 1, 200, 120, 2
-# Without these rules bytes are lost on few disks.
-WITHOUT = {}
 # How long the first row of a table may take.
 SECONDS = 100
 BY_NAME = {one.name: one for one in MISTAKES}
@@ -69,7 +67,7 @@ class Needed(EngineCase):
     """Without this box or rule bytes are lost and no box stops it, or the walk can't begin again."""
 
     def check(self, name, rule):
-        judge_without(BY_NAME[name], rule, trials(self.engine, BY_NAME[name], SEED, WITHOUT.get(rule, 2 * TRIES), (rule,)))
+        judge_without(BY_NAME[name], rule, trials(self.engine, BY_NAME[name], SEED, 2 * TRIES, (rule,)))
 
     def test_the_way_back_after_a_superblock_went(self):
         self.check(*DEAD_END)

@@ -92,7 +92,8 @@ def fail(walk, value=()):
 
 
 BETWEEN = {"after box 1": "before box 4", "after box 4": "before the copies", "after the copies": "before the superblock",
-           "after the writes": "before box 7", "after box 7": "before box 8", "after box 8": "before box 9", "after box 9": "before the erase"}
+           "after the writes": "before box 7", "after box 7": "before box 8", "after box 8": "before box 9",
+           "after box 9": "before the erase"}
 for point, when in BETWEEN.items():
     for what in ("chunk", "run", "superblock"):
         mistake(f"the node writes a {what} {when}", point)(node_writes(what))
@@ -141,7 +142,7 @@ def _(walk, value):
 # The power fails while something is written
 
 def power_fails(walk, value):
-    """Only some sectors are on the disk of what was written since the last flush. The copies and the run are flushed before the superblock."""
+    """Only some sectors are on the disk of what was written since the last flush. The copies are flushed before the superblock."""
     before, copied, after = value
     old, new = walk.choice.choice([(before, copied), (copied, after)])
     if "flush" in walk.without:
@@ -239,7 +240,7 @@ def _(walk, value):
 def _(walk, value):
     """The shards that have only copies are written anew first."""
     found = scrub(walk.drive.image())
-    some = [(e, item) for c in found.checked for e, item in loose_of(found, c) if c.shard is not None and found.pointers[e - 1] <= item.start]
+    some = [(e, item) for c in found.checked if c.shard is not None for e, item in loose_of(found, c) if found.pointers[e - 1] <= item.start]
     walk.first = walk.drive.copy()
     kept = walk.kept_for_node()
     if not some or None in kept.values():

@@ -1,5 +1,5 @@
-"""The mistakes of a walk through the checklist in what is asked: of which image, with which generation, sizes, pages and extents; and answers
-that aren't asked for. See lib/mistakes.py."""
+"""The mistakes of a walk through the checklist in what is asked: of which image, with which generation, sizes, pages and extents; and
+answers that aren't asked for. See lib/mistakes.py."""
 from lib.mistakes import MISTAKES, Mistake, flipped, mistake, parsed
 from lib.node import Drive, frames_in, named_locators, place_of
 from reference.shardscrub import choose, loose_of, scrub

@@ -23,9 +23,7 @@ KILLED = 137
 ROT = ("rot", "rot place", "rot source", "rot superblock", "rot used")
 BY_NODE = ("node chunk", "node run", "node superblock", "node run anew", "node superblock anew")
 ENDS_IT = ("kill", "power", "interrupt", "full")
-# What changes nothing on the disk, and what does.
-HARMLESS = (*ENDS_IT, "second")
-HAPPENINGS = (*HARMLESS, "page", *ROT, *BY_NODE)
+HAPPENINGS = (*ENDS_IT, "second", "page", *ROT, *BY_NODE)
 
 
 class Script:
@@ -33,7 +31,8 @@ class Script:
 
     def __init__(self, program, change=lambda text: text):
         os.environ["SHARDSCRUB"] = str(program)
-        self.held, self.reclaim, self.plan = module("held.py", "held", change), module("reclaim", "act_reclaim", change), module("plan", "act_plan")
+        self.held, self.reclaim = module("held.py", "held", change), module("reclaim", "act_reclaim", change)
+        self.plan = module("plan", "act_plan")
         self.read, self.say_stop = self.held.Held.read, self.reclaim.Walk.say_stop
 
 
@@ -57,8 +56,8 @@ class Instead:
 
 
 class Disk:
-    """The disk of a trial, a file. `first` is what it had when the walk began, `shadow` what it would have without the script. `bad` has the
-    pages that can't be read, `foreign` the bytes that something else has changed, `by_node` what a node wrote: the byte, the text, and
+    """The disk of a trial, a file. `first` is what it had when the walk began, `shadow` what it would have without the script. `bad` has
+    the pages that can't be read, `foreign` the bytes that something else has changed, `by_node` what a node wrote: the byte, the text, and
     before which step. `planned` has the lines of act/plan."""
     KEPT = ("first", "shadow", "bad", "foreign", "by_node", "planned", "second")
 
@@ -327,7 +326,7 @@ def change(disk, kind, step):
 
 
 def rotting(disk, kind):
-    """The byte that rots: of what is planned, of a chunk that is copied, of the superblock, of a chunk in use, or any; None if there is none."""
+    """The byte that rots: of what is planned, of a chunk that is copied, of the superblock, of a chunk in use, or any."""
     choice, drive, now = disk.choice, disk.drive, disk.now()
     copies = [line.split(" ") for line in disk.planned if line.startswith("copy ")]
     if kind == "rot place" and disk.planned:

@@ -5,8 +5,7 @@ import re
 import subprocess
 
 from lib.disks import frame, geometry, record, run, sealed_frame
-from lib.planner import Planner, Words, write_over
-from lib.program import PUT_TOOLS, TOP, need
+from lib.planner import write_over
 from reference import shardscrub as reference
 from reference.shardscrub import BEST, FORMS, Image, choose, frame_at, manifest, records_of, refusal, scrub, sha, tile, write_locator
 
@@ -51,7 +50,7 @@ class Engine:
     """Prints the answers: a program, or the reference by itself."""
 
     def __init__(self, program, room):
-        self.program, self.calls, self.file, self.written, self.planner = program, 0, None, b"", None
+        self.program, self.calls, self.file, self.written = program, 0, None, b""
         self.name = os.path.join(room, "image") if room else None
 
     def ask(self, drive, command, accepted=(), last=None):
@@ -81,27 +80,6 @@ class Engine:
         if done.returncode not in (0, 1) or done.stderr:
             raise RuntimeError(f"{done.args}: status {done.returncode}, {done.stderr.decode()}")
         return done.stdout.decode(), done.returncode == 0
-
-    def plan(self, drive, last, accepted, resets):
-        """The lines of act/plan, and whether its status is 0."""
-        self.calls += 1
-        if self.planner is None:
-            self.planner = Planner(os.path.dirname(self.name), program=self.program or TOP / "reference/shardscrub.py")
-        status, lines = self.planner.ask(drive, Words(last, accepted, resets))
-        return lines, status == 0
-
-    def put(self, image, disk, lines):
-        """The bytes of the disk after act/put has made these writes."""
-        need(*PUT_TOOLS)
-        names = [os.path.join(os.path.dirname(self.name), name) for name in ("image of the plan", "disk")]
-        for name, drive in zip(names, (image, disk)):
-            write_over(name, drive.raw)
-        words = [TOP / "act/put", *geometry(disk.page, disk.pages, disk.extents), *names]
-        done = subprocess.run(words, input="".join(line + "\n" for line in lines).encode(), capture_output=True)
-        if done.returncode or done.stdout or done.stderr:
-            raise RuntimeError(f"{done.args}: status {done.returncode}, {done.stderr.decode()}")
-        with open(names[1], "rb") as file:
-            return file.read()
 
     def write(self, raw):
         """Writes the image, unless it is there already. A file that is cut to nothing before each time costs the system much."""

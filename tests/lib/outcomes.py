@@ -25,7 +25,7 @@ TOO_LATE = {
     "a copy goes over what is left of a broken shard behind a pointer, in an extent without room",
     "the superblock: it is written into another extent", "something else is written with the superblock",
     *(f"the extent is erased {when}" for when in ("before box 4", "before the copies", "before the superblock")),
-    *(f"the node writes a {what} {when}" for what in ("chunk", "run", "superblock") for when in ("before the copies", "before the superblock")),
+    *(f"the node writes a {what} before the {part}" for what in ("chunk", "run", "superblock") for part in ("copies", "superblock")),
 }
 # What may pass. Nothing is lost by that alone.
 HARMLESS = {

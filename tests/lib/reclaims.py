@@ -1,8 +1,9 @@
-"""Walks of act/reclaim on made-up disks, with what happens at their steps. Whatever happens, the call is made again until the walk is at its
-end, or it stops with a line that says what to do, and that is done. No payload goes that the first image has, and the disk would have without
-the script; the judge is the slow reference. See lib/faults.py."""
+"""Walks of act/reclaim on made-up disks, with what happens at their steps. Whatever happens, the call is made again until the walk is at
+its end, or it stops with a line that says what to do, and that is done. No payload goes that the first image has, and the disk would have
+without the script; the judge is the slow reference. See lib/faults.py."""
 import os
 import random
+import re
 import shutil
 import tempfile
 from pathlib import Path
@@ -10,7 +11,7 @@ from pathlib import Path
 from lib.disks import geometry
 from lib.faults import BY_NODE, CACHE, ENDS_IT, HAPPENINGS, ROT, Disk, call, change
 from lib.node import Broken, Node, open_doubts_in, require
-from lib.planning import Words, any_drive, payloads, words_for
+from lib.planning import any_drive, payloads, words_for
 from reference.shardscrub import choose, records_of
 
 # What is to be done after a stop: the same call once more; the first image goes to another drive; the node writes a superblock, and a walk
@@ -53,8 +54,8 @@ def used_again(drive, extents):
 
 def argv(drive, last, words, folder, *more, sizes=None):
     """The words of a call, of which the last one is the disk."""
-    return [f"--last={last}", *geometry(*(sizes or (drive.page, drive.pages, drive.extents))), *(f"--accept={line}" for line in words.accepted),
-            f"--work={folder}", *more, *(f"{e}:{g}" for e, g in sorted(drive.unreadable))]
+    return [f"--last={last}", *geometry(*(sizes or (drive.page, drive.pages, drive.extents))),
+            *(f"--accept={line}" for line in words.accepted), f"--work={folder}", *more, *(f"{e}:{g}" for e, g in sorted(drive.unreadable))]
 
 
 class Trial:
@@ -79,8 +80,8 @@ class Trial:
 
     def argv(self, *more, last=None, disk=None, sizes=None):
         """The words of a call."""
-        return argv(self.disk.drive, self.last if last is None else last, self.words, self.folder, *self.after, *more, disk or self.disk.name,
-                    sizes=sizes)
+        last = self.last if last is None else last
+        return argv(self.disk.drive, last, self.words, self.folder, *self.after, *more, disk or self.disk.name, sizes=sizes)
 
     def call(self, *more, happens=(), typed="", argv=None):
         """A call. It never changes a first image."""
@@ -90,6 +91,7 @@ class Trial:
         self.lines.append(f"{argv or more} {dict(happens)} -> {ended.status} {ended.key} {ended.happened}\n{ended.text}")
         require(ended.status != 99 and "Traceback" not in ended.text, "it crashed")
         require(self.disk.second in (None, "locked", "busy"), "a second call:", self.disk.second)
+        self.said = ended.text
         self.seen["calls"] += 1
         self.seen["steps"] += len(ended.steps)
         for name in sorted(self.room.glob("w*/1.img")):
@@ -187,7 +189,8 @@ class Trial:
         kept = {key: part for key, part in parts(now.copy(disk.shadow)).items() if had.get(key) == part}
         is_strict = key not in RESTORE | BACK and not self.has_rotted and not disk.by_node
         old, new = (choose(one.image()) for one in (now.copy(disk.first), now))
-        reset = [e for e in range(1, now.extents) if None not in (old["page"], new["page"]) and old["pointers"][e - 1] > new["pointers"][e - 1] == 0]
+        pointers = zip(old["pointers"], new["pointers"]) if None not in (old["page"], new["page"]) else []
+        reset = [e for e, (before, after) in enumerate(pointers, 1) if before > after == 0]
         gone = lost(kept, parts(used_again(now, reset) if is_strict else now))
         if gone and not is_strict and new["generation"] == self.last + 1:
             # The superblock of the walk names a copy that has rotted: that of before is still there.
@@ -196,7 +199,8 @@ class Trial:
             gone = lost(kept, parts(back))
         for at, text, step in disk.by_node:
             is_over = now.raw[at:at + len(text)] != disk.shadow[at:at + len(text)]
-            require(not is_over or self.is_late or step == "page of put", "stopped by", key, "and what a node wrote before", step, "is written over")
+            require(not is_over or self.is_late or step == "page of put",
+                    "stopped by", key, "and what a node wrote before", step, "is written over")
         require(not gone or disk.by_node or (self.folder / "erasing").exists(), "stopped by", key, "and", len(gone), "payloads are lost")
         if key in RESTORE and not self.has_rotted:
             by_node = parts(now.copy(disk.shadow)).keys() - had.keys()
@@ -256,8 +260,11 @@ class Trial:
         return self.anew("went back", self.disk.raw())
 
     def restore(self, key):
-        """The first image goes to another drive."""
-        self.anew(f"restored after {key}", bytes(self.first().raw))
+        """The image that is named goes to another drive."""
+        image, last = re.search(r"[Rr]estore (\S+) to another drive .*, --last=(\d+)|$", self.said).groups()
+        require(image, "the words of", key, "name no image")
+        self.last = int(last)
+        self.anew(f"restored after {key}", Path(image).read_bytes())
 
     def start_over(self, key):
         """The node reads the disk and writes a superblock."""
@@ -323,7 +330,8 @@ class Trial:
         text = bytearray(self.disk.first)
         text[self.choice.randrange(len(text))] ^= 1
         other.write_bytes(text)
-        argv = {"last + 1": lambda: self.argv(*self.walk, last=self.last + 1), "last - 1": lambda: self.argv(*self.walk, last=max(0, self.last - 1)),
+        argv = {"last + 1": lambda: self.argv(*self.walk, last=self.last + 1),
+                "last - 1": lambda: self.argv(*self.walk, last=max(0, self.last - 1)),
                 "pages": lambda: self.argv(*self.walk, sizes=(drive.page, drive.pages // 2, drive.extents)),
                 "extents": lambda: self.argv(*self.walk, sizes=(drive.page, drive.pages, drive.extents - 1)),
                 "other reset": lambda: self.argv(f"--reset={self.choice.randrange(1, drive.extents)}", "--yes"),
@@ -369,8 +377,8 @@ def walk_by_command(script, engine, room, drive, known, choice):
     words, _ = words_for(engine, drive, known, choice)
     with tempfile.TemporaryDirectory(dir=room) as folder:
         disk = Disk(folder, drive, choice)
-        resets = [f"--reset={e}" for e in words.resets]
-        ended = call(script, disk, argv(drive, known, words, f"{folder}/walk", *resets, "--yes", *["--erase"] * choice.randrange(2), disk.name))
+        options = [*(f"--reset={e}" for e in words.resets), "--yes", *["--erase"] * choice.randrange(2)]
+        ended = call(script, disk, argv(drive, known, words, f"{folder}/walk", *options, disk.name))
         require(ended.key == "done" or ended.key in UNPLANNED, "an honest walk stops:", ended.text)
         drive.raw[:] = disk.raw()
     return (words.resets, {e for e in words.resets if f"crowded {e}" in words.accepted}) if ended.key == "done" else None
@@ -418,7 +426,8 @@ def go_twice(one):
     key = one.call().key
     one.seen[f"second walk, {'something' if gone else 'nothing'} is lost: {key}"] += 1
     require(not gone or key not in ("done", "nothing"), len(gone), "payloads were lost between two walks, and nobody says so")
-    require(not gone or key == "before" or choose(one.disk.now().image())["generation"] != one.last, "lost between two walks, and then", key)
+    is_newest = choose(one.disk.now().image())["generation"] == one.last
+    require(not gone or key == "before" or not is_newest, "lost between two walks, and then", key)
     if key == "before":
         one.anew("restored between two walks", left)
     return bool(gone)

@@ -120,8 +120,8 @@ class Long(NamedTuple):
 SECONDS = {
     "answers": 5, "checklist": .1, "compare": .3, "corpus": 1, "costs": .3, "documents": 4, "examples": 5, "gate": 4, "help": .6,
     "json": 10, "last": .3, "listings": .2, "loose": 1, "memory": 1, "messages": 4, "monitoring": 1, "node": 14, "outside": 45,
-    "package": 8, "page": 12, "parts": 1, "plan": 14, "questions": .7, "reads": 22, "release": .7, "rescue": 6, "scrubs": 4,
-    "shard": .3, "sources": .1, "start": 3, "statuses": 1, "system": 7, "tilings": 5,
+    "package": 8, "page": 12, "parts": 1, "plan": 14, "questions": .7, "reads": 22, "reclaim": 2, "release": .7, "rescue": 6,
+    "scrubs": 4, "shard": .3, "sources": .1, "start": 3, "statuses": 1, "system": 7, "tilings": 5, "why": 3,
 }
 LONG = {
     "checklist.Laws": Long(5), "checklist.Mistakes": Long(40, 4), "checklist.Needed": Long(8), "checklist.Walks": Long(13, 2),
@@ -131,9 +131,9 @@ LONG = {
     "monitoring.Nightly": Long(4), "monitoring.Nights": Long(4), "node.Programs": Long(13, 3), "node.Walks": Long(18, 4),
     "package.Dpkg": Long(5), "package.Package": Long(20), "page.InBrowser": Long(60), "page.WrongPages": Long(21, 2),
     "plan.BothScripts": Long(8), "plan.Disks": Long(18, 2), "plan.EachByte": Long(14, 2), "plan.Interrupted": Long(11),
-    "plan.PutInBash": Long(9), "plan.PutInDash": Long(7), "reference.Disks": Long(35, 3), "rescue.MadeUp": Long(10, 2),
-    "scrubs.Large": Long(8, 3),
-    "shard.Large": Long(9), "start.Kept": Long(12, 3), "system.Files": Long(7), "system.LargeDisks": Long(20, 4),
+    "plan.PutInBash": Long(9), "plan.PutInDash": Long(7), "reclaim.Rules": Long(8), "reclaim.Stops": Long(9),
+    "reclaim.Trials": Long(6), "reclaim.Walks": Long(9), "reference.Disks": Long(35, 3), "rescue.MadeUp": Long(10, 2),
+    "scrubs.Large": Long(8, 3), "shard.Large": Long(9), "start.Kept": Long(12, 3), "system.Files": Long(7), "system.LargeDisks": Long(20, 4),
     "system.Streams": Long(8), "views.Metrics": Long(4), "views.Rows": Long(9),
 }
 

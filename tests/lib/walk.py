@@ -1,6 +1,6 @@
 """Walks the boxes of docs/RECLAIMING.md on a made-up disk. The code plays the person, who does what each box says with what the commands
-print; the node's own tools make the writes (lib/own_tools.py). A mistake may be made on the way, or something may happen to the disk; then a
-box should stop the walk. lib/trials.py says what comes of it. Without a mistake act/reclaim walks, too (lib/reclaims.py has its faults).
+print; the node's own tools make the writes (lib/own_tools.py). A mistake may be made on the way, or something may happen to the disk; then
+a box should stop the walk. lib/trials.py says what comes of it. Without a mistake act/reclaim walks, too (lib/reclaims.py has its faults).
 """
 import random
 import re
