@@ -212,9 +212,10 @@ class Rescuer:
 
     def __init__(self, program, room):
         self.room, self.script, order = Path(room), loaded("rescue"), loaded("order")
-        self.script.program = lambda: str(program)
-        self.script.Disk.order = property(lambda disk: [
-            self.script.run_of(self.script.shardscrub.run_at(disk.image, run.extent, run.start)) for run in order.in_order(disk.image)])
+        sources = sys.modules["sources"]
+        sources.program = lambda: str(program)
+        sources.Disk.order = property(lambda disk: [
+            sources.run_of(sources.shardscrub.run_at(disk.image, run.extent, run.start)) for run in order.in_order(disk.image)])
 
     def ask(self, drive, last=None, runs=None, take=1):
         image, folder, listed = self.room / "dead", self.room / "rescued", self.room / "listed"
