@@ -497,7 +497,8 @@ class Slips(RoomCase):
     def setUpClass(cls):
         super().setUpClass()
         (cls.room / "disk").write_bytes(with_two_owners())
-        cls.given = {**os.environ, "SHARDSCRUB": cls.program}
+        # The script is called in another folder than its neighbours are in.
+        cls.given = {**os.environ, "SHARDSCRUB": cls.program, "PYTHONPATH": str(TOP / "act")}
 
     def answer(self, script):
         words = [*WIDE.words(), "--last", "2", "--reset", "1", self.room / "disk"]
