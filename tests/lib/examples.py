@@ -44,7 +44,7 @@ INSTALLED = {page: path if page == "Manual" else f"share/doc/shardscrub/{path}" 
 # Of each tool that a machine may lack: the words of a command that needs it. view/row and view/metrics need some themselves.
 TOOLS = {"jq": r"jq|rows?", "flock": "rows?", "awk": "awk|rows?|metrics", "basenc": "act/put|act/reclaim",
          "cmp": "cmp|act/put|act/reclaim", "python3": "python3|act/(?:plan|reclaim|rescue)|examples/node",
-         **{tool: tool for tool in ("ddrescue", "diff", "ldd", "od", "parallel", "tar", "xargs")}}
+         "od": "od|act/put|act/reclaim", **{tool: tool for tool in ("ddrescue", "diff", "ldd", "parallel", "tar", "xargs")}}
 # Commands that write to files that they name, beside `>`.
 WRITERS = re.compile(r"(?:^|[;|(] *)(?:cp|dd|ddrescue|act/put|act/reclaim|act/rescue|examples/node) ")
 

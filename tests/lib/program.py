@@ -93,7 +93,7 @@ def need(*tools):
 
 # What view/row, view/metrics, act/put, release/package and build, which ./shardscrub asks for its program, call beside what each machine
 # has.
-ROW_TOOLS, METRICS_TOOLS, PUT_TOOLS = ("jq", "flock", "awk"), ("awk",), ("basenc", "cmp")
+ROW_TOOLS, METRICS_TOOLS, PUT_TOOLS = ("jq", "flock", "awk"), ("awk",), ("basenc", "cmp", "od")
 PACKAGE_TOOLS = ("dpkg-deb", "awk", "xargs", "gzip")
 BUILD_TOOLS = ("awk", "cmp", "find", "xargs")
 
