@@ -16,7 +16,7 @@ from collections import Counter
 
 from lib.cases import Case, RoomCase, add_tests
 from lib.disks import geometry, record
-from lib.program import TOP, need
+from lib.program import PUT_TOOLS, TOP, need
 from reference import shardscrub as reference
 
 SCRIPT = (TOP / "examples/node").read_text(encoding="utf-8")
@@ -445,7 +445,7 @@ class Programs(FileCase):
 
     def test_reclamations(self):
         """The node goes on with the disk that act/reclaim has left."""
-        need("cmp")
+        need(*PUT_TOOLS)
         choice, held, sizes = random.Random(1), {}, (64, 16, 7)
         self.make(*sizes)
         for number in range(9):

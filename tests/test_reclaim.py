@@ -18,7 +18,7 @@ from lib.disks import geometry
 from lib.faults import CACHE, KILLED, Disk, Process, Script, call
 from lib.node import Drive, Engine
 from lib.planning import any_drive, narrow, with_many_runs, words_for
-from lib.program import TOP, need
+from lib.program import PUT_TOOLS, TOP, need
 from lib.reclaims import AGAIN, BACK, ENDS, KINDS, RESTORE, START, lost, parts, trial, two_walks
 from lib.rules import RULES, found_by
 
@@ -329,6 +329,7 @@ class Device(ScriptCase):
                               capture_output=True, text=True, stdin=subprocess.DEVNULL, timeout=SECONDS)
 
     def test_a_walk_with_an_erase(self):
+        need(*PUT_TOOLS)
         done = self.reclaim(*RESET, "--erase")
         self.same("status", (done.returncode, done.stderr), (0, ""))
         self.same("the extent", self.disk.now().read(1, 0, 1024), bytes(1024))
