@@ -155,6 +155,8 @@ class Trial:
         require(ended.key == "done", "an undisturbed walk ends with", ended.key)
         self.goal = self.disk.raw()
         self.check_done()
+        judged, _ = self.engine.compare(self.first(), self.disk.now(), self.words.resets)
+        require(judged == f"safe {self.last} {self.last + 1}\n", "after an undisturbed walk compare prints", judged)
         self.sums.pop(self.folder / "1.img")
         shutil.rmtree(self.folder)
         if kept.exists():
@@ -427,7 +429,7 @@ def go_twice(one):
     one.seen[f"second walk, {'something' if gone else 'nothing'} is lost: {key}"] += 1
     require(not gone or key not in ("done", "nothing"), len(gone), "payloads were lost between two walks, and nobody says so")
     is_newest = choose(one.disk.now().image())["generation"] == one.last
-    require(not gone or key == "before" or not is_newest, "lost between two walks, and then", key)
+    require(not gone or key in ("before", "no-generation") or not is_newest, "lost between two walks, and then", key)
     if key == "before":
         one.anew("restored between two walks", left)
     return bool(gone)
