@@ -227,7 +227,7 @@ class Install(OfTheRelease):
         """In commands, texts for a shell and code in a line, apart from what is said to be of the sources."""
         done("release/install", self.folder / "prefix")
         known = {path.name for path in TOP.iterdir() if path.is_dir()} - {"act", "view", "docs", "examples", "reference"}
-        said = {"docs/RECLAIMING.md": {"tests", "fuzz"}, "shardscrub/README.md": {"crates"}}
+        said = {"docs/RECLAIMING.md": {"tests"}, "shardscrub/README.md": {"crates"}}
         for path in [*sorted((self.folder / "prefix").rglob("*.md")), self.folder / "prefix/share/man/man1/shardscrub.1"]:
             text = path.read_text(encoding="utf-8")
             self.assertNotIn("./shardscrub ", text.replace("../shardscrub", ""), path.name)
