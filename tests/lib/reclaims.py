@@ -156,7 +156,7 @@ class Trial:
         self.goal = self.disk.raw()
         self.check_done()
         judged, _ = self.engine.compare(self.first(), self.disk.now(), self.words.resets)
-        require(judged == f"safe {self.last} {self.last + 1}\n", "after an undisturbed walk compare prints", judged)
+        require(self.erases or judged == f"safe {self.last} {self.last + 1}\n", "after an undisturbed walk compare prints", judged)
         self.sums.pop(self.folder / "1.img")
         shutil.rmtree(self.folder)
         if kept.exists():
