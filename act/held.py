@@ -139,16 +139,14 @@ class Held:
     def read(self, at: int, buffer: mmap.mmap) -> int:
         return os.preadv(self.direct, [buffer], at)
 
-    def image(self, name: str) -> str:
-        """A new image of the disk, and its digest."""
+    def image(self, name: str) -> None:
+        """A new image of the disk."""
         os.fsync(self.hold)
         for old in (name, name + ".part"):
             Path(self.path(old)).unlink(missing_ok=True)
-        digest = hashlib.sha256()
         with open(self.path(name + ".part"), "wb") as file, mmap.mmap(-1, BLOCK) as buffer:
             for at in range(0, self.bytes, BLOCK):
                 block = self.block(at, buffer)
-                digest.update(block)
                 if any(block):
                     file.seek(at)
                     file.write(block)
@@ -156,7 +154,6 @@ class Held:
             os.fsync(file.fileno())
         os.chmod(self.path(name + ".part"), 0o444)
         self.rename(name + ".part", name)
-        return digest.hexdigest()
 
     def block(self, at: int, buffer: mmap.mmap) -> bytes:
         try:

@@ -328,6 +328,9 @@ class Trial:
     def wrong_words(self, kind):
         """A wrong call has to be refused, and to write nothing."""
         drive, before = self.disk.drive, self.disk.raw()
+        if kind == "other disk" and not (self.folder / "1.img").exists():
+            # The walk would begin on that one.
+            return
         other = self.room / "other"
         text = bytearray(self.disk.first)
         text[self.choice.randrange(len(text))] ^= 1
