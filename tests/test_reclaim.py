@@ -2,6 +2,7 @@
 something happens at a step, and then it is called again; rules are taken out of the script one at a time, and a trial finds each.
 fuzz/reclaim.py has more disks."""
 import fcntl
+import json
 import os
 import random
 import re
@@ -17,13 +18,15 @@ from lib.cases import RoomCase, add_tests
 from lib.disks import geometry
 from lib.faults import CACHE, KILLED, Disk, Process, Script, call
 from lib.node import Drive, Engine
-from lib.planning import any_drive, narrow, with_many_runs, words_for
+from lib.planning import any_drive, narrow, with_many_runs, words_for, write_of
 from lib.program import PUT_TOOLS, TOP, need
 from lib.reclaims import AGAIN, BACK, ENDS, KINDS, RESTORE, START, lost, parts, trial, two_walks
 from lib.rules import RULES, found_by
 
 # A rule that is taken out has to be found on one of so many disks.
 SEED, DISKS, SECOND_WALKS, TRIES = 1, len(KINDS), 6, 25
+# Of the bytes of its writes one in so many is the last one that is on the disk.
+STRIDE = 11
 # The disk of the single walks: extent 1 is reset, of which a chunk is copied, and a run is written for it.
 SIZES, LAST, RESET = (64, 16, 5), 7, ["--reset=1", "--yes"]
 SECONDS = 60
@@ -92,6 +95,26 @@ class Walks(ScriptCase):
             self.same("what is lost", self.has_lost(), [])
             self.ended(self.call(*RESET), "done")
             self.same(f"the disk after {kind} before step {number}, {steps[number - 1]}", self.disk.raw(), goal)
+
+    def test_each_byte_of_its_writes(self):
+        """Wherever the writes ended, the same words come to the same disk. All of them take half a minute."""
+        self.ended(self.call(*RESET), "done")
+        walk, goal = json.loads((self.kept / "walk").read_text().partition("\n")[0]), self.disk.raw()
+        *pieces, superblock = [write_of(self.drive, line) for line in (*walk["pieces"], walk["superblock"])]
+        self.same("pieces", len(pieces), 2)
+        states = []
+        for order in (pieces, pieces[::-1], [*pieces, superblock]):
+            drive = self.drive.copy()
+            for extent, offset, text in order:
+                for k in range(len(text)):
+                    drive.write(extent, offset + k, text[k:k + 1])
+                    states.append(bytes(drive.raw))
+        for raw in [*dict.fromkeys(states)][::STRIDE]:
+            for name in ("7.img", "now.img"):
+                (self.kept / name).unlink(missing_ok=True)
+            self.disk.begin(raw)
+            self.ended(self.call(*RESET), "done")
+            self.same("the disk", self.disk.raw(), goal)
 
     def test_a_file_is_erased(self):
         """Also by a later call, and after an interruption. Then there is no way back."""
