@@ -15,7 +15,8 @@ PAGE = TOP / "docs/RECLAIMING.md"
 # What varies in a text, as the page says it.
 NAMES = {"disk": "DISK", "folder": "FOLDER", "first": "FOLDER/1.img", "kept": "IMAGE", "last": "G", "next": "G + 1", "counts": "COUNTS",
          "resets": "the extents", "why": "..", "lines": "..", "call": "CALL", "by_hand": "COMMAND", "merge": stops.MERGE, "has": "M", "bytes": "N",
-         "page": "P", "pages": "N", "extents": "E", "need": "M", "free": "N", "at": "B", "extent": "E", "runs": "..", "zero": "COMMAND"}
+         "page": "P", "pages": "N", "extents": "E", "need": "M", "free": "N", "at": "B", "extent": "E", "runs": "..", 
+         "zero": "`dd if=/dev/zero of=COPY bs=P seek=PAGE count=PAGES conv=notrunc,fsync`."}
 # What several stops say to do, said once on the page.
 LINKS = {stops.RESTORE: "[restore IMAGE](#restoring)", stops.BACK: "[go back](#the-way-back)", stops.START: "[start over](#starting-over)"}
 
@@ -24,7 +25,7 @@ def plain(text):
     """A text of the script as a cell of a table. What several say is a link."""
     for said, link in LINKS.items():
         text = text.replace(said, link)
-    return text.format(**NAMES).replace("\n    ", " ").replace("|", "\\|")
+    return " ".join(text.format(**NAMES).replace("|", "\\|").split())
 
 
 def capital(text):
@@ -32,9 +33,9 @@ def capital(text):
 
 
 def doubt_table():
-    last = [("last COUNTS G", "COUNTS is greater than G. " + stops.LAST_GREATER), ("last COUNTS G", "COUNTS is smaller, or `none`. " + stops.LAST_SMALLER)]
-    others = [(kind, text + (" `--accept LINE`" if kind in stops.ACCEPTABLE else "")) for kind, text in stops.DOUBTS.items()]
-    return ["| `doubt` | What it means, and what settles it |", "|---|---|", *(f"| `{kind}` | {plain(text)} |" for kind, text in last + others)]
+    last = [("`last COUNTS G`, COUNTS is greater", stops.LAST_GREATER), ("`last COUNTS G`, COUNTS is smaller or `none`", stops.LAST_SMALLER)]
+    others = [(f"`{kind}`", text + (" `--accept LINE`" if kind in stops.ACCEPTABLE else "")) for kind, text in stops.DOUBTS.items()]
+    return ["| `doubt` | What it means, and what settles it |", "|---|---|", *(f"| {kind} | {plain(text)} |" for kind, text in last + others)]
 
 
 def stop_table():
