@@ -21,7 +21,7 @@ RESTORE = {"unreadable", "lost", "stays", "not back", "before"}
 START = {"changed", "newer", "changed after"}
 BACK = {"judged", "lost after", "back begun"}
 ENDS = {"erase", "nothing", "doubts", "unlisted", "no-room", "no-room, 32 runs", "no-page", "no-generation", "other sizes", "sizes",
-        "no walk", "first unreadable", "plan"}
+        "no walk", "first unreadable", "plan", "no erase"}
 # Those that say that a payload may be only in the first image, or nothing of the disk.
 SAY_SO = RESTORE | BACK | AGAIN | {"first unreadable", "erase", "newer", "no"}
 # Refused before anything is written.
