@@ -30,7 +30,7 @@ SEED, MADE, DRIVEN, PAIRS = 1, 200, 60, 40
 # A command of a page with its arguments, which may stand in a longer command. Some are in a loop of the shell.
 CALL = re.compile(rf"\./shardscrub ((?:{'|'.join(COMMANDS)}) [^|;>&$)]*)")
 U1, U2, S1 = "11111111-1111-1111-1111-111111111111", "2" * 8 + "-2222-2222-2222-" + "2" * 12, f"{1:032}"
-D1 = "ba7816bf8f01cfea414140de5dae2223b00361a396177a9cb410ff61f20015ad"
+ABC_DIGEST = "ba7816bf8f01cfea414140de5dae2223b00361a396177a9cb410ff61f20015ad"
 # Lines and their objects, as docs/REPORT.md names their words.
 WORKED = {
     "locators": {f"run 0 2 0 117 {U2} sound": {
@@ -39,11 +39,11 @@ WORKED = {
                      "kind": "shard", "shard": S1, "extent": 4294967295, "offset": 0, "length": 3, "uuid": U1, "status": "out_of_range"},
                  f"loose 1 58 3 {U1} 2": {"kind": "loose", "extent": 1, "offset": 58, "length": 3, "uuid": U1, "count": 2}},
     "manifest": {"retired": {"kind": "retired", "retired": []}, "retired 2 5": {"kind": "retired", "retired": [2, 5]},
-                 f"shard {S1} 00 3 {D1} sound plain": {
-                     "kind": "shard", "shard": S1, "number": 0, "length": 3, "digest": D1, "status": "sound", "form": "plain"},
-                 f"shard {S1} 63 3 {D1} no_frame 1 0 {U1} none": {
-                     "kind": "shard", "shard": S1, "number": 63, "length": 3, "digest": D1, "status": "no_frame", "extent": 1, "offset": 0,
-                     "uuid": U1, "copy": "none"},
+                 f"shard {S1} 00 3 {ABC_DIGEST} sound plain": {
+                     "kind": "shard", "shard": S1, "number": 0, "length": 3, "digest": ABC_DIGEST, "status": "sound", "form": "plain"},
+                 f"shard {S1} 63 3 {ABC_DIGEST} no_frame 1 0 {U1} none": {
+                     "kind": "shard", "shard": S1, "number": 63, "length": 3, "digest": ABC_DIGEST, "status": "no_frame", "extent": 1,
+                     "offset": 0, "uuid": U1, "copy": "none"},
                  "total 1 2": {"kind": "total", "shards": 1, "lines": 2}},
     "reclaimable": {"doubt last none 18446744073709551615": {
                         "kind": "doubt", "doubt": "last", "counts": None, "last": 18446744073709551615},
@@ -61,8 +61,8 @@ WORKED = {
     "items": {"pad 41 64": {"kind": "pad", "start": 41, "stop": 64}},
     "compare": {"doubt after run-lost 0 not_a_run": {
                     "kind": "doubt", "image": "after", "doubt": "run-lost", "run": 0, "state": "not_a_run"},
-                f"lost shard {S1} 00 3 {D1} sound plain": {"kind": "lost", "line": {
-                    "kind": "shard", "shard": S1, "number": 0, "length": 3, "digest": D1, "status": "sound", "form": "plain"}},
+                f"lost shard {S1} 00 3 {ABC_DIGEST} sound plain": {"kind": "lost", "line": {
+                    "kind": "shard", "shard": S1, "number": 0, "length": 3, "digest": ABC_DIGEST, "status": "sound", "form": "plain"}},
                 "unsafe": {"kind": "unsafe"}},
     "shards": {f"shardscrub: payload lost: {S1} 07": {"kind": "payload-lost", "shard": S1, "number": 7},
                f"shardscrub: a newer entry may be lost: {S1}": {"kind": "newer-entry", "shard": S1}},

@@ -578,7 +578,7 @@ class Fleet(PageCase):
         _, rows = self.fleet(40)
         call = "choices.map(([letters, some]) => ((found) => [found.counts, [...found.shown].map(({name}) => name)])(filtered(entries, letters, new Set(some))))"
         entries = self.entries(rows, "entries")
-        choices = [["", []], [" D1 ", []], ["", ["wrong"]], ["", ["wrong", "no answer"]], ["d1", ["sound", "doubt"]], ["", [MIXED]]]
+        choices = [["", []], [" SD1 ", []], ["", ["wrong"]], ["", ["wrong", "no answer"]], ["d1", ["sound", "doubt"]], ["", [MIXED]]]
         for (letters, some), (counts, names) in zip(choices, self.entries(rows, call, choices=choices), strict=True):
             named = [one for one in entries if letters.strip().lower() in one["name"]]
             self.same(f"{letters!r} and {some}", names, [one["name"] for one in named if not some or one["standing"] in some])
