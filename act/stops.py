@@ -1,5 +1,5 @@
 """What act/reclaim says when it stops, and of doubts: one table of each. The table of stops in docs/RECLAIMING.md is made from these by
-tools/stops.py."""
+dev/stops.py."""
 from typing import NamedTuple
 
 

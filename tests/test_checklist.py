@@ -1,7 +1,7 @@
 """Walks a reclamation on made-up disks, by act/reclaim or by the boxes of docs/RECLAIMING.md and a node's own tools, and makes mistakes on
 the way, one at a time; or a copy rots meanwhile, a page or a superblock goes, a node writes, or the power fails. Leaves out boxes and rules,
 one at a time, and sees that they are needed. Also holds the laws of spares, copies, resets, manifests and shards on pairs of images.
-fuzz/checklist.py does so on others, and prints which box stops what."""
+tests/fuzz/checklist.py does so on others, and prints which box stops what."""
 import os
 import select
 import signal
@@ -74,20 +74,21 @@ class Needed(EngineCase):
 
 
 class Table(RoomCase):
-    """fuzz/checklist.py, which prints a table."""
+    """tests/fuzz/checklist.py, which prints a table."""
 
     def test_it_says_how_long_it_takes_and_prints_as_it_goes(self):
         """The first row comes through a pipe while there is more to do than anybody waits for."""
         words = ["--table", "--laws", "100000", "--disks", "0", "--tries", "1", "--program", self.program]
-        begun = subprocess.Popen([sys.executable, TOP / "fuzz/checklist.py", *words], stdin=subprocess.DEVNULL, stdout=subprocess.PIPE,
-                                 stderr=subprocess.PIPE, text=True, start_new_session=True)
+        begun = subprocess.Popen([sys.executable, TOP / "tests/fuzz/checklist.py", *words], stdin=subprocess.DEVNULL,
+                                 stdout=subprocess.PIPE, stderr=subprocess.PIPE, text=True, start_new_session=True)
         with begun:
             has_come, _, _ = select.select([begun.stdout], [], [], SECONDS)
             row = begun.stdout.readline() if has_come else ""
             os.killpg(begun.pid, signal.SIGKILL)
             error = begun.stderr.read()
         self.true("the first row", row.startswith(f"{MISTAKES[0].name}: "), row)
-        self.true("how long", error.startswith("fuzz/checklist.py: this takes about ") and " minutes of one processor\n" in error, error)
+        self.true("how long", error.startswith("tests/fuzz/checklist.py: this takes about ")
+                  and " minutes of one processor\n" in error, error)
 
 
 class Lists(Case):

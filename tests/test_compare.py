@@ -148,7 +148,7 @@ class Unreadable(CompareCase):
 
 
 class Pairs(RoomCase):
-    """Made-up pairs, beside the slow reference. fuzz/against_reference.py makes up others."""
+    """Made-up pairs, beside the slow reference. tests/fuzz/against_reference.py makes up others."""
 
     def check(self, turn):
         for call in compared_pair(SEED, turn, self.room).calls:

@@ -19,7 +19,7 @@ def anchors(text):
 
 class Tools(Case):
     def check(self, tool):
-        done = subprocess.run([sys.executable, TOP / "tools" / tool, "--check"], capture_output=True, text=True, stdin=subprocess.DEVNULL)
+        done = subprocess.run([sys.executable, TOP / "dev" / tool, "--check"], capture_output=True, text=True, stdin=subprocess.DEVNULL)
         self.true(tool, done.returncode == 0, done.stdout + done.stderr)
 
     def test_book(self):

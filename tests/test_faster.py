@@ -48,7 +48,7 @@ class FasterCase(RoomCase):
         """Each of the programs once: that of the tests, the one that runs anywhere, and the one for x86-64-v3."""
         found = {name: find(name) for name in (GENERAL, FASTER)}
         for name, path in found.items():
-            self.assertIsNotNone(path, f"there is no {name} of these sources: ./build or release/make makes it")
+            self.assertIsNotNone(path, f"there is no {name} of these sources: dev/build or release/make makes it")
         self.programs = list(dict.fromkeys([program(), *found.values()]))
         self.assertGreater(len(self.programs), 1)
 

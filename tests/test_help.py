@@ -1,4 +1,4 @@
-"""The program's help and version, and the tables of tools/options.py from which the documents and the completions have theirs."""
+"""The program's help and version, and the tables of dev/options.py from which the documents and the completions have theirs."""
 import os
 import re
 import subprocess
@@ -7,7 +7,7 @@ import sys
 from lib.cases import Case, RoomCase, add_tests
 from lib.program import TOP, need, program
 
-sys.path.insert(0, str(TOP / "tools"))
+sys.path.insert(0, str(TOP / "dev"))
 import options  # noqa: E402
 from options import COMMANDS, OPTIONS, about, arguments_of, help_of, options_of, plain, required_of  # noqa: E402
 
@@ -209,9 +209,9 @@ class Examples(RoomCase):
 class Tool(Case):
     def test_what_it_makes(self):
         """docs/REPORT.md, README.md and the completions have what the tables say."""
-        done = subprocess.run([sys.executable, TOP / "tools/options.py", "--check"], capture_output=True, text=True,
+        done = subprocess.run([sys.executable, TOP / "dev/options.py", "--check"], capture_output=True, text=True,
                               stdin=subprocess.DEVNULL)
-        self.true("tools/options.py", done.returncode == 0, done.stdout + done.stderr)
+        self.true("dev/options.py", done.returncode == 0, done.stdout + done.stderr)
 
 
 add_tests(Help, Help.check, ((f"help_of_{name}", name) for name in COMMANDS))

@@ -1,4 +1,4 @@
-"""tools/messages.py: each text that the program prints has its row, each example in the tables is right, and each of many wrong command
+"""dev/messages.py: each text that the program prints has its row, each example in the tables is right, and each of many wrong command
 lines is explained by a row. The program runs as somebody starts it: `sh` runs the line in a folder with examples/.
 
 docs/READING.md and docs/shardscrub.1 have the tables; `documents` sees that they are as the tools make them.
@@ -14,7 +14,7 @@ from lib.cases import Case, RoomCase, add_tests
 from lib.program import TOP
 from lib.wrong_lines import REMARKS, WRONG, make_files
 
-sys.path.insert(0, str(TOP / "tools"))
+sys.path.insert(0, str(TOP / "dev"))
 from messages import FAULTS, GROUPS, REMARKS_BESIDE, SCRIPT, explained, status_of  # noqa: E402
 
 CLI = TOP / "crates/scrub_cli"

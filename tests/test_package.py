@@ -22,7 +22,7 @@ from lib.examples import PAGES, ExampleCase, Installed, examples_of, without_sou
 from lib.program import (
     FASTER, GENERAL, METRICS_TOOLS, PACKAGE_TOOLS, ROW_TOOLS, TOP, TUNABLES, V2_FLAGS, V3_FLAGS, has_v3, need, processors, with_processor, write)
 
-sys.path.insert(0, str(TOP / "tools"))
+sys.path.insert(0, str(TOP / "dev"))
 from messages import GROUPS  # noqa: E402
 
 # Each installed file: its mode, and what it is a copy of.
@@ -227,7 +227,7 @@ class Install(OfTheRelease):
         """In commands, texts for a shell and code in a line, apart from what is said to be of the sources."""
         done("release/install", self.folder / "prefix")
         known = {path.name for path in TOP.iterdir() if path.is_dir()} - {"act", "view", "docs", "examples", "reference"}
-        said = {"docs/RECLAIMING.md": {"tests"}, "shardscrub/README.md": {"crates"}}
+        said = {"docs/READING.md": {"dev"}, "docs/RECLAIMING.md": {"tests"}, "shardscrub/README.md": {"crates"}}
         for path in [*sorted((self.folder / "prefix").rglob("*.md")), self.folder / "prefix/share/man/man1/shardscrub.1"]:
             text = path.read_text(encoding="utf-8")
             self.assertNotIn("./shardscrub ", text.replace("../shardscrub", ""), path.name)
@@ -237,7 +237,7 @@ class Install(OfTheRelease):
             self.assertNotRegex(text, r"<!--|(?<![\w./-])docs/\w+\.md, box|repository")
 
     def test_the_examples_of_messages(self):
-        """Those of the tables in READING, and of the man page, run in any folder, with the statuses of tools/messages.py."""
+        """Those of the tables in READING, and of the man page, run in any folder, with the statuses of dev/messages.py."""
         done("release/install", self.folder / "a prefix")
         prefix, wanted = self.folder / "a prefix", [message.ends for group in GROUPS for message in group.messages]
         page = (prefix / "share/doc/shardscrub/docs/READING.md").read_text(encoding="utf-8").partition("\n## What a message means\n")[2]

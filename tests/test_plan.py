@@ -1,5 +1,5 @@
 """act/plan and act/put: the worked examples of a reclamation, plans on made-up disks, interruptions, slips in the script that `compare` stops,
-and what act/put refuses. fuzz/plan.py has more disks."""
+and what act/put refuses. tests/fuzz/plan.py has more disks."""
 import os
 import random
 import re

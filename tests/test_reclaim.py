@@ -1,6 +1,6 @@
 """act/reclaim: each stop with its lines, each step of a walk with an interruption, the erase, the way back, a second walk. On made-up disks
 something happens at a step, and then it is called again; rules are taken out of the script one at a time, and a trial finds each.
-fuzz/reclaim.py has more disks."""
+tests/fuzz/reclaim.py has more disks."""
 import fcntl
 import json
 import os

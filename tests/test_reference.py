@@ -1,5 +1,5 @@
 """reference/shardscrub.py beside the program: on a fixed set of made-up disks, where each answer of the program has to be the reference's,
-byte for byte, and what it prints of a shard also has to agree with its own manifest and report (fuzz/against_reference.py makes up
+byte for byte, and what it prints of a shard also has to agree with its own manifest and report (tests/fuzz/against_reference.py makes up
 others); run as a command on examples; and the definitions that its functions name."""
 import ast
 import re

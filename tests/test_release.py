@@ -19,14 +19,14 @@ def why_not_compared(name):
     """Why the bytes of a released program can't be compared with those of one that is built here, and what it would take; or None.
     Another toolchain than that of release/SOURCES may give other bytes."""
     _, toolchain = sources()
-    wanted = f"to compare the programs' bytes, have the rt of {toolchain} on the path, run ./build, and then tests/run release"
+    wanted = f"to compare the programs' bytes, have the rt of {toolchain} on the path, run dev/build, and then tests/run release"
     if shutil.which("rt") is None:
         return f"rt isn't there, the command of the Rattle toolchain: {wanted}"
     ours = subprocess.run(["rt", "version"], capture_output=True, text=True).stdout.strip()
     if ours != toolchain:
         return f"the release was built by another toolchain than {ours}: {wanted}"
     if find(name) != BUILT[name]:
-        return f"no {name} of these sources is built here: run ./build, and then tests/run release"
+        return f"no {name} of these sources is built here: run dev/build, and then tests/run release"
     return None
 
 
@@ -40,7 +40,7 @@ class Release(Case):
     def test_they_are_of_these_sources(self):
         """release/make renews them."""
         checksum, toolchain = sources()
-        done = subprocess.run([TOP / "build", "--sources", toolchain], capture_output=True, text=True)
+        done = subprocess.run([TOP / "dev/build", "--sources", toolchain], capture_output=True, text=True)
         self.same("the checksum of the sources", checksum, done.stdout.strip())
 
     def check_what_is_built(self, name):
@@ -52,7 +52,7 @@ class Release(Case):
         self.check_what_is_built(GENERAL)
 
     def test_the_one_for_x86_64_v3_is_what_is_built_here(self):
-        """Only ./build builds it; `rt ci` doesn't."""
+        """Only dev/build builds it; `rt ci` doesn't."""
         self.check_what_is_built(FASTER)
 
 
@@ -72,7 +72,7 @@ class NotCompared(RoomCase):
     def test_another_toolchain_or_none(self):
         for toolchain in ("kit of the tests", ""):
             why = self.why(toolchain)
-            wanted = toolchain or "rt isn't there", sources()[1], "run ./build, and then tests/run release"
+            wanted = toolchain or "rt isn't there", sources()[1], "run dev/build, and then tests/run release"
             self.same(f"{toolchain or 'none'}: texts that lack in {why}", [text for text in wanted if text not in why], [])
 
     def test_the_same_toolchain(self):

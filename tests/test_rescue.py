@@ -1,7 +1,7 @@
 """A dead node's disk: `act/rescue`, the maps of several rescues, and what is left of what the node had.
 
-Worked disks have a right answer that was written by hand; on made-up ones a node has worked, and what it had is known. fuzz/rescue.py has
-more of these.
+Worked disks have a right answer that was written by hand; on made-up ones a node has worked, and what it had is known.
+tests/fuzz/rescue.py has more of these.
 """
 import os
 import random

@@ -57,7 +57,7 @@ class Sources(Case):
 
     def test_run_bits(self):
         """Each file outside of crates/ that begins with `#!` can be run, and no other but the released programs."""
-        paths = [path for depth in range(1, 4) for path in TOP.glob("/".join("*" * depth)) if path.is_file() and not path.is_symlink()]
+        paths = [path for depth in range(1, 5) for path in TOP.glob("/".join("*" * depth)) if path.is_file() and not path.is_symlink()]
         paths = [path for path in paths if path.relative_to(TOP).parts[0] not in ("crates", "out", ".git")]
         scripts = {path for path in paths if path.open("rb").read(2) == b"#!"}
         self.true("there are scripts", len(scripts) > 15)
@@ -67,11 +67,11 @@ class Sources(Case):
 
     def test_edits(self):
         """Each text that an edit replaces is in its file exactly once, by the time that it is replaced: those that `rt ci` tries, and
-        those of tests/edits."""
+        those of tests/try-edits."""
         edits = {path: path.parent.parent for path in sorted(TOP.glob("crates/*/must-fail/*.edit"))}
         self.true("there are edits", edits)
-        others = {path: TOP / "crates" / path.parent.name for path in sorted(TOP.glob("edits/*/*.edit"))}
-        self.true("there are edits of tests/edits", others)
+        others = {path: TOP / "crates" / path.parent.name for path in sorted(TOP.glob("tests/edits/*/*.edit"))}
+        self.true("there are edits of tests/try-edits", others)
         self.same("edits under one name", {f"{crate.name}/{path.name}" for path, crate in edits.items()}
                   & {f"{crate.name}/{path.name}" for path, crate in others.items()}, set())
         for path, crate in (edits | others).items():

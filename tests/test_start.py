@@ -17,7 +17,7 @@ from lib.program import (BUILD_TOOLS, FASTER, GENERAL, TOP, TUNABLES, V2_FLAGS, 
                          with_processor, write)
 from lib.system import Library, run_with
 
-sys.path.insert(0, str(TOP / "tools"))
+sys.path.insert(0, str(TOP / "dev"))
 from messages import explained  # noqa: E402
 
 TOOLCHAIN = "rt of the tests"
@@ -36,7 +36,7 @@ case $1 in
         exit "$status" ;;
 esac
 """
-# The lines of ./build that say what the sources of the program for x86-64-v3 have otherwise: each a file and a script of sed.
+# The lines of dev/build that say what the sources of the program for x86-64-v3 have otherwise: each a file and a script of sed.
 CHANGES = re.compile(r"(?:^    echo 'crates/\S+ s/.*/'\n)+", re.MULTILINE)
 # It prints who it is, each argument, the folder and the variable of the C library on lines of their own, and ends with status 3.
 PROGRAM = """#!/bin/sh
@@ -63,13 +63,13 @@ class StartCase(unittest.TestCase):
         self.top = self.folder / "top"
         self.crate = self.top / "crates/scrub_cli"
         self.calls = self.folder / "calls"
-        for name in ("shardscrub", "build", "release/make"):
+        for name in ("shardscrub", "dev/build", "release/make"):
             (self.top / name).parent.mkdir(parents=True, exist_ok=True)
             shutil.copy(TOP / name, self.top / name)
         script, count = CHANGES.subn("    echo 'crates/scrub_cli/src/main.rt s/the program/the faster program/'\n",
-                                     (TOP / "build").read_text())
+                                     (TOP / "dev/build").read_text())
         self.assertEqual(count, 1)
-        (self.top / "build").write_text(script)
+        (self.top / "dev/build").write_text(script)
         self.cpuinfo = self.folder / "cpuinfo"
         with_processor(self.top / "shardscrub", self.cpuinfo)
         write(self.top / "crates.txt", "scrub_cli: clap\n")
@@ -101,7 +101,7 @@ class StartCase(unittest.TestCase):
             self.skipTest("the released programs are for x86-64")
         for name in names or (GENERAL, FASTER):
             write(self.top / "release" / name, PROGRAM.replace("NAME", f"released {name}"), 0o755)
-        checksum = self.run_in(self.top, "./build", "--sources", TOOLCHAIN).stdout
+        checksum = self.run_in(self.top, "dev/build", "--sources", TOOLCHAIN).stdout
         write(self.top / "release/SOURCES", f"{checksum}{TOOLCHAIN}\n")
 
     def age(self, path, seconds):
@@ -139,19 +139,19 @@ class StartCase(unittest.TestCase):
         self.assertFalse(self.calls.exists(), "rt was called")
 
     def refuses(self, **more):
-        """Checks that no program is started and none is built: one line names ./build, and the status is 70."""
+        """Checks that no program is started and none is built: one line names dev/build, and the status is 70."""
         for flags in (V2_FLAGS, V2_FLAGS | V3_FLAGS):
             self.cpuinfo.write_text(processors(flags))
             ended = self.run_in(self.folder, self.top / "shardscrub", "scan", **more)
             self.assertFalse(self.calls.exists(), "rt was called")
             self.assertEqual((ended.stdout, ended.returncode), ("", 70))
             self.assertRegex(ended.stderr, r"\Ashardscrub: .*\n\Z")
-            self.assertIn(f"./build in {self.top}", ended.stderr)
+            self.assertIn(f"dev/build in {self.top}", ended.stderr)
 
 
 class Start(StartCase):
     def test_each_change_for_x86_64_v3_is_eight_in_the_place_of_four(self):
-        lines = CHANGES.search((TOP / "build").read_text())[0].splitlines()
+        lines = CHANGES.search((TOP / "dev/build").read_text())[0].splitlines()
         changes = [line.strip().removeprefix("echo '").removesuffix("'").split(" ", 1) for line in lines]
         self.assertEqual([file for file, _ in changes], ["crates/sha_lanes/src/block.rt", "crates/sha_lanes/specs/Lanes.antt"])
         for file, script in changes:
@@ -242,7 +242,7 @@ class Start(StartCase):
     def test_only_the_one_for_x86_64_v3(self):
         self.build(FASTER)
         self.assertEqual(self.on(V2_FLAGS | V3_FLAGS), f"built {FASTER}")
-        self.assertIn("./build", self.on(V2_FLAGS))
+        self.assertIn("dev/build", self.on(V2_FLAGS))
         self.refuses(SHARDSCRUB_CPU="x86-64-v2")
 
     def test_each_flag_counts(self):
@@ -276,10 +276,10 @@ class Start(StartCase):
         self.assertEqual(self.run_in(self.folder, "shardscrub").stdout, f"built {GENERAL}\n{self.folder}\n{TUNABLES}\n")
 
     def test_the_program_of_the_tests(self):
-        """./build --program, by which the tests choose, takes the names in their order, and the first one without a name."""
+        """dev/build --program, by which the tests choose, takes the names in their order, and the first one without a name."""
         self.build()
         for names, name in (([], GENERAL), ([GENERAL, FASTER], GENERAL), ([FASTER, GENERAL], FASTER)):
-            self.assertEqual(self.run_in(self.folder, self.top / "build", "--program", *names).stdout, f"{self.built(name)}\n")
+            self.assertEqual(self.run_in(self.folder, self.top / "dev/build", "--program", *names).stdout, f"{self.built(name)}\n")
 
     def test_release_make_builds(self):
         need("flock")
@@ -305,13 +305,13 @@ class Start(StartCase):
         need("flock")
         self.build(GENERAL)
         (self.crate / "out/incremental").mkdir()
-        built = self.run_in(self.folder, self.top / "build")
+        built = self.run_in(self.folder, self.top / "dev/build")
         self.assertEqual(built.returncode, 0, built.stderr)
         self.assertEqual([call.split()[:2] for call in self.calls.read_text().splitlines()], [["run", "--cpu=x86-64-v3"]])
         self.assertEqual(self.on(V2_FLAGS | V3_FLAGS), "made by rt x86-64-v3")
         self.assertEqual(self.on(V2_FLAGS), f"built {GENERAL}")
         self.calls.unlink()
-        self.assertEqual(self.run_in(self.folder, self.top / "build").returncode, 0)
+        self.assertEqual(self.run_in(self.folder, self.top / "dev/build").returncode, 0)
         self.assertFalse(self.calls.exists(), "rt was called")
 
     def test_a_refused_build_of_the_one_for_x86_64_v3(self):
@@ -319,14 +319,14 @@ class Start(StartCase):
         need("flock")
         passing = self.folder / "passing"
         passing.mkdir()
-        built = self.run_in(self.folder, self.top / "build", REFUSED="1", TMPDIR=str(passing))
+        built = self.run_in(self.folder, self.top / "dev/build", REFUSED="1", TMPDIR=str(passing))
         self.assertEqual(built.returncode, 1, built.stderr)
         self.assertIn("scrub_cli for x86-64-v3 is not proved and built", built.stderr)
         self.assertIn("error: refused", built.stderr)
         for flags in (V2_FLAGS, V2_FLAGS | V3_FLAGS):
             self.assertEqual(self.on(flags), "made by rt")
-        self.assertIn("./build", self.on(V2_FLAGS, SHARDSCRUB_CPU="x86-64-v3"))
-        built = self.run_in(self.folder, self.top / "build", TMPDIR=str(passing))
+        self.assertIn("dev/build", self.on(V2_FLAGS, SHARDSCRUB_CPU="x86-64-v3"))
+        built = self.run_in(self.folder, self.top / "dev/build", TMPDIR=str(passing))
         self.assertEqual(built.returncode, 0, built.stderr)
         self.assertEqual(self.on(V2_FLAGS | V3_FLAGS), "made by rt x86-64-v3")
         self.assertEqual(list(passing.iterdir()), [])
@@ -413,9 +413,9 @@ class Kept(StartCase):
 
     def take_changes_of_now(self):
         """So that no test has to wait for two seconds."""
-        script = (self.top / "build").read_text()
+        script = (self.top / "dev/build").read_text()
         self.assertEqual(script.count("$(($2 - 2))"), 1)
-        (self.top / "build").write_text(script.replace("$(($2 - 2))", "$(($2 + 2))"))
+        (self.top / "dev/build").write_text(script.replace("$(($2 - 2))", "$(($2 + 2))"))
 
     def counted(self):
         """How often a checksum is taken, and what is started or said."""
@@ -495,8 +495,8 @@ class Kept(StartCase):
 
     def test_another_way_to_take_the_checksum(self):
         self.keeps()
-        script = (self.top / "build").read_text()
-        (self.top / "build").write_text(script.replace("the faster program", "the fastest program"))
+        script = (self.top / "dev/build").read_text()
+        (self.top / "dev/build").write_text(script.replace("the faster program", "the fastest program"))
         self.refuses()
 
     def test_what_is_no_source(self):
@@ -511,11 +511,11 @@ class Kept(StartCase):
 
     def test_a_change_a_moment_before(self):
         """A later change might have the same times. Two seconds may be over before a slow machine looks, so they are a thousand first."""
-        script = (self.top / "build").read_text()
-        (self.top / "build").write_text(script.replace("$(($2 + 2))", "$(($2 - 1000))"))
+        script = (self.top / "dev/build").read_text()
+        (self.top / "dev/build").write_text(script.replace("$(($2 + 2))", "$(($2 - 1000))"))
         self.assertEqual([self.counted() for _ in range(2)], [(2, f"released {GENERAL}")] * 2)
         self.assertFalse(self.kept.exists())
-        (self.top / "build").write_text(script.replace("$(($2 + 2))", "$(($2 - 2))"))
+        (self.top / "dev/build").write_text(script.replace("$(($2 + 2))", "$(($2 - 2))"))
         time.sleep(3.1)
         self.keeps()
 
@@ -573,7 +573,7 @@ class Kept(StartCase):
             out = f"shardscrub: out of memory before a program was started: the limit is {most} KiB (ulimit -v)\n"
             is_started = ended.stdout.startswith("released")
             with self.subTest(most):
-                self.assertNotIn("./build", ended.stderr)
+                self.assertNotIn("dev/build", ended.stderr)
                 self.assertTrue(is_started or ended.stderr.endswith(out) or ended.returncode in (127, -11), ended)
             said |= {is_started, ended.stderr.endswith(out)}
         self.assertEqual(said, {False, True})
@@ -594,12 +594,12 @@ class Processor(RoomCase):
     def check(self, name, cpu):
         library = Library("no-features", NO_FEATURES).made(self.room)
         path = find(name)
-        self.assertIsNotNone(path, f"there is no {name} of these sources: ./build or release/make makes it")
+        self.assertIsNotNone(path, f"there is no {name} of these sources: dev/build or release/make makes it")
         for words in (["--version"], ["scan", "/nothing/here"]):
             (status, out, error), _ = run_with(path, words, library, {})
             self.same(f"{path} {words[0]}", (status, out), (127, b""))
             self.true("it says what is missing", error.startswith(f"this machine lacks a feature of {cpu},".encode()), error)
-            self.same("the rows of tools/messages.py", [row.status for row in explained(error.decode().rstrip("\n"))], [127])
+            self.same("the rows of dev/messages.py", [row.status for row in explained(error.decode().rstrip("\n"))], [127])
 
     def test_the_general_program(self):
         self.check(GENERAL, "x86-64-v2")

@@ -358,11 +358,11 @@ class Lines(Case):
 
 
 class Table(Case):
-    """view/reasons.tsv, and what tools/reasons.py makes of it."""
+    """view/reasons.tsv, and what dev/reasons.py makes of it."""
 
     def test_it_is_made(self):
-        status, out, error = done("python3", TOP / "tools/reasons.py", "--check")
-        self.same("tools/reasons.py", (status, out, error), (0, "", ""))
+        status, out, error = done("python3", TOP / "dev/reasons.py", "--check")
+        self.same("dev/reasons.py", (status, out, error), (0, "", ""))
 
     def test_links(self):
         """Each row names a heading of a page that is installed."""

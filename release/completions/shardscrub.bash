@@ -1,4 +1,4 @@
-# Completions of shardscrub for bash. tools/options.py makes this file.
+# Completions of shardscrub for bash. dev/options.py makes this file.
 
 _shardscrub() {
     local commands="summary scan shard shards index locators manifest runs reclaimable compare superblocks sizes items demo help" word=${COMP_WORDS[COMP_CWORD]} command="" options="" repeated="--run --reset --accept" flags="--partial" given=" "

@@ -1,4 +1,4 @@
-# Completions of shardscrub for fish. tools/options.py makes this file.
+# Completions of shardscrub for fish. dev/options.py makes this file.
 
 set -l commands summary scan shard shards index locators manifest runs reclaimable compare superblocks sizes items demo help
 set -l none "not __fish_seen_subcommand_from $commands"

@@ -14,7 +14,7 @@ TOP = Path(__file__).resolve().parent.parent.parent
 # The programs of a build or a release: the one for x86-64-v2, which all processors since about 2009 have, and the one for x86-64-v3.
 GENERAL, FASTER = "shardscrub", "shardscrub-x86-64-v3"
 RELEASED = {name: TOP / "release" / name for name in (GENERAL, FASTER)}
-# What ./build makes; `rt ci` makes the first one.
+# What dev/build makes; `rt ci` makes the first one.
 BUILT = {GENERAL: TOP / "crates/scrub_cli/out/scrub_cli", FASTER: TOP / "crates/scrub_cli/out" / FASTER}
 # The values of SHARDSCRUB_CPU, by which ./shardscrub takes one of them.
 FORCED = {"x86-64-v2": [GENERAL], "x86-64-v3": [FASTER]}
@@ -49,7 +49,7 @@ def has_v3():
 def find(*names):
     """The path of the first of these programs that was built here if no source is newer, else of the first that is released if it
     is of these sources; None if there is none."""
-    found = subprocess.run([TOP / "build", "--program", *names], capture_output=True, text=True)
+    found = subprocess.run([TOP / "dev/build", "--program", *names], capture_output=True, text=True)
     return Path(found.stdout.strip()) if found.returncode == 0 else None
 
 
@@ -61,7 +61,7 @@ def program():
     both = [FASTER, GENERAL] if has_v3() else [GENERAL]
     found = find(*FORCED.get(os.environ.get("SHARDSCRUB_CPU"), both))
     if found is None:
-        print("shardscrub: there is no program of these sources; ./build builds it", file=sys.stderr)
+        print("shardscrub: there is no program of these sources; dev/build builds it", file=sys.stderr)
         sys.exit(NO_PROGRAM)
     return found
 

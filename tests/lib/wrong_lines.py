@@ -1,4 +1,4 @@
-"""Command lines that are wrong, as somebody types them, each with the message that is printed, by its text in tools/messages.py; and
+"""Command lines that are wrong, as somebody types them, each with the message that is printed, by its text in dev/messages.py; and
 runs whose answer has remarks beside it.
 
 They run in a folder with `examples`, the program on the path as `shardscrub`, the script `script/shardscrub`, and what `make_files` makes.

@@ -13,9 +13,9 @@ small     payloads of 100 bytes in extents of 8 MiB, shards of one chunk with ra
           examples/several-findings.img, which has every kind of item, is scanned by 7 workers many times.
 damaged   payloads of 64 KiB to 1 MiB that fill pages of 64 KiB, no superblock; every tenth chunk has a wrong last byte, and every
           50th page is unreadable. A disk that was never written: all zero. All zero except for a superblock.
-hostile   disks and files that are made to cost much (bench/hostile.py), each beside a clean one of the same size.
+hostile   disks and files that are made to cost much (tests/bench/hostile.py), each beside a clean one of the same size.
 copies    `manifest` of a disk as the first one of `large`, and of one with a lost payload, of which copies are looked for at each byte;
-          and of extents that make this search dear (bench/hostile.py), beside one without a frame.
+          and of extents that make this search dear (tests/bench/hostile.py), beside one without a frame.
 items     `items` of an extent of 64 MiB full of frames, and of one with heads without frames. These have limits: a share of
           sha256sum's time, and of memory.
 growth    only if it is asked for: disks of a shape with 1, 2, 4 and 8 times the items, whatever --mib says. `Of the first one's` stays near
@@ -36,7 +36,7 @@ import tempfile
 from functools import partial
 from pathlib import Path
 
-sys.path.insert(0, str(Path(__file__).resolve().parent.parent / "tests"))
+sys.path.insert(0, str(Path(__file__).resolve().parent.parent))
 from lib.disks import make_image
 from lib.program import TOP, choose_program
 
@@ -120,7 +120,7 @@ def numbers(word):
 
 
 def arguments():
-    parser = argparse.ArgumentParser(prog="bench/disks.py", description=__doc__.partition("\n\n")[0],
+    parser = argparse.ArgumentParser(prog="tests/bench/disks.py", description=__doc__.partition("\n\n")[0],
                                      epilog=__doc__.partition("\n\n")[2], formatter_class=argparse.RawDescriptionHelpFormatter)
     parser.add_argument("--kind", action="append", choices=KINDS, help="only disks of this kind; may be repeated (default: all but growth)")
     parser.add_argument("--only", action="append", metavar="DISK", help="only this disk, by its name in the table; may be repeated")

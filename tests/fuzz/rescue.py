@@ -12,7 +12,7 @@ import tempfile
 from collections import Counter
 from pathlib import Path
 
-sys.path.insert(0, str(Path(__file__).resolve().parent.parent / "tests"))
+sys.path.insert(0, str(Path(__file__).resolve().parent.parent))
 from lib.program import choose_program
 from lib.rescues import KINDS, Rescuer, deads, judged
 
@@ -35,7 +35,7 @@ def tried(rescuer, kind, mode, count, first):
 
 
 def main():
-    parser = argparse.ArgumentParser(prog="fuzz/rescue.py", description=__doc__.partition("\n\n")[0],
+    parser = argparse.ArgumentParser(prog="tests/fuzz/rescue.py", description=__doc__.partition("\n\n")[0],
                                      epilog=__doc__.partition("\n\n")[2], formatter_class=argparse.RawDescriptionHelpFormatter)
     for name, value, what in (("--disks", 400, "how many disks, dealt to the kinds"), ("--seed", 0, "others for each seed")):
         parser.add_argument(name, type=int, default=value, metavar="N", help=f"{what} (default: {value})")

@@ -30,4 +30,4 @@ def made():
 
 
 if __name__ == "__main__":
-    sys.exit(run_tool("tools/comments.py", __doc__, made))
+    sys.exit(run_tool("dev/comments.py", __doc__, made))

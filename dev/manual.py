@@ -1,6 +1,6 @@
 #!/usr/bin/env python3
 """Makes the man page, docs/shardscrub.1, from the texts of the help in crates/scrub_args/src/help_texts.rt, the commands and options in
-tools/options.py, the messages in tools/messages.py, and the order of faults in docs/REPORT.md.
+dev/options.py, the messages in dev/messages.py, and the order of faults in docs/REPORT.md.
 
 A text of the help has paragraphs, and tables whose lines begin with two blanks: words, two blanks or more, and what they mean, which may
 go on in lines that begin with more blanks. A table without meanings is printed as it is. Of the statuses of a command the page has 0 and
@@ -244,7 +244,7 @@ def messages_text():
 def made():
     number, day = version()
     before, _, statuses, _ = parted(TEXTS["AFTER_HELP"])
-    out = [f'.TH SHARDSCRUB 1 {day} "shardscrub {number}" "User Commands"', '.\\" tools/manual.py makes this page.', ".SH NAME",
+    out = [f'.TH SHARDSCRUB 1 {day} "shardscrub {number}" "User Commands"', '.\\" dev/manual.py makes this page.', ".SH NAME",
            "shardscrub \\- check the raw image of a storage node's disk", ".SH SYNOPSIS", *synopsis(), ".SH DESCRIPTION",
            f"{roff(TEXTS['ABOUT'])}.", *DESCRIPTION.strip().split("\n"), *body(before), ".SH COMMANDS"]
     for name in COMMANDS:
@@ -257,4 +257,4 @@ def made():
 
 
 if __name__ == "__main__":
-    sys.exit(run_tool("tools/manual.py", __doc__, made))
+    sys.exit(run_tool("dev/manual.py", __doc__, made))

@@ -1,4 +1,4 @@
-"""The table of docs/PROVED.md that has what the public calls give. tools/book.py puts it there.
+"""The table of docs/PROVED.md that has what the public calls give. dev/book.py puts it there.
 
 A call is a public function of a crate of the program, or a method of a type there, with a clause by which its result has to meet a
 condition of this project or to be a value that it defines. A row has the calls with the same definitions and the same laws: those that name
@@ -131,5 +131,5 @@ def replaced(text, place_of):
     if not end:
         return text, [f"docs/PROVED.md hasn't the lines {BEGIN} and {END}"]
     rows = table(place_of)
-    faults = [f"{name} of tools/calls.py has no row" for name in MORE if not any(f"[`{name}`](" in row for row in rows)]
+    faults = [f"{name} of dev/calls.py has no row" for name in MORE if not any(f"[`{name}`](" in row for row in rows)]
     return "\n".join([before + begin, "", *rows, "", end + after]), faults

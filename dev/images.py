@@ -342,8 +342,8 @@ def made():
     files = {FOLDER / f"{image.__name__.replace('_', '-')}.img": bytes(image().bytes) for image in IMAGES}
     files |= {FOLDER / make.__name__.replace("_", "."): make() for make in MAPS}
     others = [path for path in FOLDER.iterdir() if path.suffix in (".img", ".map") and path not in files]
-    return files, [f"{path.relative_to(TOP)} isn't made by tools/images.py" for path in others]
+    return files, [f"{path.relative_to(TOP)} isn't made by dev/images.py" for path in others]
 
 
 if __name__ == "__main__":
-    sys.exit(run_tool("tools/images.py", __doc__, made))
+    sys.exit(run_tool("dev/images.py", __doc__, made))

@@ -97,4 +97,4 @@ def made():
 
 
 if __name__ == "__main__":
-    sys.exit(run_tool("tools/reasons.py", __doc__, made))
+    sys.exit(run_tool("dev/reasons.py", __doc__, made))

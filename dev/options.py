@@ -204,4 +204,4 @@ def made():
 
 
 if __name__ == "__main__":
-    sys.exit(run_tool("tools/options.py", __doc__, made))
+    sys.exit(run_tool("dev/options.py", __doc__, made))

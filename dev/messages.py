@@ -1,7 +1,7 @@
 #!/usr/bin/env python3
 """Makes the tables of docs/READING.md that say what each message means: what is wrong, what to do, and an example that is right.
 
-The messages are in this file, in the order of the tables; tools/manual.py puts them into the man page, too. tests/test_messages.py sees
+The messages are in this file, in the order of the tables; dev/manual.py puts them into the man page, too. tests/test_messages.py sees
 that each text of the program has its row, and runs each example, and the wrong command lines of tests/lib/wrong_lines.py, each with the
 row that explains it.
 
@@ -202,8 +202,8 @@ SCRIPT = Group("Before it starts, after `shardscrub:`", "The program isn't start
                70, "shardscrub: ", [
     Message("SHARDSCRUB_CPU is neither x86-64-v2 nor x86-64-v3: VALUE", "The environment variable has another value.",
             "Unset it, or set one of the two.", "--version", RUNNING),
-    Message("no build is up to date, and no released program fits: run ./build in FOLDER (up to an hour)",
-            "A source in FOLDER isn't that of the program.", "Take back what was changed, or run `./build`.", "--version", RUNNING),
+    Message("no build is up to date, and no released program fits: run dev/build in FOLDER (up to an hour)",
+            "A source in FOLDER isn't that of the program.", "Take back what was changed, or run `dev/build`.", "--version", RUNNING),
     Message("FOLDER/lib/shardscrub has no program NAME: install it again", "The installation isn't whole.", "Install it again.", "--version",
             RUNNING),
     Message("the program can't be found, as said above", "A tool of the system failed. The line above says which, and why.",
@@ -263,4 +263,4 @@ def made():
 
 
 if __name__ == "__main__":
-    sys.exit(run_tool("tools/messages.py", __doc__, made))
+    sys.exit(run_tool("dev/messages.py", __doc__, made))

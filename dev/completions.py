@@ -1,7 +1,7 @@
-"""The completions of shardscrub for bash, zsh and fish, as texts. tools/options.py makes them from its tables."""
+"""The completions of shardscrub for bash, zsh and fish, as texts. dev/options.py makes them from its tables."""
 from typing import NamedTuple
 
-MADE = "# Completions of shardscrub for {}. tools/options.py makes this file.\n"
+MADE = "# Completions of shardscrub for {}. dev/options.py makes this file.\n"
 SIZES_OF_PAGES = " ".join(str(1 << n) for n in range(6, 17))
 
 

@@ -15,7 +15,7 @@ from collections import Counter
 from concurrent.futures import ProcessPoolExecutor
 from pathlib import Path
 
-sys.path.insert(0, str(Path(__file__).resolve().parent.parent / "tests"))
+sys.path.insert(0, str(Path(__file__).resolve().parent.parent))
 from lib.comparison import COMMANDS, compared, compared_pair
 from lib.program import choose_program
 
@@ -74,7 +74,7 @@ def turns_of(count, jobs):
 
 
 def main():
-    parser = argparse.ArgumentParser(prog="fuzz/against_reference.py", description=__doc__.partition("\n\n")[0],
+    parser = argparse.ArgumentParser(prog="tests/fuzz/against_reference.py", description=__doc__.partition("\n\n")[0],
                                      epilog=__doc__.partition("\n\n")[2], formatter_class=argparse.RawDescriptionHelpFormatter)
     parser.add_argument("--count", type=int, default=300, metavar="N", help="how many disks (default: 300)")
     parser.add_argument("--pairs", type=int, default=300, metavar="N", help="how many pairs of images (default: 300)")

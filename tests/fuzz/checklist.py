@@ -15,7 +15,7 @@ from collections import Counter
 from functools import partial
 from pathlib import Path
 
-sys.path.insert(0, str(Path(__file__).resolve().parent.parent / "tests"))
+sys.path.insert(0, str(Path(__file__).resolve().parent.parent))
 from lib.faults import Script
 from lib.laws import hold_compare_laws_on, hold_laws_on
 from lib.mistakes import MISTAKES
@@ -66,7 +66,7 @@ def minutes(seconds):
 def in_turn(all_checks):
     """Yields each check as a function, and says how long all take and what is left."""
     def say(text):
-        print(f"fuzz/checklist.py: {text}", file=sys.stderr, flush=True)
+        print(f"tests/fuzz/checklist.py: {text}", file=sys.stderr, flush=True)
 
     whole = sum(seconds for seconds, _ in all_checks)
     say(f"this takes {minutes(whole)} of one processor")
@@ -82,7 +82,7 @@ def in_turn(all_checks):
 
 
 def main():
-    parser = argparse.ArgumentParser(prog="fuzz/checklist.py", description=__doc__.partition("\n\n")[0],
+    parser = argparse.ArgumentParser(prog="tests/fuzz/checklist.py", description=__doc__.partition("\n\n")[0],
                                      epilog=__doc__.partition("\n\n")[2], formatter_class=argparse.RawDescriptionHelpFormatter)
     for name, value, what in (("--disks", 200, "how many disks are walked"),
                               ("--laws", 400, "on how many disks, and on how many pairs of images, the laws are held"),

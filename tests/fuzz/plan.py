@@ -13,7 +13,7 @@ import tempfile
 from collections import Counter
 from pathlib import Path
 
-sys.path.insert(0, str(Path(__file__).resolve().parent.parent / "tests"))
+sys.path.insert(0, str(Path(__file__).resolve().parent.parent))
 from lib.node import Broken, Engine
 from lib.planning import Planner, plan_on
 from lib.program import choose_program
@@ -28,7 +28,7 @@ def print_counts(seen):
 
 
 def main():
-    parser = argparse.ArgumentParser(prog="fuzz/plan.py", description=__doc__.partition("\n\n")[0],
+    parser = argparse.ArgumentParser(prog="tests/fuzz/plan.py", description=__doc__.partition("\n\n")[0],
                                      epilog=__doc__.partition("\n\n")[2], formatter_class=argparse.RawDescriptionHelpFormatter)
     for name, value, what in (("--disks", 1000, "on how many disks reclamations are planned and made"),
                               ("--interrupted", 1000, "on how many of them writes are interrupted"), ("--seed", 2, "others for each seed")):

@@ -51,4 +51,4 @@ def made():
 
 
 if __name__ == "__main__":
-    sys.exit(run_tool("tools/stops.py", __doc__, made))
+    sys.exit(run_tool("dev/stops.py", __doc__, made))

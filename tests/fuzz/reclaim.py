@@ -13,7 +13,7 @@ from collections import Counter
 from functools import partial
 from pathlib import Path
 
-sys.path.insert(0, str(Path(__file__).resolve().parent.parent / "tests"))
+sys.path.insert(0, str(Path(__file__).resolve().parent.parent))
 from lib.faults import Script
 from lib.node import Broken, Engine
 from lib.program import choose_program
@@ -31,7 +31,7 @@ def checks(given, script, engine, seen):
 
 
 def arguments():
-    parser = argparse.ArgumentParser(prog="fuzz/reclaim.py", description=__doc__.partition("\n\n")[0],
+    parser = argparse.ArgumentParser(prog="tests/fuzz/reclaim.py", description=__doc__.partition("\n\n")[0],
                                      epilog=__doc__.partition("\n\n")[2], formatter_class=argparse.RawDescriptionHelpFormatter)
     for name, value, what in (("--trials", 400, "on how many disks something happens"),
                               ("--disks", 100, "on how many disks two walks are made"),
