@@ -489,6 +489,8 @@ class Refusals(FileCase):
         self.same("the disk", disk.read_bytes(), raw)
         disk.write_bytes(raw[:512] + record(64, 16, 6, [0] * 5, [], 9, [2]).ljust(512, b"\0") + raw[1024:])
         self.same("retired", self.call("merge", disk), (1, "", "node: a superblock retires extents, which this node can't do\n"))
+        disk.write_bytes(raw[:512] + record(64, 16, 6, [0] * 5, [], 2 ** 64 - 1).ljust(512, b"\0") + raw[1024:])
+        self.same("generation", self.call("merge", disk), (1, "", "node: the generation is the greatest that there is\n"))
 
     def test_wrong_words(self):
         for words in ([], ["get", self.disk], ["put", self.disk], ["merge"], ["reset", self.disk], ["reset", self.disk, "x"]):
